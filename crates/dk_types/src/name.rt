@@ -1,0 +1,129 @@
+//! Names of players, channels and bound objects.
+ghost use Rattle.std.specs.Prelude.{◌≡◌, ◌<◌, ◌≤◌, [], length, refl, nat_eq, Some, IfOk, IfErr};
+ghost use Rattle.std.specs.Str.Lossy.{utf8_valid_len};
+ghost use Rattle.dk_types.specs.Names.{IsName, bytes_cmp};
+ghost use Rattle.dk_types.specs.NameFaults.{IsNameFault};
+ghost use Rattle.std.specs.Cmp.Lexicographic.{pointwise, nat_list_eq_equiv, nat_list_cmp_total, texts_ties, texts_po};
+ghost use Rattle.std.specs.Cmp;
+
+use std::alloc::{AllocError, Global};
+use std::cmp::Ordering;
+use std::marker::Model;
+
+/// A name: 1 to 255 bytes of UTF-8, ordered by its bytes.
+#[derive(Debug, Drop)]
+pub struct Name {
+    bytes: Vec<u8>,
+}
+
+impl Model for Name {
+    ghost use Rattle.std.specs.Prelude.{ℕ, List};
+    ghost use Rattle.dk_types.specs.Names.{IsName};
+
+    ghost Value = { List ℕ };
+
+    ghost view = { λ n. n.bytes.items };
+
+    ghost invariant = { λ n. IsName n.bytes.items };
+}
+
+/// Why bytes are no name. The first cause in this order is told.
+#[derive(Clone, Copy, Debug, PartialEq, Eq)]
+pub enum NameRefused {
+    /// No bytes.
+    Empty,
+    /// More than 255 bytes; `len` is how many.
+    TooLong { len: u64 },
+    /// Not UTF-8; `at` is the length of the longest prefix that is.
+    NotUtf8 { at: u64 },
+    NoMemory,
+}
+
+impl Name {
+    /// The name of these bytes.
+    pub fn new(alloc: Global, bytes: &[u8]) -> Result<Name, NameRefused>
+        ensures ok { IfOk result (λ name. (name ≡ bytes.now) × IsName bytes.now) }
+        ensures refused { IfErr result (IsNameFault bytes.now) }
+    {
+        if bytes.is_empty() {
+            return Err(NameRefused::Empty);
+        }
+        if bytes.len() > 255 {
+            return Err(NameRefused::TooLong {
+                len: bytes.len() as u64,
+            });
+        }
+        match std::str::from_utf8(bytes) {
+            Ok(text) => Name::of_text(alloc, text),
+            Err(e) => Err(NameRefused::NotUtf8 {
+                at: e.valid_up_to() as u64,
+            }),
+        }
+    }
+
+    fn of_text(alloc: Global, text: &str) -> Result<Name, NameRefused>
+        requires some { 0 < length text.now }
+        requires most { length text.now ≤ 255 }
+        ensures ok { IfOk result (λ name. (name ≡ text.now) × IsName text.now) }
+        ensures refused { IfErr result (λ e. e ≡ NameRefused.NoMemory) }
+    {
+        match Vec::from_slice(alloc, text.as_bytes()) {
+            Ok(bytes) => Ok(Name { bytes }),
+            Err(_) => Err(NameRefused::NoMemory),
+        }
+    }
+
+    pub fn as_slice(&self) -> &[u8]
+        ensures value { result.now ≡ self.now }
+        ensures name { IsName self.now }
+    {
+        self.bytes.as_slice()
+    }
+}
+
+impl Clone for Name {
+    ghost is_clone = { λ old new. new ≡ old };
+
+    fn clone(&self) -> Result<Name, AllocError> {
+        let bytes = self.bytes.clone()?;
+        Ok(Name { bytes })
+    }
+}
+
+impl PartialEq for Name {
+    ghost eq = { pointwise nat_eq };
+
+    ghost laws = { Cmp.partial_equiv_from_equiv nat_list_eq_equiv };
+
+    fn eq(&self, other: &Name) -> bool {
+        self.bytes.as_slice() == other.bytes.as_slice()
+    }
+}
+
+impl Eq for Name {
+    ghost laws = { nat_list_eq_equiv };
+}
+
+impl PartialOrd for Name {
+    ghost partial_cmp = { λ x y. Some (bytes_cmp x y) };
+
+    ghost laws = { texts_po };
+
+    fn partial_cmp(&self, other: &Name) -> Option<Ordering> {
+        Some(self.cmp(other))
+    }
+}
+
+impl Ord for Name {
+    ghost cmp = { bytes_cmp };
+
+    ghost total = { nat_list_cmp_total };
+
+    ghost matches_partial_cmp = { λ x y. refl };
+
+    ghost matches_eq = { texts_ties };
+
+    fn cmp(&self, other: &Name) -> Ordering {
+        self.bytes.as_slice().cmp(other.bytes.as_slice())
+    }
+}
