@@ -1,0 +1,82 @@
+-- The durable world: what outlives a stop, when it is valid, and what it answers.
+use Rattle.std.specs.Prelude.{◌≡◌, ℕ, Bool, true, if◌then◌else◌, Option, Some, None, List, [], ◌∷◌, max}
+use Rattle.std.specs.Ordering.{is_gt}
+use Rattle.std.specs.declared.cmp.Ordering.{Ordering}
+use Rattle.std.specs.FinMap.{FinMap, get, entries, insert, remove, empty}
+use Rattle.std.specs.List.{AllByRecursion}
+use Rattle.dk_types.specs.declared.number.RunNo.{RunNo}
+use Rattle.dk_types.specs.declared.number.ObjectId.{ObjectId}
+use Rattle.dk_types.specs.declared.object.Object.{Object}
+use Rattle.dk_types.specs.declared.item.Item.{Item}
+use Rattle.dk_types.specs.declared.item.Item.TheVariants as ask
+use Rattle.dk_types.specs.declared.item.Answer.{Answer}
+use Rattle.dk_types.specs.declared.item.Answer.TheVariants as said
+use Rattle.dk_types.specs.declared.item.Read.{Read}
+use Rattle.dk_types.specs.Names.{bytes_cmp}
+use Rattle.dk_model.specs.Keys.{id_cmp, key_cmp}
+
+-- a pending task under its key; a period of 0 marks a once-task
+pub record Task : Type 0 where
+  pub due : ℕ
+  pub period : ℕ
+  pub kind : ℕ
+  pub arg : List ℕ
+
+-- the managed objects, the names that are bound to them, the pending tasks, the number of commits, and the largest committed run
+pub record DurableWorld : Type 0 where
+  pub objects : FinMap id_cmp Object
+  pub names : FinMap bytes_cmp ObjectId
+  pub tasks : FinMap key_cmp Task
+  pub commits : ℕ
+  pub last : Option RunNo
+
+-- the world before the first run
+abbrev pub empty_world : DurableWorld
+empty_world = record { objects = empty; names = empty; tasks = empty; commits = 0; last = None }
+
+-- the greater of the largest committed run and this one
+abbrev pub last_with : Option RunNo → RunNo → Option RunNo
+last_with None run = Some run
+last_with (Some last) run = Some (record { 0 = max last.0 run.0 })
+
+-- the map with a value at a key, or with none there
+abbrev pub with_value : {K X : Type 0} {R : K → K → Ordering} → FinMap R X → K → Option X → FinMap R X
+with_value m k None = remove m k
+with_value m k (Some v) = insert m k v
+
+-- whether a name is above the given one, as each is where none is given
+abbrev pub is_above : Option (List ℕ) → List ℕ → Bool
+is_above None name = true
+is_above (Some after) name = is_gt (bytes_cmp name after)
+
+-- the key of the first entry that passes
+abbrev pub first_key : {K X : Type 0} → (K → Bool) → List (K × X) → Option K
+first_key p [] = None
+first_key p (e ∷ es) = if p e.0 then Some e.0 else first_key p es
+
+-- the least bound name above the given one, or the least of all
+unfoldable pub next_name : FinMap bytes_cmp ObjectId → Option (List ℕ) → Option (List ℕ)
+next_name names after = first_key (is_above after) (entries names)
+
+abbrev pub object_answer : Option Object → Answer
+object_answer None = said.NoObject
+object_answer (Some object) = said.Object object
+
+abbrev pub name_answer : Option ObjectId → Answer
+name_answer None = said.NoName
+name_answer (Some id) = said.Named id
+
+abbrev pub task_answer : Option Task → Answer
+task_answer None = said.NoTask
+task_answer (Some task) = said.Task
+
+-- what the world answers to a read
+abbrev pub answer : DurableWorld → Item → Answer
+answer d (ask.Object id) = object_answer (get d.objects id)
+answer d (ask.Bound name) = name_answer (get d.names name)
+answer d (ask.NextAfter after) = said.Next (next_name d.names after)
+answer d (ask.Task key) = task_answer (get d.tasks key)
+
+-- the world gives each of the answers that were read
+unfoldable pub Agrees : DurableWorld → List (Item × Read) → Type 0
+Agrees d reads = AllByRecursion (λ r. answer d r.0 ≡ r.1.answer) reads
