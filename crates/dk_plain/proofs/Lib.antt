@@ -1,0 +1,3 @@
+pub mod WritesLemmas
+pub mod Parts
+pub mod Calls

@@ -1,0 +1,18 @@
+//! The definitions as a plain, slow program: a run of a job on a world that is kept as the list of
+//! all its writes.
+//!
+//! Each operation does what its definition says on the world itself, with no buffers and no
+//! indexes. It serves small worlds, and stands beside the fast layers as what they are compared with.
+#![tactic(auto)]
+
+pub use halt::Halt;
+pub use run::PlainRun;
+pub use writes::Write;
+
+
+
+pub mod fields;
+pub mod halt;
+pub mod run;
+pub mod world;
+pub mod writes;
