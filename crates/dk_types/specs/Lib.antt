@@ -1,3 +1,5 @@
 pub mod Names
 pub mod NameFaults
+pub mod GameIds
+pub mod GameIdFaults
 pub mod Faults

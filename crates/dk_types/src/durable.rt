@@ -17,7 +17,7 @@ pub struct Pending {
 }
 
 /// The durable world as lists, each strictly ascending by its id, name or key.
-#[derive(Debug, Drop)]
+#[derive(Clone, Debug, Drop, PartialEq, Eq)]
 pub struct Durable {
     pub commits: u64,
     /// The largest committed run.
@@ -28,7 +28,7 @@ pub struct Durable {
 }
 
 /// The net effects of a run, each list strictly ascending by its id, name or key.
-#[derive(Debug, Drop)]
+#[derive(Clone, Debug, Drop, PartialEq, Eq)]
 pub struct Effects {
     pub written: Listed<(ObjectId, Object)>,
     pub removed: Listed<ObjectId>,
@@ -41,7 +41,7 @@ pub struct Effects {
 }
 
 /// A commit: its number, from 1, its run and its effects.
-#[derive(Debug, Drop)]
+#[derive(Clone, Debug, Drop, PartialEq, Eq)]
 pub struct Entry {
     pub seq: u64,
     pub run: RunNo,

@@ -38,7 +38,7 @@ pub enum ClaimReply {
 }
 
 /// What happened to the world.
-#[derive(Debug, Drop)]
+#[derive(Clone, Debug, Drop, PartialEq, Eq)]
 pub enum Event {
     Connect {
         pass: u32,

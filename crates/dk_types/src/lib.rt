@@ -9,6 +9,7 @@ pub use blob::Blob;
 pub use durable::{Durable, Effects, Entry, Pending};
 pub use event::{ClaimReply, ConnectReply, Event, PostReply};
 pub use fault::{AppFault, Failed, NoMemory, Outcome};
+pub use game_id::{GameId, GameIdRefused};
 pub use item::{Answer, Item, Read, Seen};
 pub use job::{Input, Job, Out, Session};
 pub use listed::Listed;
@@ -31,4 +32,6 @@ pub mod name;
 pub mod number;
 pub mod object;
 pub mod side;
+#[cfg(test)]
+mod tests;
 pub mod words;

@@ -1,6 +1,9 @@
 //! A list inside a public value.
 ghost use Rattle.std.specs.Prelude.{◌≡◌};
+ghost use Rattle.std.specs.List.{AllZip};
+ghost use Rattle.std.specs.Cmp.Lexicographic.{pointwise, lists_per, lists_equiv};
 
+use std::alloc::AllocError;
 use std::marker::Model;
 
 /// A list, seen by contracts as the list of what it holds. It is made from a `Vec` and given back as one, with no copy.
@@ -36,4 +39,27 @@ impl<T> Listed<T> {
     {
         self.items.as_slice()
     }
+}
+
+impl<T: Clone> Clone for Listed<T> {
+    ghost is_clone = { AllZip T.is_clone };
+
+    fn clone(&self) -> Result<Listed<T>, AllocError> {
+        let items = self.items.clone()?;
+        Ok(Listed { items })
+    }
+}
+
+impl<T: PartialEq> PartialEq for Listed<T> {
+    ghost eq = { pointwise T.eq };
+
+    ghost laws = { lists_per T.laws };
+
+    fn eq(&self, other: &Listed<T>) -> bool {
+        self.items == other.items
+    }
+}
+
+impl<T: Eq> Eq for Listed<T> {
+    ghost laws = { lists_equiv T.Eq.laws };
 }

@@ -6,6 +6,7 @@ ghost use Rattle.dk_types.specs.NameFaults.{IsNameFault};
 ghost use Rattle.std.specs.Cmp.Lexicographic.{pointwise, nat_list_eq_equiv, nat_list_cmp_total, texts_ties, texts_po};
 ghost use Rattle.std.specs.Cmp;
 
+use crate::limits::NAME_MOST_BYTES;
 use std::alloc::{AllocError, Global};
 use std::cmp::Ordering;
 use std::marker::Model;
@@ -48,7 +49,7 @@ impl Name {
         if bytes.is_empty() {
             return Err(NameRefused::Empty);
         }
-        if bytes.len() > 255 {
+        if bytes.len() as u64 > NAME_MOST_BYTES {
             return Err(NameRefused::TooLong {
                 len: bytes.len() as u64,
             });
@@ -63,7 +64,7 @@ impl Name {
 
     fn of_text(alloc: Global, text: &str) -> Result<Name, NameRefused>
         requires some { 0 < length text.now }
-        requires most { length text.now ≤ 255 }
+        requires most { length text.now ≤ NAME_MOST_BYTES }
         ensures ok { IfOk result (λ name. (name ≡ text.now) × IsName text.now) }
         ensures refused { IfErr result (λ e. e ≡ NameRefused.NoMemory) }
     {

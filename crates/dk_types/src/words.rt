@@ -1,8 +1,10 @@
 //! The words of a command line.
-ghost use Rattle.std.specs.Prelude.{◌≡◌, ◌<◌, ◌∷◌, ◌++◌, [], length, slice_get, Some, OnOk, OnErr};
+ghost use Rattle.std.specs.Prelude.{◌≡◌, ◌<◌, ◌∷◌, ◌++◌, [], length, slice_get, nat_eq, Some, OnOk, OnErr};
+ghost use Rattle.std.specs.Cmp.Lexicographic.{pointwise, lists_per, lists_equiv, nat_list_eq_equiv};
+ghost use Rattle.std.specs.Cmp;
 
 use crate::fault::NoMemory;
-use std::alloc::Global;
+use std::alloc::{AllocError, Global};
 use std::marker::Model;
 
 /// The words after a program's name, seen by contracts as a list of texts.
@@ -53,4 +55,27 @@ impl Words {
     {
         self.words[at as usize].as_str()
     }
+}
+
+impl Clone for Words {
+    ghost is_clone = { λ old new. new ≡ old };
+
+    fn clone(&self) -> Result<Words, AllocError> {
+        let words = self.words.clone()?;
+        Ok(Words { words })
+    }
+}
+
+impl PartialEq for Words {
+    ghost eq = { pointwise (pointwise nat_eq) };
+
+    ghost laws = { lists_per (Cmp.partial_equiv_from_equiv nat_list_eq_equiv) };
+
+    fn eq(&self, other: &Words) -> bool {
+        self.words == other.words
+    }
+}
+
+impl Eq for Words {
+    ghost laws = { lists_equiv nat_list_eq_equiv };
 }

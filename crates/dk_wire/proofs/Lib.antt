@@ -1,0 +1,5 @@
+pub mod Steps
+pub mod Numbers
+pub mod FieldLaws
+pub mod ExactLaws
+pub mod PayloadLaws

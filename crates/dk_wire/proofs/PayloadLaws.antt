@@ -1,0 +1,20 @@
+-- Readings whose faults are places.
+use Rattle.std.proofs.Common.{◌≡◌, ℕ, List, Result, Ok, Err, refl, ap}
+use Rattle.dk_wire.specs.declared.refused.WireRefused.{WireRefused}
+use Rattle.dk_wire.specs.declared.refused.WireRefused.TheVariants.{Short, Extra, BadTag, TooLong, NoMemory}
+use Rattle.dk_wire.specs.declared.payload.PayloadRefused.{PayloadRefused}
+use Rattle.dk_wire.specs.Rest.{Rest}
+use Rattle.dk_wire.specs.Reading.{Reads}
+use Rattle.dk_wire.specs.Payload.{placed, told_of, Gives}
+
+-- what is told of a field that was taken is what reading gives, with its fault at the field's place
+pub told_gives : {A : Type 0} (reading : Rest → Result (A × Rest) WireRefused) (old : Rest) (at : ℕ) (taken : Result A WireRefused) (new : Rest) (result : Result A PayloadRefused) → at ≡ old.at → result ≡ told_of at taken → Reads reading old taken new → Gives (λ r. placed r.at (reading r)) old result new
+told_gives {A} reading old at taken new result same is reads = rw (is, same) (by taken reads)
+  where
+    by : (taken : Result A WireRefused) → Reads reading old taken new → Gives (λ r. placed r.at (reading r)) old (told_of old.at taken) new
+    by (Ok x) reads = ap (placed old.at) reads
+    by (Err NoMemory) reads = tt
+    by (Err (Short need have)) reads = ap (placed old.at) reads.1
+    by (Err (Extra at)) reads = ap (placed old.at) reads.1
+    by (Err (BadTag at tag)) reads = ap (placed old.at) reads.1
+    by (Err TooLong) reads = ap (placed old.at) reads.1

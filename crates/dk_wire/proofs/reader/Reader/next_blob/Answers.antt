@@ -1,0 +1,8 @@
+use Rattle.dk_wire.specs.Reading.{blob_at}
+use Rattle.dk_wire.specs.Payload.{next_blob}
+use Rattle.dk_wire.proofs.PayloadLaws.{told_gives}
+use Rattle.dk_wire.proofs.reader.Reader.next_blob.Goals as goal
+
+pub returns : goal.returns
+unfolding next_blob
+returns c = told_gives (blob_at c.args.most) c.args.self.now c.at-at.result c.take_blob.result c.take_blob.new.self c.told.result c.at-at.ensures c.told.ensures c.take_blob.ensures

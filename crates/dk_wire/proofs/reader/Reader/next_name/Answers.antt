@@ -1,0 +1,8 @@
+use Rattle.dk_wire.specs.Reading.{name_at}
+use Rattle.dk_wire.specs.Payload.{next_name}
+use Rattle.dk_wire.proofs.PayloadLaws.{told_gives}
+use Rattle.dk_wire.proofs.reader.Reader.next_name.Goals as goal
+
+pub returns : goal.returns
+unfolding next_name
+returns c = told_gives name_at c.args.self.now c.at-at.result c.take_name.result c.take_name.new.self c.told.result c.at-at.ensures c.told.ensures c.take_name.ensures

@@ -1,0 +1,52 @@
+-- Fields as bytes: for each kind of field what its values are, and the one spelling of each. Numbers are big-endian.
+use Rattle.std.specs.Prelude.{ℕ, ◌<◌, ◌≤◌, ◌^◌, List, [], ◌∷◌, ◌++◌, length}
+use Rattle.std.specs.Int.{w16, w32, w64, to_be_bytes}
+use Rattle.dk_types.specs.declared.number.ObjectId.{ObjectId}
+use Rattle.dk_types.specs.declared.limits.TheConstants.{NUMBERS_END}
+
+-- the numbers of 8, 16, 32 and 64 bits
+abbrev pub IsU8 : ℕ → Type 0
+IsU8 n = n < 2 ^ 8
+
+abbrev pub IsU16 : ℕ → Type 0
+IsU16 n = n < 2 ^ 16
+
+abbrev pub IsU32 : ℕ → Type 0
+IsU32 n = n < 2 ^ 32
+
+abbrev pub IsU64 : ℕ → Type 0
+IsU64 n = n < 2 ^ 64
+
+-- a number is one, two, four or eight bytes, the highest first
+abbrev pub u8_spelling : ℕ → List ℕ
+u8_spelling n = n ∷ []
+
+abbrev pub u16_spelling : ℕ → List ℕ
+u16_spelling n = to_be_bytes w16 n
+
+abbrev pub u32_spelling : ℕ → List ℕ
+u32_spelling n = to_be_bytes w32 n
+
+abbrev pub u64_spelling : ℕ → List ℕ
+u64_spelling n = to_be_bytes w64 n
+
+-- a name is one byte that counts its bytes, and these
+abbrev pub name_spelling : List ℕ → List ℕ
+name_spelling name = length name ∷ name
+
+-- a blob under a limit
+abbrev pub IsBlob : ℕ → List ℕ → Type 0
+IsBlob most blob = length blob ≤ most
+
+-- a blob is a number of 32 bits that counts its bytes, and these
+abbrev pub blob_spelling : List ℕ → List ℕ
+blob_spelling blob = u32_spelling (length blob) ++ blob
+
+-- the ids of objects that a run can make: its number is below 2 ^ 62
+pub record IsId (id : ObjectId) : Type 0 where
+  pub run : id.run.0 < NUMBERS_END
+  pub k : IsU32 id.k
+
+-- an id is its run's number in 64 bits, and its place in 32
+abbrev pub id_spelling : ObjectId → List ℕ
+id_spelling id = u64_spelling id.run.0 ++ u32_spelling id.k

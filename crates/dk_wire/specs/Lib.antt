@@ -1,0 +1,5 @@
+pub mod Rest
+pub mod Fields
+pub mod Reading
+pub mod Exact
+pub mod Payload

@@ -1,0 +1,16 @@
+//! Fields as bytes, in both directions.
+//!
+//! Numbers, names, blobs and ids are put at the end of a `Writer` and taken from the front of a `Reader`. A field has
+//! one spelling, no spelling begins another, and what is taken is exactly what was put. The formats above are
+//! compositions of these fields: `specs/` has the words and `proofs/` the lemmas for records and counted lists.
+#![tactic(auto)]
+
+pub use payload::PayloadRefused;
+pub use reader::Reader;
+pub use refused::WireRefused;
+pub use writer::Writer;
+
+pub mod payload;
+pub mod reader;
+pub mod refused;
+pub mod writer;

@@ -1,0 +1,116 @@
+//! Reading a payload of fields, where a fault is told by its place alone.
+ghost use Rattle.std.specs.Prelude.{◌≡◌, ◌≢◌, Ok, IfErr, MatchResult};
+ghost use Rattle.dk_wire.specs.declared.payload.PayloadRefused.TheVariants.{NoMemory as OutOfMemory};
+ghost use Rattle.dk_wire.specs.Payload.{Gives, Misses, told_of, next_u8, next_u16, next_u32, next_u64, next_name, next_blob, next_id, next_end};
+
+use crate::reader::Reader;
+use crate::refused::WireRefused;
+use dk_types::{Blob, Name, NoMemory, ObjectId};
+use std::alloc::{AllocError, AllocFailed, Global};
+
+/// Why a payload is no spelling of a value.
+#[derive(Clone, Copy, Debug, PartialEq, Eq)]
+pub enum PayloadRefused {
+    /// `at` is the place of the first byte of the first field that is cut off, is outside its form or limit, does not
+    /// ascend, or breaks a rule with an earlier field; or of the first byte behind the whole spelling.
+    NotInGrammar { at: u64 },
+    NoMemory,
+}
+
+impl From<NoMemory> for PayloadRefused {
+    ghost from_gives = { λ _ e. e ≡ OutOfMemory };
+
+    fn from(_: NoMemory) -> PayloadRefused {
+        PayloadRefused::NoMemory
+    }
+}
+
+impl From<AllocError> for PayloadRefused {
+    ghost from_gives = { λ _ e. e ≡ OutOfMemory };
+
+    fn from(_: AllocError) -> PayloadRefused {
+        PayloadRefused::NoMemory
+    }
+}
+
+impl<T: Drop> From<AllocFailed<T>> for PayloadRefused {
+    ghost from_gives = { λ _ e. e ≡ OutOfMemory };
+
+    fn from(_: AllocFailed<T>) -> PayloadRefused {
+        PayloadRefused::NoMemory
+    }
+}
+
+/// Each call is the `take` of its name, and its refusal tells where the field stands.
+impl<'a> Reader<'a> {
+    pub fn next_u8(&mut self) -> Result<u8, PayloadRefused>
+        ensures { Gives next_u8 self.old result self.new }
+    {
+        let at = self.at();
+        told(at, self.take_u8())
+    }
+
+    pub fn next_u16(&mut self) -> Result<u16, PayloadRefused>
+        ensures { Gives next_u16 self.old result self.new }
+    {
+        let at = self.at();
+        told(at, self.take_u16())
+    }
+
+    pub fn next_u32(&mut self) -> Result<u32, PayloadRefused>
+        ensures { Gives next_u32 self.old result self.new }
+    {
+        let at = self.at();
+        told(at, self.take_u32())
+    }
+
+    pub fn next_u64(&mut self) -> Result<u64, PayloadRefused>
+        ensures { Gives next_u64 self.old result self.new }
+    {
+        let at = self.at();
+        told(at, self.take_u64())
+    }
+
+    pub fn next_name(&mut self, alloc: Global) -> Result<Name, PayloadRefused>
+        ensures { Gives next_name self.old result self.new }
+    {
+        let at = self.at();
+        told(at, self.take_name(alloc))
+    }
+
+    pub fn next_blob(&mut self, alloc: Global, most: u32) -> Result<Blob, PayloadRefused>
+        ensures { Gives (next_blob most) self.old result self.new }
+    {
+        let at = self.at();
+        told(at, self.take_blob(alloc, most))
+    }
+
+    pub fn next_id(&mut self) -> Result<ObjectId, PayloadRefused>
+        ensures { Gives next_id self.old result self.new }
+    {
+        let at = self.at();
+        told(at, self.take_id())
+    }
+
+    /// Refuses the place where bytes are left. Takes no memory.
+    #[tactic(auto, unfolding(crate::specs::Payload::next_end, crate::specs::Reading::end_at))]
+    pub fn next_end(&self) -> Result<(), PayloadRefused>
+        ensures gives { MatchResult result (λ done. next_end self.now ≡ Ok done) (λ e. Misses e (next_end self.now)) }
+        ensures never { IfErr result (λ e. e ≢ PayloadRefused.NoMemory) }
+    {
+        match self.end() {
+            Ok(()) => Ok(()),
+            Err(_) => Err(PayloadRefused::NotInGrammar { at: self.at() }),
+        }
+    }
+}
+
+fn told<T>(at: u64, taken: Result<T, WireRefused>) -> Result<T, PayloadRefused>
+    ensures { result ≡ told_of at taken }
+{
+    match taken {
+        Ok(x) => Ok(x),
+        Err(WireRefused::NoMemory) => Err(PayloadRefused::NoMemory),
+        Err(_) => Err(PayloadRefused::NotInGrammar { at }),
+    }
+}

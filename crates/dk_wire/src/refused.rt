@@ -1,0 +1,15 @@
+//! Why what is left does not begin with a field.
+
+/// Why a field could not be taken, or why bytes are left.
+#[derive(Clone, Copy, Debug, PartialEq, Eq)]
+pub enum WireRefused {
+    /// A number, or the bytes after a length, need `need` bytes and only `have` are left.
+    Short { need: u64, have: u64 },
+    /// Bytes are left where none may be; `at` is the place of the first.
+    Extra { at: u64 },
+    /// A name's length is 0, its bytes are not UTF-8, or an id's run is 2^62 or more. `tag` is the byte at `at`.
+    BadTag { at: u64, tag: u8 },
+    /// A blob's length is above its limit.
+    TooLong,
+    NoMemory,
+}
