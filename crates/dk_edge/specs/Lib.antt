@@ -1,0 +1,4 @@
+pub mod Streams
+pub mod FaultPlan
+pub mod MemorySource
+pub mod MemorySink

@@ -1,0 +1,22 @@
+//! The streams at the edge of the program: bytes in and bytes out.
+//!
+//! The layers above are generic over `Source` and `Sink` and cite what these say of the bytes and of
+//! faults. Streams in memory tell their bytes and fail where a test says so. The standard streams are
+//! a trusted edge: they tell nothing of their bytes, and count each fault.
+#![tactic(auto)]
+
+pub use memory_sink::MemorySink;
+pub use memory_source::MemorySource;
+pub use sink::Sink;
+pub use source::Source;
+pub use std_streams::{StdSink, StdSource};
+
+mod fault_count;
+mod fault_plan;
+pub mod memory_sink;
+pub mod memory_source;
+pub mod sink;
+pub mod source;
+pub mod std_streams;
+#[cfg(test)]
+mod tests;
