@@ -11,7 +11,10 @@ use Rattle.dk_types.specs.declared.job.Out.{Out}
 use Rattle.dk_types.specs.declared.job.Out.TheVariants as out
 use Rattle.dk_types.specs.declared.limits.TheConstants.{MESSAGES_MOST_COUNT}
 use Rattle.dk_model.specs.Runs.{Run, Act, give, and_then, found, refuse, get, create, save, remove, bound, bind, unbind, send, is_too_long, NAME_NOT_BOUND, WRONG_KIND, TOO_LONG, TOO_MANY, NAME_EXISTS, BAD_BYTES}
-use Rattle.dk_model.specs.Records.{SessionRecord, ChannelRecord, SESSION_KIND, CHANNEL_KIND, session_bytes, session_of, channel_bytes, channel_of, session_name, channel_name, is_name_too_long}
+use Rattle.dk_model.specs.declared.records.SessionRecord.{SessionRecord}
+use Rattle.dk_model.specs.declared.records.ChannelRecord.{ChannelRecord}
+use Rattle.dk_model.specs.declared.records.Delivery.{Delivery}
+use Rattle.dk_model.specs.Records.{SESSION_KIND, CHANNEL_KIND, session_bytes, session_of, channel_bytes, channel_of, session_name, channel_name, is_name_too_long}
 
 abbrev pub same_name : List ℕ → List ℕ → Bool
 same_name = pointwise nat_eq
@@ -75,7 +78,7 @@ unfoldable pub close_record : Session → Act (Unit {0})
 close_record session = and_then (own_record session) (λ r. and_then (unbind (session_name session.name)) (λ _. remove r.0))
 
 -- a new channel with no member
-unfoldable pub create_channel : List ℕ → Bool → ℕ → Act (Unit {0})
+unfoldable pub create_channel : List ℕ → Bool → Delivery → Act (Unit {0})
 create_channel name listener delivery s =
     if is_name_too_long (channel_name name) then refuse TOO_LONG s
     else if is_some (platform_bound s (channel_name name)) then refuse NAME_EXISTS s

@@ -1,27 +1,33 @@
 -- The platform's own objects: the record of a session and the record of a channel, and the names that lead to them.
 use Rattle.std.specs.Prelude.{ℕ, Bool, true, false, Option, Some, None, List, [], ◌∷◌, ◌++◌, ◌==◌, length, nat_lt, if◌then◌else◌}
-use Rattle.std.specs.Int.{w64, to_be_bytes}
 use Rattle.dk_types.specs.declared.number.ConnNo.{ConnNo}
 use Rattle.dk_types.specs.declared.job.Session.{Session}
-use Rattle.dk_model.specs.Spellings.{Reads, name_bytes, list_bytes, read_then, number_at, name_at, list_at, whole}
+use Rattle.dk_model.specs.declared.records.SessionRecord.{SessionRecord}
+use Rattle.dk_model.specs.declared.records.ChannelRecord.{ChannelRecord}
+use Rattle.dk_model.specs.declared.records.Delivery.{Delivery}
+use Rattle.dk_model.specs.declared.records.Delivery.TheVariants.{Reliable, UnorderedReliable, OrderedUnreliable, Unreliable}
+use Rattle.std.specs.Prelude.{Result, Ok, Err}
+use Rattle.dk_wire.specs.Rest.{Rest}
+use Rattle.dk_wire.specs.Fields.{u64_spelling, name_spelling}
+use Rattle.dk_wire.specs.Reading.{◌>>=◌}
+use Rattle.dk_wire.specs.Payload.{next_u8, next_u64, next_name, checked}
+use Rattle.dk_model.specs.Spellings.{list_spelling, next_list, value_of}
 
 abbrev pub SESSION_KIND : ℕ
 SESSION_KIND = 65281
 
--- a session's connection number, and the channels that it is on, in joining order
-pub record SessionRecord : Type 0 where
-  pub conn : ConnNo
-  pub channels : List (List ℕ)
-
 abbrev pub session_bytes : SessionRecord → List ℕ
-session_bytes r = to_be_bytes w64 r.conn.0 ++ list_bytes name_bytes r.channels
+session_bytes r = u64_spelling r.conn.0 ++ list_spelling name_spelling r.channels
 
-abbrev pub session_at : Reads SessionRecord
-session_at bytes = read_then (number_at w64 bytes) (λ conn. read_then (list_at name_at conn.1) (λ channels. Some (record { conn = record { 0 = conn.0 }; channels = channels.0 }, channels.1)))
+unfoldable pub next_session : Rest → Result (SessionRecord × Rest) ℕ
+next_session r = do
+  conn ← next_u64 r
+  channels ← next_list next_name conn.1
+  Ok (record { conn = record { 0 = conn.0 }; channels = channels.0 }, channels.1)
 
 -- the record that these bytes are, where they are one
 unfoldable pub session_of : List ℕ → Option SessionRecord
-session_of = whole session_at
+session_of = value_of next_session
 
 -- `$s.` and the login name
 abbrev pub session_name : List ℕ → List ℕ
@@ -34,37 +40,42 @@ is_name_too_long name = nat_lt 255 (length name)
 abbrev pub CHANNEL_KIND : ℕ
 CHANNEL_KIND = 65282
 
--- whether a game listens to a channel, its delivery by number, and its members in joining order
-pub record ChannelRecord : Type 0 where
-  pub listener : Bool
-  pub delivery : ℕ
-  pub members : List Session
+-- a delivery by its number, from 0 on
+abbrev pub delivery_number : Delivery → ℕ
+delivery_number Reliable = 0
+delivery_number UnorderedReliable = 1
+delivery_number OrderedUnreliable = 2
+delivery_number Unreliable = 3
+
+abbrev pub delivery_of : ℕ → Delivery
+delivery_of n = if n == 0 then Reliable else if n == 1 then UnorderedReliable else if n == 2 then OrderedUnreliable else Unreliable
 
 abbrev pub flag_bytes : Bool → List ℕ
 flag_bytes false = 0 ∷ []
 flag_bytes true = 1 ∷ []
 
 abbrev pub member_bytes : Session → List ℕ
-member_bytes m = name_bytes m.name ++ to_be_bytes w64 m.conn.0
+member_bytes m = name_spelling m.name ++ u64_spelling m.conn.0
 
 abbrev pub channel_bytes : ChannelRecord → List ℕ
-channel_bytes r = flag_bytes r.listener ++ r.delivery ∷ list_bytes member_bytes r.members
+channel_bytes r = flag_bytes r.listener ++ delivery_number r.delivery ∷ list_spelling member_bytes r.members
 
-abbrev pub byte_below_at : ℕ → Reads ℕ
-byte_below_at limit [] = None
-byte_below_at limit (b ∷ bytes) = if nat_lt b limit then Some (b, bytes) else None
+unfoldable pub next_member : Rest → Result (Session × Rest) ℕ
+next_member r = do
+  name ← next_name r
+  conn ← next_u64 name.1
+  Ok (record { name = name.0; conn = record { 0 = conn.0 } }, conn.1)
 
-abbrev pub member_at : Reads Session
-member_at bytes = read_then (name_at bytes) (λ name. read_then (number_at w64 name.1) (λ conn. Some (record { name = name.0; conn = record { 0 = conn.0 } }, conn.1)))
-
-abbrev pub channel_at : Reads ChannelRecord
-channel_at bytes =
-    read_then (byte_below_at 2 bytes) (λ listener. read_then (byte_below_at 4 listener.1) (λ delivery. read_then (list_at member_at delivery.1) (λ members.
-    Some (record { listener = listener.0 == 1; delivery = delivery.0; members = members.0 }, members.1))))
+unfoldable pub next_channel : Rest → Result (ChannelRecord × Rest) ℕ
+next_channel r = do
+  listener ← checked (λ b. nat_lt b 2) next_u8 r
+  delivery ← checked (λ b. nat_lt b 4) next_u8 listener.1
+  members ← next_list next_member delivery.1
+  Ok (record { listener = listener.0 == 1; delivery = delivery_of delivery.0; members = members.0 }, members.1)
 
 -- the record that these bytes are, where they are one
 unfoldable pub channel_of : List ℕ → Option ChannelRecord
-channel_of = whole channel_at
+channel_of = value_of next_channel
 
 -- `$c.` and the channel's name
 abbrev pub channel_name : List ℕ → List ℕ

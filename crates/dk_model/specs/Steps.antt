@@ -17,7 +17,8 @@ use Rattle.dk_types.specs.declared.fault.Outcome.TheVariants as outcome
 use Rattle.dk_model.specs.declared.mode.Mode.TheVariants.{Game}
 use Rattle.dk_model.specs.DurableWorlds.{DurableWorld, Task}
 use Rattle.dk_model.specs.Runs.{Run, Act, begun, give, and_then, within, send, with_task}
-use Rattle.dk_model.specs.Records.{session_name, channel_name, CHANNEL_KIND, channel_of, ChannelRecord}
+use Rattle.dk_model.specs.declared.records.ChannelRecord.{ChannelRecord}
+use Rattle.dk_model.specs.Records.{session_name, channel_name, CHANNEL_KIND, channel_of}
 use Rattle.dk_model.specs.Platforms.{platform_bound, is_connected, open_record, close_record, own_record, leave, get_as, is_member, channel_send}
 
 -- the least `due + m * period` with m at least 1 that is above the moment

@@ -8,11 +8,13 @@
 
 pub use dk_types::limits as limits;
 pub use mode::Mode;
+pub use records::{ChannelRecord, Delivery, SessionRecord};
 pub use rules::Rules;
 pub use script::Line;
 pub use waiting::Waiting;
 
 pub mod mode;
+pub mod records;
 pub mod rules;
 pub mod script;
 pub mod waiting;

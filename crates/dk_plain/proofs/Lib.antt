@@ -1,3 +1,4 @@
 pub mod WritesLemmas
 pub mod Parts
 pub mod Calls
+pub mod Lists

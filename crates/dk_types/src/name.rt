@@ -1,11 +1,12 @@
 //! Names of players, channels and bound objects.
-ghost use Rattle.std.specs.Prelude.{◌≡◌, ◌<◌, ◌≤◌, [], length, refl, nat_eq, Some, IfOk, IfErr};
+ghost use Rattle.std.specs.Prelude.{◌≡◌, ◌<◌, ◌≤◌, ◌++◌, [], length, refl, nat_eq, Some, MatchOption, IfOk, IfErr};
 ghost use Rattle.std.specs.Str.Lossy.{utf8_valid_len};
 ghost use Rattle.dk_types.specs.Names.{IsName, bytes_cmp};
 ghost use Rattle.dk_types.specs.NameFaults.{IsNameFault};
 ghost use Rattle.std.specs.Cmp.Lexicographic.{pointwise, nat_list_eq_equiv, nat_list_cmp_total, texts_ties, texts_po};
 ghost use Rattle.std.specs.Cmp;
 
+use crate::fault::NoMemory;
 use crate::limits::NAME_MOST_BYTES;
 use std::alloc::{AllocError, Global};
 use std::cmp::Ordering;
@@ -79,6 +80,32 @@ impl Name {
         ensures name { IsName self.now }
     {
         self.bytes.as_slice()
+    }
+
+    /// The name as text.
+    pub fn as_str(&self) -> &str
+        ensures value { result.now ≡ self.now }
+        ensures name { IsName self.now }
+    {
+        match std::str::from_utf8(self.as_slice()) {
+            Ok(text) => text,
+            Err(_) => unreachable!(),
+        }
+    }
+
+    /// The name that the prefix makes of this one; none where it would pass 255 bytes.
+    pub fn with_prefix(&self, alloc: Global, prefix: &str) -> Result<Option<Name>, NoMemory>
+        ensures { IfOk result (λ made. MatchOption made (NAME_MOST_BYTES < length (prefix.now ++ self.now)) (λ name. (name ≡ prefix.now ++ self.now) × (length (prefix.now ++ self.now) ≤ NAME_MOST_BYTES))) }
+    {
+        let mut text = String::from_str(alloc, prefix)?;
+        text.push_str(self.as_str())?;
+        if text.len() as u64 > NAME_MOST_BYTES {
+            return Ok(None);
+        }
+        match Name::of_text(alloc, text.as_str()) {
+            Ok(name) => Ok(Some(name)),
+            Err(_) => Err(NoMemory),
+        }
     }
 }
 
