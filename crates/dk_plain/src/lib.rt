@@ -7,12 +7,16 @@
 
 pub use halt::Halt;
 pub use run::PlainRun;
+pub use stored::Stored;
 pub use writes::Write;
 
 
 
 pub mod fields;
 pub mod halt;
+pub mod records;
 pub mod run;
+pub mod sessions;
+pub mod stored;
 pub mod world;
 pub mod writes;
