@@ -2,3 +2,4 @@ pub mod WritesLemmas
 pub mod Parts
 pub mod Calls
 pub mod Lists
+pub mod Platform

@@ -129,3 +129,7 @@ pub with_name_is : (s : Run) (names : map.FinMap bytes_cmp ObjectId) (touched : 
     → names ≡ map.insert s.world.names name id → touched ≡ s.touched ++ ask.Bound name ∷ []
     → record s { world = record (s.world) { names = names }; touched = touched } ≡ act.with_name s name (Some id)
 with_name_is s names touched name id p q = λ i. record s { world = record (s.world) { names = p i }; touched = q i }
+
+-- what is done is what another act does here
+pub does_as : {A : Type 0} {a b : PlainRun} {f : Act A} {r : Result A Halt} (g : Act A) → f (run_of a) ≡ g (run_of a) → Does a b g r → Does a b f r
+does_as g same p = record { does = λ s t. same ∙ p.does s t; adds = p.adds }

@@ -7,7 +7,7 @@ use crate::records::new_session_bytes;
 use crate::run::PlainRun;
 use crate::writes::latest;
 use dk_model::SessionRecord;
-use dk_types::{AppFault, Name, NoMemory, ObjectId, Session};
+use dk_types::{AppFault, ConnNo, Name, NoMemory, ObjectId, Session};
 use std::alloc::Global;
 
 /// The platform name of a session's record; none where it would pass 255 bytes.
@@ -20,6 +20,7 @@ fn key_of(alloc: Global, name: &Name) -> Result<Option<Name>, NoMemory>
 impl PlainRun {
     ghost use Rattle.dk_model.specs.Platforms as platform;
     ghost use Rattle.dk_plain.specs.Plains.{Does, run_of};
+    ghost use Rattle.dk_plain.specs.Recording.{recording};
 
     /// The record of a login name, where one is bound.
     pub fn recorded(&self, alloc: Global, name: &Name) -> Result<Option<ObjectId>, NoMemory>
@@ -52,11 +53,17 @@ impl PlainRun {
             None => return Err(Halt::Fault(AppFault::Refused(4))),
             Some(key) => key,
         };
-        if latest(self.names.as_slice(), &key).is_some() {
-            return Err(Halt::Fault(AppFault::Refused(9)));
+        match latest(self.names.as_slice(), &key) {
+            Some(_) => Err(Halt::Fault(AppFault::Refused(9))),
+            None => self.record_under(alloc, &key, session.conn),
         }
-        let bytes = new_session_bytes(alloc, session.conn)?;
+    }
+
+    fn record_under(&mut self, alloc: Global, key: &Name, conn: ConnNo) -> Result<(), Halt>
+        ensures { Does self.old self.new (recording key.now conn) result }
+    {
+        let bytes = new_session_bytes(alloc, conn)?;
         let id = self.create(0xFF01, bytes)?;
-        self.bind(&key, id)
+        self.bind(key, id)
     }
 }
