@@ -3,3 +3,4 @@ pub mod Parts
 pub mod Calls
 pub mod Lists
 pub mod Platform
+pub mod JobParts

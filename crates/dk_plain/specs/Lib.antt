@@ -1,3 +1,4 @@
 pub mod Writes
 pub mod Plains
 pub mod Recording
+pub mod PlainJobs

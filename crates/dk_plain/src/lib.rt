@@ -7,16 +7,20 @@
 
 pub use halt::Halt;
 pub use run::PlainRun;
+pub use jobs::PlainGame;
 pub use stored::Stored;
+pub use world::{PlainWorld, Stepped};
 pub use writes::Write;
 
 
 
 pub mod fields;
 pub mod halt;
+pub mod jobs;
 pub mod records;
 pub mod run;
 pub mod sessions;
 pub mod stored;
 pub mod world;
+
 pub mod writes;
