@@ -16,8 +16,8 @@ pub returns-in_ok-outs-in-Err-Fault : goal.returns-in_ok-outs-in-Err-Fault
 returns-in_ok-outs-in-Err-Fault g c =
     let run = c.work_job.new.run in
     let adds = c.work_job.ensures.adds in
-    let objects = taken_back c.args.self.now.objects.items adds.more_objects run.objects.items c.len-objects.result (c.len-objects.ensures ∙ ap length c.as_slice.ensures.value) (adds.objects ∙ ap (λ xs. xs ++ adds.more_objects) c.begin-run.ensures.objects) in
-    let names = taken_back c.args.self.now.names.items adds.more_names run.names.items c.len-names.result (c.len-names.ensures ∙ ap length c.as_slice-2.ensures.value) (adds.names ∙ ap (λ xs. xs ++ adds.more_names) c.begin-run.ensures.names) in
+    let objects = taken_back c.args.self.now.objects.items adds.more_objects run.objects.items (length c.as_slice-objects.result.now) (ap length c.as_slice-objects.ensures.value) (adds.objects ∙ ap (λ xs. xs ++ adds.more_objects) c.begin-run.ensures.objects) in
+    let names = taken_back c.args.self.now.names.items adds.more_names run.names.items (length c.as_slice-names.result.now) (ap length c.as_slice-names.ensures.value) (adds.names ∙ ap (λ xs. xs ++ adds.more_names) c.begin-run.ensures.names) in
     let world : durable_of c.undo.new.self ≡ (begun c.args.number c.args.at (durable_of c.args.self.now)).world =
       c.undo.ensures ∙ (λ i. record {
         objects = objects_of (objects i);
