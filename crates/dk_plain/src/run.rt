@@ -69,7 +69,8 @@ fn body_len(out: &Out) -> u64
 
 impl PlainRun {
     ghost use Rattle.dk_model.specs.Runs as act;
-    ghost use Rattle.dk_plain.specs.Plains.{Does};
+    ghost use Rattle.std.specs.FinMap as map;
+    ghost use Rattle.dk_plain.specs.Plains.{Does, run_of};
 
     /// The object.
     pub fn get(&self, id: ObjectId) -> Result<Object, Halt>
@@ -79,6 +80,13 @@ impl PlainRun {
             None => Err(Halt::Fault(AppFault::Refused(2))),
             Some(object) => Ok(object.clone()?),
         }
+    }
+
+    /// What the name is bound to, where it is bound.
+    pub fn named(&self, name: &Name) -> Option<ObjectId>
+        ensures { result ≡ map.get (run_of self.now).world.names name.now }
+    {
+        latest(self.names.as_slice(), name).copied()
     }
 
     /// A new object, whose id is this run's number and its place among the run's objects.

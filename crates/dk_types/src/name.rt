@@ -41,6 +41,16 @@ pub enum NameRefused {
     NoMemory,
 }
 
+impl From<NoMemory> for NameRefused {
+    ghost use Rattle.dk_types.specs.declared.name.NameRefused.TheVariants as refused;
+
+    ghost from_gives = { λ _ e. e ≡ refused.NoMemory };
+
+    fn from(_: NoMemory) -> NameRefused {
+        NameRefused::NoMemory
+    }
+}
+
 impl Name {
     /// The name of these bytes.
     pub fn new(alloc: Global, bytes: &[u8]) -> Result<Name, NameRefused>
@@ -56,23 +66,21 @@ impl Name {
             });
         }
         match std::str::from_utf8(bytes) {
-            Ok(text) => Name::of_text(alloc, text),
+            Ok(text) => Ok(Name::from_text(alloc, text)?),
             Err(e) => Err(NameRefused::NotUtf8 {
                 at: e.valid_up_to() as u64,
             }),
         }
     }
 
-    fn of_text(alloc: Global, text: &str) -> Result<Name, NameRefused>
+    /// The name of a text that is neither empty nor too long.
+    pub fn from_text(alloc: Global, text: &str) -> Result<Name, NoMemory>
         requires some { 0 < length text.now }
         requires most { length text.now ≤ NAME_MOST_BYTES }
-        ensures ok { IfOk result (λ name. (name ≡ text.now) × IsName text.now) }
-        ensures refused { IfErr result (λ e. e ≡ NameRefused.NoMemory) }
+        ensures { IfOk result (λ name. (name ≡ text.now) × IsName text.now) }
     {
-        match Vec::from_slice(alloc, text.as_bytes()) {
-            Ok(bytes) => Ok(Name { bytes }),
-            Err(_) => Err(NameRefused::NoMemory),
-        }
+        let bytes = Vec::from_slice(alloc, text.as_bytes())?;
+        Ok(Name { bytes })
     }
 
     pub fn as_slice(&self) -> &[u8]
@@ -102,10 +110,7 @@ impl Name {
         if text.len() as u64 > NAME_MOST_BYTES {
             return Ok(None);
         }
-        match Name::of_text(alloc, text.as_str()) {
-            Ok(name) => Ok(Some(name)),
-            Err(_) => Err(NoMemory),
-        }
+        Ok(Some(Name::from_text(alloc, text.as_str())?))
     }
 }
 

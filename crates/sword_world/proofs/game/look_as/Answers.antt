@@ -1,0 +1,22 @@
+use Rattle.dk_plain.proofs.Parts.{halts, then_does, give_does, forgotten_here, refused_here, does_as, if_true_does, if_false_does}
+use Rattle.std.proofs.Common.{◌≡◌, sym, ap, ◌∙◌, refl, ◌++◌, ◌∷◌, [], List, ℕ, Option, None, ◌<◌, length, arith}
+use Rattle.std.specs.FinMap as map
+use Rattle.dk_types.specs.declared.number.ObjectId.{ObjectId}
+use Rattle.dk_model.specs.Runs.{Run, and_then, give, refuse}
+use Rattle.dk_plain.specs.Plains.{run_of}
+use Rattle.sword_world.specs.Things.{room_bytes, player_bytes}
+use Rattle.sword_world.specs.Rules as rules
+use Rattle.sword_world.specs.Rules.{look_as}
+use Rattle.sword_world.proofs.game.look_as.Goals as goal
+
+pub returns-in_err-me : goal.returns-in_err-me
+unfolding look_as
+returns-in_err-me c = halts _ c.in_err-me.ensures c.from_residual.ensures.1
+
+pub returns-in_err-_player : goal.returns-in_err-_player
+unfolding look_as
+returns-in_err-_player c = then_does _ c.in_ok-me.ensures (halts _ c.in_err-_player.ensures c.from_residual-in_err-_player.ensures.1)
+
+pub returns : goal.returns
+unfolding look_as
+returns c = then_does _ c.in_ok-me.ensures (then_does _ c.in_ok-_player.ensures c.look_round.ensures)

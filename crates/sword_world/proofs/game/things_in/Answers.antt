@@ -1,0 +1,12 @@
+use Rattle.dk_plain.proofs.Parts.{halts, then_does, give_does, forgotten_here, refused_here, does_as, if_true_does, if_false_does}
+use Rattle.std.proofs.Common.{◌≡◌, sym, ap, ◌∙◌, refl, ◌++◌, ◌∷◌, [], List, ℕ, Option, None, ◌<◌, length, arith}
+use Rattle.std.specs.FinMap as map
+use Rattle.dk_types.specs.declared.number.ObjectId.{ObjectId}
+use Rattle.dk_model.specs.Runs.{Run, and_then, give, refuse}
+use Rattle.dk_plain.specs.Plains.{run_of}
+use Rattle.sword_world.specs.Things.{room_bytes, player_bytes}
+use Rattle.sword_world.specs.Rules as rules
+use Rattle.sword_world.proofs.game.things_in.Goals as goal
+
+pub returns : goal.returns
+returns c = rw c.as_slice.ensures at c.labels_of.ensures
