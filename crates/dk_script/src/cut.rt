@@ -1,8 +1,8 @@
 //! A script's lines, and the words that they are made of.
-ghost use Rattle.std.specs.Prelude.{◌≡◌, ℕ, ◌<◌, ◌∷◌, ◌++◌, List, [], false, length, codes, IsTrue, ◌↔◌, IfSome, IfNone};
+ghost use Rattle.std.specs.Prelude.{◌≡◌, ℕ, ◌<◌, ◌∷◌, ◌++◌, List, [], false, length, codes, IsTrue, ◌↔◌, ◌==◌, IfSome, IfNone, position};
 ghost use Rattle.std.specs.List.{list_all};
 ghost use Rattle.dk_model.specs.Lines.{lines_of};
-ghost use Rattle.dk_model.specs.Scripts.{IsLoginName, IsText, is_left_out};
+ghost use Rattle.dk_model.specs.Scripts.{IsLoginName, IsText, is_left_out, is_name_byte, is_text_byte};
 
 use dk_model::limits::BODY_MOST_BYTES;
 
@@ -15,10 +15,17 @@ pub(crate) fn cut_line(bytes: &[u8]) -> (&[u8], &[u8])
     ensures cut { lines_of bytes.now ≡ result.0.now ∷ lines_of result.1.now }
     ensures shorter { length result.1.now < length bytes.now }
 {
-    match bytes.iter().position(|b| *b == b'\n') {
+    match line_end(bytes) {
         None => (bytes, &bytes[bytes.len()..]),
         Some(at) => (&bytes[..at], &bytes[at + 1..]),
     }
+}
+
+/// The place of the first byte 0A.
+fn line_end(bytes: &[u8]) -> Option<usize>
+    ensures { result ≡ position (λ b. b == 10) bytes.now }
+{
+    bytes.iter().position(|b| *b == b'\n')
 }
 
 /// The name of a line `login NAME`.
@@ -48,15 +55,25 @@ pub(crate) fn send_text<'a>(line: &'a [u8], name: &[u8]) -> Option<&'a [u8]>
 fn is_login_name(name: &[u8]) -> bool
     ensures { IsTrue result ↔ IsLoginName name.now }
 {
-    !name.is_empty()
-        && name.len() <= LOGIN_NAME_MOST_BYTES
-        && name.iter().all(|b| *b >= 0x21 && *b <= 0x7E)
+    !name.is_empty() && name.len() <= LOGIN_NAME_MOST_BYTES && are_name_bytes(name)
+}
+
+fn are_name_bytes(bytes: &[u8]) -> bool
+    ensures { result ≡ list_all is_name_byte bytes.now }
+{
+    bytes.iter().all(|b| *b >= 0x21 && *b <= 0x7E)
 }
 
 fn is_text(text: &[u8]) -> bool
     ensures { IsTrue result ↔ IsText text.now }
 {
-    text.len() as u64 <= BODY_MOST_BYTES && text.iter().all(|b| *b >= 0x20 && *b <= 0x7E)
+    text.len() as u64 <= BODY_MOST_BYTES && are_text_bytes(text)
+}
+
+fn are_text_bytes(bytes: &[u8]) -> bool
+    ensures { result ≡ list_all is_text_byte bytes.now }
+{
+    bytes.iter().all(|b| *b >= 0x20 && *b <= 0x7E)
 }
 
 /// The text is a command that the game does not have yet.

@@ -1,7 +1,7 @@
 //! The lines of events.
 ghost use Rattle.std.specs.Prelude.{◌≡◌, ◌∷◌, ◌++◌, [], map, OnOk, string_bytes};
 ghost use Rattle.dk_model.specs.Lines.{text_of};
-ghost use Rattle.dk_model.specs.Transcripts.{connect_lines, post_lines, claim_lines, to_line, event_lines, lines_of_events, known_after};
+ghost use Rattle.dk_model.specs.Transcripts.{conn_line, connect_lines, post_lines, claim_lines, to_line, event_lines, lines_of_events, known_after};
 ghost use Rattle.dk_script.specs.Knowledge.{known_of};
 
 use crate::item_text::{push_conn, push_job, push_out, push_outcome};

@@ -1,5 +1,6 @@
 //! Jobs, outcomes and messages as they are written in a line.
 ghost use Rattle.std.specs.Prelude.{◌≡◌, ℕ, ◌∷◌, ◌++◌, OnOk, string_bytes};
+ghost use Rattle.dk_model.specs.Lines.{escaped};
 ghost use Rattle.dk_model.specs.Orders.{job_text, outcome_text};
 ghost use Rattle.dk_model.specs.Transcripts.{out_text, conn_line};
 

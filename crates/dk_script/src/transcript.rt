@@ -1,5 +1,6 @@
 //! The text of a history by phases.
-ghost use Rattle.std.specs.Prelude.{◌≡◌, ℕ, ◌≤◌, ◌++◌, length, All, IsNonDecreasing, IfOk, OnOk, string_bytes};
+ghost use Rattle.std.specs.Prelude.{◌≡◌, ℕ, ◌≤◌, ◌++◌, length, All, IfOk, OnOk, string_bytes};
+ghost use Rattle.std.specs.List.Sorted.{IsNonDecreasing};
 ghost use Rattle.dk_model.specs.Lines.{text_of};
 ghost use Rattle.dk_model.specs.Phases.{phases_of};
 ghost use Rattle.dk_model.specs.Transcripts.{lines_of_phases, transcript_text};
