@@ -42,9 +42,9 @@ pub(crate) fn send_text<'a>(line: &'a [u8], name: &[u8]) -> Option<&'a [u8]>
     ensures found { IfSome result (λ text. (line.now ≡ codes "send " ++ name.now ++ 32 ∷ text.now) × IsText text.now × (is_left_out text.now ≡ false)) }
     ensures none { IfNone result ((text : List ℕ) → line.now ≡ codes "send " ++ name.now ++ 32 ∷ text → IsText text → is_left_out text ≡ false → ⊥) }
 {
-    let rest = line.strip_prefix(b"send ".as_slice())?;
-    let rest = rest.strip_prefix(name)?;
-    let text = rest.strip_prefix(b" ".as_slice())?;
+    let named = line.strip_prefix(b"send ".as_slice())?;
+    let spaced = named.strip_prefix(name)?;
+    let text = spaced.strip_prefix(b" ".as_slice())?;
     if is_text(text) && !is_command_to_come(text) {
         Some(text)
     } else {

@@ -107,6 +107,8 @@ fn copied_name(alloc: Global, bytes: &[u8]) -> Result<Name, NoMemory>
     match Name::new(alloc, bytes) {
         Ok(name) => Ok(name),
         Err(NameRefused::NoMemory) => Err(NoMemory),
-        Err(_) => unreachable!(),
+        Err(NameRefused::Empty) => unreachable!(),
+        Err(NameRefused::TooLong { .. }) => unreachable!(),
+        Err(NameRefused::NotUtf8 { .. }) => unreachable!(),
     }
 }
