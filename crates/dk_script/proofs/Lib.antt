@@ -3,3 +3,7 @@ pub mod Prefixes
 pub mod NamesOf
 pub mod NameBytes
 pub mod HexBytes
+pub mod Reading
+pub mod Written
+pub mod Lacking
+pub mod FirstWords

@@ -96,10 +96,16 @@ fn push_hand(out: &mut String, conn: ConnNo, name: &[u8], outs: &[Out]) -> Resul
     ensures ok { OnOk result (string_bytes out.new ≡ string_bytes out.old ++ text_of (map (to_line conn name.now) outs.now)) }
 {
     for message in outs {
-        push_conn(out, "to", conn, name)?;
-        out.push(' ')?;
-        push_out(out, message)?;
-        end_line(out)?;
+        push_to_line(out, conn, name, message)?;
     }
     Ok(())
+}
+
+fn push_to_line(out: &mut String, conn: ConnNo, name: &[u8], message: &Out) -> Result<(), NoMemory>
+    ensures ok { OnOk result (string_bytes out.new ≡ string_bytes out.old ++ (to_line conn name.now message.now ++ 10 ∷ [])) }
+{
+    push_conn(out, "to", conn, name)?;
+    out.push(' ')?;
+    push_out(out, message)?;
+    end_line(out)
 }

@@ -67,7 +67,7 @@ pub fn parse_first_script(alloc: Global, bytes: &[u8]) -> Result<Script, ScriptR
     };
     lines.push(login_line(alloc, name)?)?;
     let mut rest = after;
-    while !rest.is_empty() {
+    'sends: while !rest.is_empty() {
         let (line, after) = cut_line(rest);
         if lines.len() as u64 >= INPUTS_MOST_COUNT {
             return Err(ScriptRefused::NotYet);
