@@ -7,3 +7,5 @@ pub mod Reading
 pub mod Written
 pub mod Lacking
 pub mod FirstWords
+pub mod LinesTold
+pub mod OrderTold
