@@ -45,13 +45,13 @@ known_after-drop_all known all events i past before = sym (at_drop_all (known_af
 -- a phase begins before the next, and ends within the events
 pub phase_end-bounds : (events : List Event) (marks : List ℕ) (i : ℕ) → IsNonDecreasing marks → All (λ mark. mark ≤ length events) marks → i < length marks → (get_or marks i 0 ≤ phase_end events (drop (i + 1) marks)) × (phase_end events (drop (i + 1) marks) ≤ length events)
 phase_end-bounds events marks i ordered within here = elim (cases_lt (i + 1) (length marks)) [
-    | inl next ↦
-        let e = at_drop_more (phase_end events) marks (i + 1) 0 next in
-        rw e (ordered i (i + 1) 0 (omega arith) next, within (i + 1) 0 next)
-    | inr last ↦
-        let e = at_drop_all (phase_end events) marks (i + 1) last in
-        rw e (within i 0 here, omega arith)
-  ]
+  | inl next ↦
+      let e = at_drop_more (phase_end events) marks (i + 1) 0 next in
+      rw e (ordered i (i + 1) 0 (omega arith) next, within (i + 1) 0 next)
+  | inr last ↦
+      let e = at_drop_all (phase_end events) marks (i + 1) last in
+      rw e (within i 0 here, omega arith)
+]
 
 regroup : (a b c d : List ℕ) → ((a ++ b) ++ c) ++ d ≡ a ++ (b ++ (c ++ d))
 regroup a b c d = simp append_assoc

@@ -9,7 +9,11 @@ use crate::known::Known;
 use dk_types::{ClaimReply, ConnNo, ConnectReply, Event, NoMemory, Out, PostReply};
 
 /// Appends the lines of events that happen one after another, and takes note of what they tell.
-pub(crate) fn push_events(out: &mut String, known: &mut Known, events: &[Event]) -> Result<(), NoMemory>
+pub(crate) fn push_events(
+    out: &mut String,
+    known: &mut Known,
+    events: &[Event],
+) -> Result<(), NoMemory>
     ensures text { OnOk result (string_bytes out.new ≡ string_bytes out.old ++ text_of (lines_of_events (known_of known.old) events.now)) }
     ensures known { OnOk result (known_of known.new ≡ known_after (known_of known.old) events.now) }
 {
@@ -29,7 +33,10 @@ fn push_event(out: &mut String, known: &Known, event: &Event) -> Result<(), NoMe
         Event::Claim { reply, .. } => push_claim(out, reply),
         Event::Release { .. } => Ok(()),
         Event::Commit {
-            run, seq, outcome, ..
+            run,
+            seq,
+            outcome,
+            ..
         } => {
             write!(out, "commit {seq} run {} ", run.0)?;
             push_outcome(out, *outcome)?;

@@ -8,7 +8,12 @@ use crate::text::push_escaped;
 use dk_types::{AppFault, ConnNo, Job, Name, NoMemory, Out, Outcome};
 
 /// Appends `WORD CONN NAME`.
-pub(crate) fn push_conn(out: &mut String, word: &str, conn: ConnNo, name: &[u8]) -> Result<(), NoMemory>
+pub(crate) fn push_conn(
+    out: &mut String,
+    word: &str,
+    conn: ConnNo,
+    name: &[u8],
+) -> Result<(), NoMemory>
     ensures ok { OnOk result (string_bytes out.new ≡ string_bytes out.old ++ conn_line word.now conn name.now) }
 {
     write!(out, "{word} {} ", conn.0)?;

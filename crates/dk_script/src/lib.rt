@@ -9,11 +9,11 @@ pub use laws::order_is_told;
 pub use script::{Script, ScriptRefused, parse_first_script};
 pub use transcript::transcript_of;
 
-mod cut;
 mod event_text;
 mod item_text;
 mod known;
 pub mod laws;
+mod lines;
 pub mod script;
 #[cfg(test)]
 mod tests;

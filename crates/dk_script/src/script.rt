@@ -4,14 +4,14 @@ ghost use Rattle.dk_model.specs.declared.script.Line.{Line};
 ghost use Rattle.dk_model.specs.declared.script.Line.TheVariants.{Login, Send};
 ghost use Rattle.dk_model.specs.Scripts.{IsFirstScript, IsLoginName};
 
-use crate::cut::{cut_line, login_name, send_text};
+use crate::lines::{cut_line, login_name, send_text};
 use dk_model::Line;
 use dk_model::limits::{INPUTS_MOST_COUNT, SCRIPT_MOST_BYTES};
 use dk_types::{Blob, Listed, Name, NameRefused, NoMemory};
 use std::alloc::{AllocError, AllocFailed, Global};
 
 /// The lines of a script, in their order.
-#[derive(Debug, Drop)]
+#[derive(Debug, Drop, PartialEq, Eq)]
 pub struct Script {
     pub lines: Listed<Line>,
 }

@@ -13,7 +13,13 @@ use std::alloc::Global;
 
 /// The transcript of the events. A mark is the place of a phase's first event; `commits` and `tasks`
 /// are the durable world's numbers at the end.
-pub fn transcript_of(alloc: Global, events: &[Event], marks: &[u64], commits: u64, tasks: u64) -> Result<Blob, NoMemory>
+pub fn transcript_of(
+    alloc: Global,
+    events: &[Event],
+    marks: &[u64],
+    commits: u64,
+    tasks: u64,
+) -> Result<Blob, NoMemory>
     requires ordered { IsNonDecreasing marks.now }
     requires within { All (λ mark. mark ≤ length events.now) marks.now }
     ensures { IfOk result (λ text. text ≡ transcript_text (phases_of events.now marks.now) commits tasks) }
@@ -25,7 +31,12 @@ pub fn transcript_of(alloc: Global, events: &[Event], marks: &[u64], commits: u6
     Ok(Blob::from_vec(out.into_bytes()))
 }
 
-fn push_phases(out: &mut String, known: &mut Known, events: &[Event], marks: &[u64]) -> Result<(), NoMemory>
+fn push_phases(
+    out: &mut String,
+    known: &mut Known,
+    events: &[Event],
+    marks: &[u64],
+) -> Result<(), NoMemory>
     requires ordered { IsNonDecreasing marks.now }
     requires within { All (λ mark. mark ≤ length events.now) marks.now }
     ensures ok { OnOk result (string_bytes out.new ≡ string_bytes out.old ++ text_of (lines_of_phases 0 (known_of known.old) (phases_of events.now marks.now))) }

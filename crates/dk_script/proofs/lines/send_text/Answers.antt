@@ -1,6 +1,6 @@
 use Rattle.std.proofs.Common.{◌≡◌, ℕ, List, ◌∷◌, ◌++◌, [], length, drop, refl, ap, sym, ◌∙◌}
 use Rattle.dk_script.proofs.Prefixes.{stripped, not_stripped}
-use Rattle.dk_script.proofs.cut.send_text.Goals as goal
+use Rattle.dk_script.proofs.lines.send_text.Goals as goal
 
 pub returns-in_err-spaced-clause-none : goal.returns-in_err-spaced-clause-none
 returns-in_err-spaced-clause-none c =

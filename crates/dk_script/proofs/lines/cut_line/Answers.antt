@@ -1,6 +1,6 @@
 use Rattle.std.proofs.Common.{◌+◌}
 use Rattle.dk_script.proofs.LinesOf.{lines_of-at, lines_of-none, take-rest, take-none}
-use Rattle.dk_script.proofs.cut.cut_line.Goals as goal
+use Rattle.dk_script.proofs.lines.cut_line.Goals as goal
 
 pub returns-in-None-clause-cut : goal.returns-in-None-clause-cut
 returns-in-None-clause-cut c =

@@ -34,7 +34,11 @@ pub(crate) fn login_name(line: &[u8]) -> Option<&[u8]>
     ensures none { IfNone result ((name : List ℕ) → line.now ≡ codes "login " ++ name → IsLoginName name → ⊥) }
 {
     let name = line.strip_prefix(b"login ".as_slice())?;
-    if is_login_name(name) { Some(name) } else { None }
+    if is_login_name(name) {
+        Some(name)
+    } else {
+        None
+    }
 }
 
 /// The text of a line `send NAME TEXT` of this name, where it may be sent.
