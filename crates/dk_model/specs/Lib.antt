@@ -15,4 +15,5 @@ pub mod Histories
 pub mod Scripts
 pub mod Lines
 pub mod Orders
+pub mod Phases
 pub mod Transcripts

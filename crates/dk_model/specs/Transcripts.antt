@@ -52,6 +52,10 @@ out_text (out.Message body) = codes "message " ++ escaped body
 out_text (out.Channel channel body) = codes "channel " ++ escaped channel ++ 32 ∷ escaped body
 out_text out.Close = codes "close"
 
+-- `to CONN NAME OUT`
+abbrev pub to_line : ConnNo → List ℕ → Out → List ℕ
+to_line conn name message = conn_line (codes "to") conn name ++ 32 ∷ out_text message
+
 abbrev pub connect_lines : List ℕ → ConnectReply → List (List ℕ)
 connect_lines name (connected.Number conn) = conn_line (codes "open") conn name ∷ []
 connect_lines name (connected.Exhausted next) = []
@@ -74,7 +78,7 @@ event_lines known (event.Post pass conn input reply) = post_lines (name_at known
 event_lines known (event.Claim pass reply) = claim_lines reply
 event_lines known (event.Release pass run) = []
 event_lines known (event.Commit pass run seq outcome) = (codes "commit " ++ decimal seq ++ codes " run " ++ decimal run.0 ++ 32 ∷ outcome_text outcome) ∷ []
-event_lines known (event.Hand pass conn most outs end) = map (λ o. conn_line (codes "to") conn (name_at known conn) ++ 32 ∷ out_text o) outs
+event_lines known (event.Hand pass conn most outs end) = map (to_line conn (name_at known conn)) outs
 event_lines known (event.Tick pass moment) = (codes "tick " ++ decimal (max known.moment (min moment MOMENT_MOST_MS))) ∷ []
 
 abbrev pub named : Known → List ℕ → ConnectReply → Known

@@ -1,0 +1,11 @@
+pub mod LinesOf
+pub mod Prefixes
+pub mod NamesOf
+pub mod NameBytes
+pub mod HexBytes
+pub mod Reading
+pub mod Written
+pub mod Lacking
+pub mod FirstWords
+pub mod LinesTold
+pub mod OrderTold
