@@ -12,5 +12,6 @@ pub use writer::Writer;
 
 pub mod payload;
 pub mod reader;
+mod reading;
 pub mod refused;
 pub mod writer;

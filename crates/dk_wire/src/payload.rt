@@ -47,49 +47,49 @@ impl<'a> Reader<'a> {
         ensures { Gives next_u8 self.old result self.new }
     {
         let at = self.at();
-        told(at, self.take_u8())
+        told(at, self.read_u8())
     }
 
     pub fn next_u16(&mut self) -> Result<u16, PayloadRefused>
         ensures { Gives next_u16 self.old result self.new }
     {
         let at = self.at();
-        told(at, self.take_u16())
+        told(at, self.read_u16())
     }
 
     pub fn next_u32(&mut self) -> Result<u32, PayloadRefused>
         ensures { Gives next_u32 self.old result self.new }
     {
         let at = self.at();
-        told(at, self.take_u32())
+        told(at, self.read_u32())
     }
 
     pub fn next_u64(&mut self) -> Result<u64, PayloadRefused>
         ensures { Gives next_u64 self.old result self.new }
     {
         let at = self.at();
-        told(at, self.take_u64())
+        told(at, self.read_u64())
     }
 
     pub fn next_name(&mut self, alloc: Global) -> Result<Name, PayloadRefused>
         ensures { Gives next_name self.old result self.new }
     {
         let at = self.at();
-        told(at, self.take_name(alloc))
+        told(at, self.read_name(alloc))
     }
 
     pub fn next_blob(&mut self, alloc: Global, most: u32) -> Result<Blob, PayloadRefused>
         ensures { Gives (next_blob most) self.old result self.new }
     {
         let at = self.at();
-        told(at, self.take_blob(alloc, most))
+        told(at, self.read_blob(alloc, most))
     }
 
     pub fn next_id(&mut self) -> Result<ObjectId, PayloadRefused>
         ensures { Gives next_id self.old result self.new }
     {
         let at = self.at();
-        told(at, self.take_id())
+        told(at, self.read_id())
     }
 
     /// Refuses the place where bytes are left. Takes no memory.

@@ -5,4 +5,4 @@ use Rattle.dk_wire.proofs.reader.Reader.next_id.Goals as goal
 
 pub returns : goal.returns
 unfolding next_id
-returns c = told_gives id_at c.args.self.now c.at-at.result c.take_id.result c.take_id.new.self c.told.result c.at-at.ensures c.told.ensures c.take_id.ensures
+returns c = told_gives id_at c.args.self.now c.at-at.result c.read_id.result c.read_id.new.self c.told.result c.at-at.ensures c.told.ensures c.read_id.ensures.reads

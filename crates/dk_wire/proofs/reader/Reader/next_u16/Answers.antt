@@ -5,4 +5,4 @@ use Rattle.dk_wire.proofs.reader.Reader.next_u16.Goals as goal
 
 pub returns : goal.returns
 unfolding next_u16
-returns c = told_gives u16_at c.args.self.now c.at-at.result c.take_u16.result c.take_u16.new.self c.told.result c.at-at.ensures c.told.ensures c.take_u16.ensures
+returns c = told_gives u16_at c.args.self.now c.at-at.result c.read_u16.result c.read_u16.new.self c.told.result c.at-at.ensures c.told.ensures c.read_u16.ensures.reads

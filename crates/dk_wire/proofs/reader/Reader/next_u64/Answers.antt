@@ -5,4 +5,4 @@ use Rattle.dk_wire.proofs.reader.Reader.next_u64.Goals as goal
 
 pub returns : goal.returns
 unfolding next_u64
-returns c = told_gives u64_at c.args.self.now c.at-at.result c.take_u64.result c.take_u64.new.self c.told.result c.at-at.ensures c.told.ensures c.take_u64.ensures
+returns c = told_gives u64_at c.args.self.now c.at-at.result c.read_u64.result c.read_u64.new.self c.told.result c.at-at.ensures c.told.ensures c.read_u64.ensures.reads
