@@ -3,3 +3,4 @@ pub mod Numbers
 pub mod FieldLaws
 pub mod ExactLaws
 pub mod PayloadLaws
+pub mod Loop

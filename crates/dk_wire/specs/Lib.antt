@@ -3,3 +3,4 @@ pub mod Fields
 pub mod Reading
 pub mod Exact
 pub mod Payload
+pub mod Lists

@@ -5,11 +5,13 @@
 //! compositions of these fields: `specs/` has the words and `proofs/` the lemmas for records and counted lists.
 #![tactic(auto)]
 
+pub use form::Form;
 pub use payload::PayloadRefused;
 pub use reader::Reader;
 pub use refused::WireRefused;
 pub use writer::Writer;
 
+pub mod form;
 pub mod payload;
 pub mod reader;
 mod reading;

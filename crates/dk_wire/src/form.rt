@@ -1,0 +1,76 @@
+//! Counted lists of items of any form.
+ghost use Rattle.std.specs.Prelude.{◌≡◌, ◌++◌, ℕ, List, Option, None, Result, OnOk};
+ghost use Rattle.std.specs.Option.{option_copied};
+ghost use Rattle.dk_wire.specs.Rest.{Rest};
+ghost use Rattle.dk_wire.specs.Exact.{IsExact};
+ghost use Rattle.dk_wire.specs.Payload.{Gives};
+ghost use Rattle.dk_wire.specs.Lists.{IsList, list_spelling, items_at, list_at};
+
+use crate::payload::PayloadRefused;
+use crate::reader::Reader;
+use crate::writer::Writer;
+use dk_types::{Listed, NoMemory};
+use std::alloc::Global;
+
+/// A form in which values of `T` stand in a list. Whoever lists values of a type names a form of it, a type without
+/// values or fields of its own, so that one type may have several.
+pub trait Form<T> {
+    // what may stand behind the item before it, if there is one
+    ghost fits: { Option T → T → Type 0 };
+
+    ghost spelling: { T → List ℕ };
+
+    // behind the item before it
+    ghost reading: { Option T → Rest → Result (T × Rest) ℕ };
+
+    /// Puts an item.
+    fn put(writer: &mut Writer, item: &T) -> Result<(), NoMemory>
+        requires { (before : Option T) × fits before item.now }
+        ensures { OnOk result (writer.new ≡ writer.old ++ spelling item.now) };
+
+    /// Takes an item that stands behind `before`.
+    fn take(alloc: Global, reader: &mut Reader<'_>, before: Option<&T>) -> Result<T, PayloadRefused>
+        ensures { Gives (reading (option_copied before.entry)) reader.old result reader.new };
+
+    // what is put is taken again, and nothing else is taken
+    ghost exact: { (before : Option T) → IsExact (fits before) spelling (reading before) };
+}
+
+/// Puts the number of the items, and the items.
+pub fn put_list<T, F: Form<T>>(writer: &mut Writer, items: &[T]) -> Result<(), NoMemory>
+    requires { IsList F.fits items.now }
+    ensures { OnOk result (writer.new ≡ writer.old ++ list_spelling F.spelling items.now) }
+{
+    writer.put_u32(items.len() as u32)?;
+    for item in items {
+        F::put(writer, item)?;
+    }
+    Ok(())
+}
+
+/// Takes a list: its count, and that many items, each behind the one before it.
+#[tactic(auto, unfolding(crate::specs::Lists::list_at))]
+pub fn take_list<T: Drop, F: Form<T>>(
+    alloc: Global,
+    reader: &mut Reader<'_>,
+) -> Result<Listed<T>, PayloadRefused>
+    ensures { Gives (list_at F.reading) reader.old result reader.new }
+{
+    let count = reader.next_u32()?;
+    take_items::<T, F>(alloc, reader, count)
+}
+
+fn take_items<T: Drop, F: Form<T>>(
+    alloc: Global,
+    reader: &mut Reader<'_>,
+    count: u32,
+) -> Result<Listed<T>, PayloadRefused>
+    ensures { Gives (items_at F.reading None count) reader.old result reader.new }
+{
+    let mut items: Vec<T> = Vec::new(alloc);
+    for _ in 0..count {
+        let item = F::take(alloc, reader, items.last())?;
+        items.push(item)?;
+    }
+    Ok(Listed::from_vec(items))
+}
