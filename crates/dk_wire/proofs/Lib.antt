@@ -4,3 +4,7 @@ pub mod FieldLaws
 pub mod ExactLaws
 pub mod PayloadLaws
 pub mod Loop
+pub mod Composing
+pub mod NextLaws
+pub mod ListLaws
+pub mod WholeLaws

@@ -4,3 +4,4 @@ pub mod Reading
 pub mod Exact
 pub mod Payload
 pub mod Lists
+pub mod Lengths

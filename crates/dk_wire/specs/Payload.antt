@@ -74,3 +74,9 @@ GivesBy view reading old (Err e) new = Misses e (reading old)
 abbrev pub Gives : {A : Type 0} → (Rest → Result (A × Rest) ℕ) → Rest → Result A PayloadRefused → Rest → Type 0
 Gives reading old (Ok x) new = reading old ≡ Ok (x, new)
 Gives reading old (Err e) new = Misses e (reading old)
+
+-- What a whole payload was decoded to, where reading is exact. Ok: a value that fits, and the payload is its spelling. Refused for another cause than memory: the payload spells no value that fits, and the place is that of the first fault.
+abbrev pub Decodes : {A : Type 0} → (A → Type 0) → (A → List ℕ) → (Rest → Result (A × Rest) ℕ) → List ℕ → Result A PayloadRefused → Type 0
+Decodes Fits spelling reading payload (Ok x) = Fits x × (payload ≡ spelling x)
+Decodes Fits spelling reading payload (Err NoMemory) = Unit {0}
+Decodes {A} Fits spelling reading payload (Err (NotInGrammar at)) = (whole reading payload ≡ Err at) × ((x : A) → Fits x → payload ≡ spelling x → ⊥)

@@ -1,15 +1,15 @@
 //! Counted lists of items of any form.
-ghost use Rattle.std.specs.Prelude.{◌≡◌, ◌++◌, ℕ, List, Option, None, Result, OnOk};
+ghost use Rattle.std.specs.Prelude.{◌≡◌, ◌++◌, ℕ, List, Option, None, Result, Ok, OnOk, IfOk, MatchResult};
 ghost use Rattle.std.specs.Option.{option_copied};
 ghost use Rattle.dk_wire.specs.Rest.{Rest};
 ghost use Rattle.dk_wire.specs.Exact.{IsExact};
-ghost use Rattle.dk_wire.specs.Payload.{Gives};
+ghost use Rattle.dk_wire.specs.Payload.{Gives, Misses, Decodes, whole};
 ghost use Rattle.dk_wire.specs.Lists.{IsList, list_spelling, items_at, list_at};
 
 use crate::payload::PayloadRefused;
 use crate::reader::Reader;
 use crate::writer::Writer;
-use dk_types::{Listed, NoMemory};
+use dk_types::{Blob, Listed, NoMemory};
 use std::alloc::Global;
 
 /// A form in which values of `T` stand in a list. Whoever lists values of a type names a form of it, a type without
@@ -34,6 +34,33 @@ pub trait Form<T> {
 
     // what is put is taken again, and nothing else is taken
     ghost exact: { (before : Option T) → IsExact (fits before) spelling (reading before) };
+}
+
+/// The spelling of a value.
+pub fn encode<T, F: Form<T>>(alloc: Global, value: &T) -> Result<Blob, NoMemory>
+    requires { F.fits None value.now }
+    ensures { IfOk result (λ payload. payload ≡ F.spelling value.now) }
+{
+    let mut writer = Writer::new(alloc);
+    F::put(&mut writer, value)?;
+    Ok(writer.finish())
+}
+
+/// The value that a whole payload spells.
+pub fn decode<T: Drop, F: Form<T>>(alloc: Global, payload: &[u8]) -> Result<T, PayloadRefused>
+    ensures { Decodes (F.fits None) F.spelling (F.reading None) payload.now result }
+{
+    decode_any::<T, F>(alloc, payload)
+}
+
+fn decode_any<T: Drop, F: Form<T>>(alloc: Global, payload: &[u8]) -> Result<T, PayloadRefused>
+    ensures { MatchResult result (λ x. whole (F.reading None) payload.now ≡ Ok x) (λ e. Misses e (whole (F.reading None) payload.now)) }
+{
+    let mut reader = Reader::new(payload);
+    let before: Option<T> = None;
+    let value = F::take(alloc, &mut reader, before.as_ref())?;
+    reader.next_end()?;
+    Ok(value)
 }
 
 /// Puts the number of the items, and the items.

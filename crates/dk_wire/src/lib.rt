@@ -5,13 +5,15 @@
 //! compositions of these fields: `specs/` has the words and `proofs/` the lemmas for records and counted lists.
 #![tactic(auto)]
 
-pub use form::Form;
+pub use form::{Form, decode, encode, put_list, take_list};
 pub use payload::PayloadRefused;
 pub use reader::Reader;
 pub use refused::WireRefused;
 pub use writer::Writer;
 
 pub mod form;
+pub mod laws;
+pub mod lengths;
 pub mod payload;
 pub mod reader;
 mod reading;
