@@ -8,3 +8,4 @@ pub mod Composing
 pub mod NextLaws
 pub mod ListLaws
 pub mod WholeLaws
+pub mod LengthLaws

@@ -48,7 +48,8 @@ module _ {A : Type 0} (Fits : Option A → A → Type 0) (spelling : A → List 
         let both = Takes-then old (u32_spelling a.0.0) a.0.1 (flat_map spelling xs) new first.1 second.2 in
         (record { count = omega (arith, first.0, second.0); each = second.1 }, subst (λ (n : ℕ). Takes old (u32_spelling n ++ flat_map spelling xs) new) (sym second.0) both);
     again = λ at xs behind is.
-        rw (next_u32_exact.again at (length xs) (flat_map spelling xs ++ behind) is.count, items_again None (at + 4) xs behind is.each) (ap (λ (p : ℕ). Ok (xs, record { at = p; bytes = behind })) (omega (arith, length-append (u32_spelling (length xs)) (flat_map spelling xs))));
+        ap (λ (bytes : List ℕ). list_at item (record { at = at; bytes = bytes })) (append_assoc (u32_spelling (length xs)) (flat_map spelling xs) behind)
+        ∙ rw (next_u32_exact.again at (length xs) (flat_map spelling xs ++ behind) is.count, items_again None (at + length (u32_spelling (length xs))) xs behind is.each) (ap (λ (p : ℕ). Ok (xs, record { at = p; bytes = behind })) (omega (arith, length-append (u32_spelling (length xs)) (flat_map spelling xs))));
   }
 
 -- a chain without an order is a list of items that fit

@@ -18,20 +18,20 @@ abbrev pub IsU64 : ℕ → Type 0
 IsU64 n = n < 2 ^ 64
 
 -- a number is one, two, four or eight bytes, the highest first
-abbrev pub u8_spelling : ℕ → List ℕ
+unfoldable pub u8_spelling : ℕ → List ℕ
 u8_spelling n = n ∷ []
 
-abbrev pub u16_spelling : ℕ → List ℕ
+unfoldable pub u16_spelling : ℕ → List ℕ
 u16_spelling n = to_be_bytes w16 n
 
-abbrev pub u32_spelling : ℕ → List ℕ
+unfoldable pub u32_spelling : ℕ → List ℕ
 u32_spelling n = to_be_bytes w32 n
 
-abbrev pub u64_spelling : ℕ → List ℕ
+unfoldable pub u64_spelling : ℕ → List ℕ
 u64_spelling n = to_be_bytes w64 n
 
 -- a name is one byte that counts its bytes, and these
-abbrev pub name_spelling : List ℕ → List ℕ
+unfoldable pub name_spelling : List ℕ → List ℕ
 name_spelling name = length name ∷ name
 
 -- a blob under a limit
@@ -39,7 +39,7 @@ abbrev pub IsBlob : ℕ → List ℕ → Type 0
 IsBlob most blob = length blob ≤ most
 
 -- a blob is a number of 32 bits that counts its bytes, and these
-abbrev pub blob_spelling : List ℕ → List ℕ
+unfoldable pub blob_spelling : List ℕ → List ℕ
 blob_spelling blob = u32_spelling (length blob) ++ blob
 
 -- the ids of objects that a run can make: its number is below 2 ^ 62
@@ -48,5 +48,5 @@ pub record IsId (id : ObjectId) : Type 0 where
   pub k : IsU32 id.k
 
 -- an id is its run's number in 64 bits, and its place in 32
-abbrev pub id_spelling : ObjectId → List ℕ
+unfoldable pub id_spelling : ObjectId → List ℕ
 id_spelling id = u64_spelling id.run.0 ++ u32_spelling id.k
