@@ -3,7 +3,8 @@ use Rattle.std.proofs.Common.{◌≡◌, ℕ, ◌+◌, List, ◌++◌, length, r
 use Rattle.std.specs.List.{flat_map, sum_by}
 use Rattle.std.proofs.lemmas.List.Concat.{length-flat_map}
 use Rattle.dk_types.specs.declared.number.ObjectId.{ObjectId}
-use Rattle.dk_wire.specs.Fields.{u8_spelling, u16_spelling, u32_spelling, u64_spelling, name_spelling, blob_spelling, id_spelling}
+use Rattle.dk_types.specs.declared.number.TaskKey.{TaskKey}
+use Rattle.dk_wire.specs.Fields.{u8_spelling, u16_spelling, u32_spelling, u64_spelling, name_spelling, blob_spelling, id_spelling, key_spelling, id_of_key}
 use Rattle.dk_wire.specs.Lists.{list_spelling}
 use Rattle.dk_wire.specs.Lengths.{name_length, blob_length, list_length}
 
@@ -34,6 +35,10 @@ length-blob blob = omega (arith, length-append (u32_spelling (length blob)) blob
 pub length-id : (id : ObjectId) → length (id_spelling id) ≡ 12
 unfolding id_spelling
 length-id id = omega (arith, length-append (u64_spelling id.run.0) (u32_spelling id.k), length-u64 id.run.0, length-u32 id.k)
+
+pub length-key : (key : TaskKey) → length (key_spelling key) ≡ 12
+unfolding key_spelling
+length-key key = length-id (id_of_key key)
 
 -- a list's length is that of its count and of its items
 pub length-list : {A : Type 0} (spelling : A → List ℕ) (xs : List A) → length (list_spelling spelling xs) ≡ list_length (λ x. length (spelling x)) xs

@@ -1,12 +1,12 @@
 -- The fields of a payload are read exactly.
-use Rattle.std.proofs.Common.{ℕ, ◌^◌, ◌<◌}
+use Rattle.std.proofs.Common.{ℕ, ◌^◌, ◌<◌, refl}
 use Rattle.dk_types.specs.Names.{IsName}
-use Rattle.dk_wire.specs.Fields.{IsU8, IsU16, IsU32, IsU64, IsBlob, IsId, u8_spelling, u16_spelling, u32_spelling, u64_spelling, name_spelling, blob_spelling, id_spelling}
+use Rattle.dk_wire.specs.Fields.{IsU8, IsU16, IsU32, IsU64, IsBlob, IsId, IsKey, id_of_key, key_of_id, u8_spelling, u16_spelling, u32_spelling, u64_spelling, name_spelling, blob_spelling, id_spelling, key_spelling}
 use Rattle.dk_wire.specs.Reading.{u8_at, u16_at, u32_at, u64_at, name_at, blob_at, id_at}
 use Rattle.dk_wire.specs.Exact.{IsExact}
-use Rattle.dk_wire.specs.Payload.{next_u8, next_u16, next_u32, next_u64, next_name, next_blob, next_id}
+use Rattle.dk_wire.specs.Payload.{next_u8, next_u16, next_u32, next_u64, next_name, next_blob, next_id, next_key}
 use Rattle.dk_wire.proofs.FieldLaws.{u8_exact, u16_exact, u32_exact, u64_exact, name_exact, blob_exact, id_exact}
-use Rattle.dk_wire.proofs.Composing.{placed_exact}
+use Rattle.dk_wire.proofs.Composing.{placed_exact, last_exact}
 
 pub next_u8_exact : IsExact IsU8 u8_spelling next_u8
 unfolding next_u8
@@ -35,3 +35,8 @@ next_blob_exact most small = placed_exact (IsBlob most) blob_spelling (blob_at m
 pub next_id_exact : IsExact IsId id_spelling next_id
 unfolding next_id
 next_id_exact = placed_exact IsId id_spelling id_at id_exact
+
+pub next_key_exact : IsExact IsKey key_spelling next_key
+unfolding next_key key_spelling
+next_key_exact =
+    last_exact id_of_key key_of_id IsId id_spelling next_id IsKey next_id_exact (λ key fits. fits) (λ id fits. fits) (λ id. refl) (λ key fits. refl)

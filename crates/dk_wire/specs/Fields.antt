@@ -2,6 +2,7 @@
 use Rattle.std.specs.Prelude.{ℕ, ◌<◌, ◌≤◌, ◌^◌, List, [], ◌∷◌, ◌++◌, length}
 use Rattle.std.specs.Int.{w16, w32, w64, to_be_bytes}
 use Rattle.dk_types.specs.declared.number.ObjectId.{ObjectId}
+use Rattle.dk_types.specs.declared.number.TaskKey.{TaskKey}
 use Rattle.dk_types.specs.declared.limits.TheConstants.{NUMBERS_END}
 
 -- the numbers of 8, 16, 32 and 64 bits
@@ -50,3 +51,17 @@ pub record IsId (id : ObjectId) : Type 0 where
 -- an id is its run's number in 64 bits, and its place in 32
 unfoldable pub id_spelling : ObjectId → List ℕ
 id_spelling id = u64_spelling id.run.0 ++ u32_spelling id.k
+
+-- a key of a task has the form of an id
+abbrev pub id_of_key : TaskKey → ObjectId
+id_of_key key = record { run = key.run; k = key.k }
+
+abbrev pub key_of_id : ObjectId → TaskKey
+key_of_id id = record { run = id.run; k = id.k }
+
+-- the keys of tasks that a run can schedule
+abbrev pub IsKey : TaskKey → Type 0
+IsKey key = IsId (id_of_key key)
+
+unfoldable pub key_spelling : TaskKey → List ℕ
+key_spelling key = id_spelling (id_of_key key)

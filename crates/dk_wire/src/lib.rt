@@ -18,4 +18,6 @@ pub mod payload;
 pub mod reader;
 mod reading;
 pub mod refused;
+#[cfg(test)]
+mod tests;
 pub mod writer;

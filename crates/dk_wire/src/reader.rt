@@ -1,5 +1,5 @@
 //! Taking fields from the front.
-ghost use Rattle.std.specs.Prelude.{◌≡◌, ◌<◌, ◌^◌};
+ghost use Rattle.std.specs.Prelude.{◌≡◌, ◌≢◌, IfErr, ◌<◌, ◌^◌};
 ghost use Rattle.dk_types.specs.Names.{IsName};
 ghost use Rattle.dk_wire.specs.Rest.{Rest, IsBytes};
 ghost use Rattle.dk_wire.specs.Fields.{IsU8, IsU16, IsU32, IsU64, IsBlob, IsId, u8_spelling, u16_spelling, u32_spelling, u64_spelling, name_spelling, blob_spelling, id_spelling};
@@ -61,6 +61,7 @@ impl<'a> Reader<'a> {
     pub fn take_u8(&mut self) -> Result<u8, WireRefused>
         ensures reads { Reads u8_at self.old result self.new }
         ensures front { TakesFront IsU8 u8_spelling self.old result self.new }
+        ensures memory { IfErr result (λ e. e ≢ WireRefused.NoMemory) }
     {
         self.read_u8()
     }
@@ -69,6 +70,7 @@ impl<'a> Reader<'a> {
     pub fn take_u16(&mut self) -> Result<u16, WireRefused>
         ensures reads { Reads u16_at self.old result self.new }
         ensures front { TakesFront IsU16 u16_spelling self.old result self.new }
+        ensures memory { IfErr result (λ e. e ≢ WireRefused.NoMemory) }
     {
         self.read_u16()
     }
@@ -77,6 +79,7 @@ impl<'a> Reader<'a> {
     pub fn take_u32(&mut self) -> Result<u32, WireRefused>
         ensures reads { Reads u32_at self.old result self.new }
         ensures front { TakesFront IsU32 u32_spelling self.old result self.new }
+        ensures memory { IfErr result (λ e. e ≢ WireRefused.NoMemory) }
     {
         self.read_u32()
     }
@@ -85,6 +88,7 @@ impl<'a> Reader<'a> {
     pub fn take_u64(&mut self) -> Result<u64, WireRefused>
         ensures reads { Reads u64_at self.old result self.new }
         ensures front { TakesFront IsU64 u64_spelling self.old result self.new }
+        ensures memory { IfErr result (λ e. e ≢ WireRefused.NoMemory) }
     {
         self.read_u64()
     }
@@ -109,6 +113,7 @@ impl<'a> Reader<'a> {
     pub fn take_id(&mut self) -> Result<ObjectId, WireRefused>
         ensures reads { Reads id_at self.old result self.new }
         ensures front { TakesFront IsId id_spelling self.old result self.new }
+        ensures memory { IfErr result (λ e. e ≢ WireRefused.NoMemory) }
     {
         self.read_id()
     }

@@ -1,5 +1,5 @@
 //! How each kind of field is taken.
-ghost use Rattle.std.specs.Prelude.{◌≡◌, ◌+◌, ◌<◌, ◌≤◌, ◌^◌, ℕ, length, take, drop, slice_index, Ok, Err, IfOk, IfErr};
+ghost use Rattle.std.specs.Prelude.{◌≡◌, ◌≢◌, ◌+◌, ◌<◌, ◌≤◌, ◌^◌, ℕ, length, take, drop, slice_index, Ok, Err, IfOk, IfErr};
 ghost use Rattle.dk_wire.specs.Rest.{Rest, IsBytes, moved};
 ghost use Rattle.dk_wire.specs.Reading.{Reads, Refuses, bytes_at, text_of, u8_at, u16_at, u32_at, u64_at, name_at, blob_at, id_at};
 
@@ -15,6 +15,7 @@ impl<'a> Reader<'a> {
     pub(crate) fn read_u8(&mut self) -> Result<u8, WireRefused>
         ensures reads { Reads u8_at self.old result self.new }
         ensures bytes { IsBytes self.old.bytes }
+        ensures memory { IfErr result (λ e. e ≢ WireRefused.NoMemory) }
     {
         let front = self.take_bytes(1)?;
         Ok(front[0])
@@ -24,6 +25,7 @@ impl<'a> Reader<'a> {
     pub(crate) fn read_u16(&mut self) -> Result<u16, WireRefused>
         ensures reads { Reads u16_at self.old result self.new }
         ensures bytes { IsBytes self.old.bytes }
+        ensures memory { IfErr result (λ e. e ≢ WireRefused.NoMemory) }
     {
         let front = self.take_bytes(2)?;
         Ok(BigEndian::read_u16(front))
@@ -33,6 +35,7 @@ impl<'a> Reader<'a> {
     pub(crate) fn read_u32(&mut self) -> Result<u32, WireRefused>
         ensures reads { Reads u32_at self.old result self.new }
         ensures bytes { IsBytes self.old.bytes }
+        ensures memory { IfErr result (λ e. e ≢ WireRefused.NoMemory) }
     {
         let front = self.take_bytes(4)?;
         Ok(BigEndian::read_u32(front))
@@ -42,6 +45,7 @@ impl<'a> Reader<'a> {
     pub(crate) fn read_u64(&mut self) -> Result<u64, WireRefused>
         ensures reads { Reads u64_at self.old result self.new }
         ensures bytes { IsBytes self.old.bytes }
+        ensures memory { IfErr result (λ e. e ≢ WireRefused.NoMemory) }
     {
         let front = self.take_bytes(8)?;
         Ok(BigEndian::read_u64(front))
@@ -90,6 +94,7 @@ impl<'a> Reader<'a> {
     pub(crate) fn read_id(&mut self) -> Result<ObjectId, WireRefused>
         ensures reads { Reads id_at self.old result self.new }
         ensures bytes { IsBytes self.old.bytes }
+        ensures memory { IfErr result (λ e. e ≢ WireRefused.NoMemory) }
     {
         let mut ahead = self.copy();
         let front = ahead.take_bytes(12)?;
@@ -119,6 +124,7 @@ impl<'a> Reader<'a> {
         ensures ok { IfOk result (λ front. bytes_at need self.old ≡ Ok (front.now, self.new)) }
         ensures refused { IfErr result (λ e. (self.new ≡ self.old) × (bytes_at need self.old ≡ Err e)) }
         ensures bytes { IsBytes self.old.bytes }
+        ensures memory { IfErr result (λ e. e ≢ WireRefused.NoMemory) }
     {
         let (front, rest) = part(self.rest, need)?;
         self.rest = rest;

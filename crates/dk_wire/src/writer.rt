@@ -1,9 +1,9 @@
 //! Putting fields at the end.
 ghost use Rattle.std.specs.Prelude.{◌≡◌, ◌<◌, ◌≤◌, ◌^◌, ◌++◌, [], length, OnOk, OnErr};
-ghost use Rattle.dk_wire.specs.Fields.{u8_spelling, u16_spelling, u32_spelling, u64_spelling, name_spelling, blob_spelling, id_spelling};
+ghost use Rattle.dk_wire.specs.Fields.{u8_spelling, u16_spelling, u32_spelling, u64_spelling, name_spelling, blob_spelling, id_spelling, key_spelling};
 
 use byteorder::{BigEndian, ByteOrder};
-use dk_types::{Blob, Name, NoMemory, ObjectId};
+use dk_types::{Blob, Name, NoMemory, ObjectId, TaskKey};
 use std::alloc::Global;
 use std::marker::Model;
 
@@ -113,6 +113,18 @@ impl Writer {
         BigEndian::write_u32(&mut bytes[8..], value.k);
         self.out.extend_from_slice(&bytes)?;
         Ok(())
+    }
+
+    /// Puts the key of a task, which has the form of an id.
+    #[tactic(auto, unfolding(crate::specs::Fields::key_spelling))]
+    pub fn put_key(&mut self, value: TaskKey) -> Result<(), NoMemory>
+        ensures ok { OnOk result (self.new ≡ self.old ++ key_spelling value) }
+        ensures err { OnErr result (self.new ≡ self.old) }
+    {
+        self.put_id(ObjectId {
+            run: value.run,
+            k: value.k,
+        })
     }
 }
 

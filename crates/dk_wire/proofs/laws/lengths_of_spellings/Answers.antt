@@ -1,4 +1,4 @@
-use Rattle.dk_wire.proofs.LengthLaws.{length-u8, length-u16, length-u32, length-u64, length-name, length-blob, length-id}
+use Rattle.dk_wire.proofs.LengthLaws.{length-u8, length-u16, length-u32, length-u64, length-name, length-blob, length-id, length-key}
 use Rattle.dk_wire.proofs.laws.lengths_of_spellings.Goals as goal
 
 pub returns-clause-u8 : goal.returns-clause-u8
@@ -21,3 +21,6 @@ returns-clause-blob c = length-blob
 
 pub returns-clause-id : goal.returns-clause-id
 returns-clause-id c = length-id
+
+pub returns-clause-key : goal.returns-clause-key
+returns-clause-key c = length-key

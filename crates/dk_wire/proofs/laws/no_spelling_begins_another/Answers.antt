@@ -1,8 +1,10 @@
 use Rattle.std.proofs.Common.{ℕ, ◌≤◌, ◌^◌, List, length, arith, lit<}
 use Rattle.dk_types.specs.Names.{IsName}
-use Rattle.dk_wire.specs.Fields.{IsU8, IsU16, IsU32, IsU64, IsBlob, IsId, u8_spelling, u16_spelling, u32_spelling, u64_spelling, name_spelling, blob_spelling, id_spelling}
+use Rattle.dk_wire.specs.Fields.{IsU8, IsU16, IsU32, IsU64, IsBlob, IsId, IsKey, u8_spelling, u16_spelling, u32_spelling, u64_spelling, name_spelling, blob_spelling, id_spelling, key_spelling}
 use Rattle.dk_wire.specs.Reading.{u8_at, u16_at, u32_at, u64_at, name_at, blob_at, id_at}
 use Rattle.dk_wire.proofs.FieldLaws.{u8_exact, u16_exact, u32_exact, u64_exact, name_exact, blob_exact, id_exact}
+use Rattle.dk_wire.specs.Payload.{next_key}
+use Rattle.dk_wire.proofs.NextLaws.{next_key_exact}
 use Rattle.dk_wire.proofs.ExactLaws.{prefix_free}
 use Rattle.dk_wire.proofs.laws.no_spelling_begins_another.Goals as goal
 
@@ -26,3 +28,6 @@ returns-clause-blob c x y behind_x behind_y fits_x fits_y same = prefix_free (Is
 
 pub returns-clause-id : goal.returns-clause-id
 returns-clause-id c = prefix_free IsId id_spelling id_at id_exact
+
+pub returns-clause-key : goal.returns-clause-key
+returns-clause-key c = prefix_free IsKey key_spelling next_key next_key_exact

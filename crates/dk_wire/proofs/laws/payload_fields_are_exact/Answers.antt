@@ -1,4 +1,4 @@
-use Rattle.dk_wire.proofs.NextLaws.{next_u8_exact, next_u16_exact, next_u32_exact, next_u64_exact, next_name_exact, next_blob_exact, next_id_exact}
+use Rattle.dk_wire.proofs.NextLaws.{next_u8_exact, next_u16_exact, next_u32_exact, next_u64_exact, next_name_exact, next_blob_exact, next_id_exact, next_key_exact}
 use Rattle.dk_wire.proofs.laws.payload_fields_are_exact.Goals as goal
 
 pub returns-clause-u8 : goal.returns-clause-u8
@@ -21,3 +21,6 @@ returns-clause-blob c = next_blob_exact
 
 pub returns-clause-id : goal.returns-clause-id
 returns-clause-id c = next_id_exact
+
+pub returns-clause-key : goal.returns-clause-key
+returns-clause-key c = next_key_exact
