@@ -1,8 +1,8 @@
 -- Records of fields: a reading that is written with `do` is exact where its steps are. A record's law is one lemma for
 -- each field: `then_exact` for each but the last, and `last_exact` for that.
-use Rattle.std.proofs.Common.{◌≡◌, ℕ, ◌+◌, Bool, true, false, cond, List, [], ◌++◌, length, Result, Ok, Err, refl, sym, ap, subst, ◌∙◌, append_assoc, length-append, arith}
+use Rattle.std.proofs.Common.{◌≡◌, ℕ, ◌+◌, Bool, true, cond, List, [], ◌++◌, length, Result, Ok, Err, refl, sym, ap, subst, ◌∙◌, append_assoc, length-append, arith}
 use Rattle.dk_wire.specs.declared.refused.WireRefused.{WireRefused}
-use Rattle.dk_wire.specs.Rest.{Rest, IsBytes, Takes}
+use Rattle.dk_wire.specs.Rest.{Rest, Takes}
 use Rattle.dk_wire.specs.Reading.{◌>>=◌}
 use Rattle.dk_wire.specs.Exact.{IsExact}
 use Rattle.dk_wire.specs.Payload.{placed, checked}

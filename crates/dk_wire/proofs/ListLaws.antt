@@ -1,9 +1,9 @@
 -- A counted list is read exactly where its items are.
-use Rattle.std.proofs.Common.{◌≡◌, ℕ, zero, suc, ◌+◌, ◌<◌, ◌^◌, List, [], ◌∷◌, ◌++◌, length, Option, Some, None, Result, Ok, Err, refl, sym, ap, subst, ◌∙◌, append_assoc, length-append, arith}
+use Rattle.std.proofs.Common.{◌≡◌, ℕ, zero, suc, ◌+◌, List, [], ◌∷◌, ◌++◌, length, Option, Some, None, Result, Ok, refl, sym, ap, subst, ◌∙◌, append_assoc, length-append, arith}
 use Rattle.std.specs.List.{flat_map, AllByRecursion}
 use Rattle.std.proofs.lemmas.List.Concat.{flat_map-cons}
 use Rattle.dk_wire.specs.Rest.{Rest, IsBytes, Takes}
-use Rattle.dk_wire.specs.Fields.{IsU32, u32_spelling}
+use Rattle.dk_wire.specs.Fields.{u32_spelling}
 use Rattle.dk_wire.specs.Reading.{◌>>=◌}
 use Rattle.dk_wire.specs.Exact.{IsExact}
 use Rattle.dk_wire.specs.Payload.{next_u32}

@@ -1,6 +1,6 @@
 -- Readings whose faults are places.
 use Rattle.std.specs.Prelude.{IfErr}
-use Rattle.std.proofs.Common.{◌≢◌, ◌≡◌, ℕ, List, Result, Ok, Err, refl, ap}
+use Rattle.std.proofs.Common.{◌≢◌, ◌≡◌, ℕ, Result, Ok, Err, refl, ap}
 use Rattle.dk_wire.specs.declared.refused.WireRefused.{WireRefused}
 use Rattle.dk_wire.specs.declared.refused.WireRefused.TheVariants.{Short, Extra, BadTag, TooLong, NoMemory}
 use Rattle.dk_wire.specs.declared.payload.PayloadRefused.{PayloadRefused}

@@ -8,7 +8,7 @@ use Rattle.dk_wire.specs.declared.payload.PayloadRefused.{PayloadRefused}
 use Rattle.dk_wire.specs.declared.payload.PayloadRefused.TheVariants.{NotInGrammar, NoMemory}
 use Rattle.dk_wire.specs.declared.refused.WireRefused.{WireRefused}
 use Rattle.dk_wire.specs.declared.refused.WireRefused.TheVariants.{Extra}
-use Rattle.dk_wire.specs.Rest.{Rest, IsBytes, Takes}
+use Rattle.dk_wire.specs.Rest.{Rest, IsBytes}
 use Rattle.dk_wire.specs.Reading.{◌>>=◌, end_at}
 use Rattle.dk_wire.specs.Exact.{IsExact}
 use Rattle.dk_wire.specs.Payload.{placed, next_end, whole, Misses, Decodes}

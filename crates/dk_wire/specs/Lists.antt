@@ -1,5 +1,5 @@
 -- Counted lists: a number of 32 bits, and that many items. An item may have to fit behind the one before it.
-use Rattle.std.specs.Prelude.{◌≡◌, ℕ, zero, suc, ◌<◌, ◌^◌, List, [], ◌∷◌, ◌++◌, length, Option, Some, None, Result, Ok, Err}
+use Rattle.std.specs.Prelude.{ℕ, zero, suc, ◌<◌, ◌^◌, List, [], ◌∷◌, ◌++◌, length, Option, Some, None, Result, Ok}
 use Rattle.std.specs.List.{flat_map}
 use Rattle.dk_wire.specs.Rest.{Rest}
 use Rattle.dk_wire.specs.Fields.{u32_spelling}

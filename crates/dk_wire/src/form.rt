@@ -23,7 +23,7 @@ pub trait Form<T> {
     // behind the item before it
     ghost reading: { Option T → Rest → Result (T × Rest) ℕ };
 
-    /// Puts an item.
+    /// Puts an item. Where there is no memory, what the writer holds is not said: let it go.
     fn put(writer: &mut Writer, item: &T) -> Result<(), NoMemory>
         requires { (before : Option T) × fits before item.now }
         ensures { OnOk result (writer.new ≡ writer.old ++ spelling item.now) };
@@ -63,7 +63,7 @@ fn decode_any<T: Drop, F: Form<T>>(alloc: Global, payload: &[u8]) -> Result<T, P
     Ok(value)
 }
 
-/// Puts the number of the items, and the items.
+/// Puts the number of the items, and the items. Where there is no memory, what the writer holds is not said: let it go.
 pub fn put_list<T, F: Form<T>>(writer: &mut Writer, items: &[T]) -> Result<(), NoMemory>
     requires { IsList F.fits items.now }
     ensures { OnOk result (writer.new ≡ writer.old ++ list_spelling F.spelling items.now) }

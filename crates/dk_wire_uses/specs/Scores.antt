@@ -1,5 +1,5 @@
 -- Scores as a payload: a worked record with a rule and a counted list in order, as the formats above are made.
-use Rattle.std.specs.Prelude.{◌≡◌, ℕ, ◌≤◌, Bool, true, List, ◌++◌, Option, Some, None, Result, Ok, Err, nat_le}
+use Rattle.std.specs.Prelude.{◌≡◌, ℕ, Bool, true, List, ◌++◌, Option, Some, None, Result, Ok, nat_le}
 use Rattle.std.specs.Ordering.{is_lt}
 use Rattle.dk_types.specs.Names.{IsName, bytes_cmp}
 use Rattle.dk_wire_uses.specs.declared.scores.Scores.{Scores}

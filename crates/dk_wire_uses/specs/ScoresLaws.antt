@@ -1,8 +1,7 @@
 -- The example is exact: a line for each field, and no fact about bytes.
-use Rattle.std.proofs.Common.{◌≡◌, ℕ, ◌≤◌, ◌^◌, Bool, true, List, Option, Ok, refl, leb, arith}
+use Rattle.std.proofs.Common.{◌≡◌, ℕ, true, List, Option, Ok, refl, leb, arith}
 use Rattle.std.proofs.lemmas.Bool.{leb-true}
 use Rattle.dk_types.specs.Names.{IsName}
-use Rattle.dk_wire_uses.specs.declared.scores.Scores.{Scores}
 use Rattle.dk_wire.specs.Fields.{IsU64, u64_spelling, name_spelling}
 use Rattle.dk_wire.specs.Reading.{◌>>=◌}
 use Rattle.dk_wire.specs.Exact.{IsExact}

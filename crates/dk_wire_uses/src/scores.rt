@@ -1,10 +1,13 @@
 //! Scores as a payload: how a record with a rule and a counted list in order is made of fields.
-ghost use Rattle.std.specs.Prelude.{◌≡◌, ◌++◌};
+ghost use Rattle.std.specs.Prelude.{◌≡◌, ◌+◌, ◌++◌, length, IfOk};
 ghost use Rattle.std.specs.Option.{option_copied};
-ghost use Rattle.dk_wire_uses.specs.Scores.{is_behind};
+ghost use Rattle.dk_wire.specs.Payload.{Decodes};
+ghost use Rattle.dk_wire.specs.Lengths.{name_length, list_length};
+ghost use Rattle.dk_wire_uses.specs.declared.scores.Scores.{Scores};
+ghost use Rattle.dk_wire_uses.specs.Scores.{is_behind, AreScores, scores_spelling, scores_at};
 
-use dk_types::{Listed, Name, NoMemory};
-use dk_wire::{Form, PayloadRefused, Reader, Writer, put_list, take_list};
+use dk_types::{Blob, Listed, Name, NoMemory};
+use dk_wire::{Form, PayloadRefused, Reader, Writer, decode, encode, put_list, take_list};
 use std::alloc::Global;
 
 /// The best score, and the scores of players, which ascend by the players' names.
@@ -90,6 +93,26 @@ impl Form<Scores> for ScoresForm {
         Ok(Scores { best, rows })
     }
 }
+
+/// The spelling of scores.
+pub fn encode_scores(alloc: Global, scores: &Scores) -> Result<Blob, NoMemory>
+    requires { AreScores scores.now }
+    ensures { IfOk result (λ payload. payload ≡ scores_spelling scores.now) }
+{
+    encode::<Scores, ScoresForm>(alloc, scores)
+}
+
+/// The scores that a whole payload spells.
+pub fn decode_scores(alloc: Global, payload: &[u8]) -> Result<Scores, PayloadRefused>
+    ensures { Decodes AreScores scores_spelling scores_at payload.now result }
+{
+    decode::<Scores, ScoresForm>(alloc, payload)
+}
+
+/// How long the spelling of scores is, by names and counts alone.
+pub fn length_of_scores()
+    ensures { (scores : Scores) → length (scores_spelling scores) ≡ 8 + list_length (λ row. name_length row.0 + 8) scores.rows }
+{}
 
 fn is_name_behind(before: Option<&(Name, u64)>, name: &Name) -> bool
     ensures { result ≡ is_behind (option_copied before.entry) name.now }

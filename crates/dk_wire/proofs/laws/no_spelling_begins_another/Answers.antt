@@ -1,4 +1,4 @@
-use Rattle.std.proofs.Common.{ℕ, ◌≤◌, ◌^◌, List, length, arith, lit<}
+use Rattle.std.proofs.Common.{arith, lit<}
 use Rattle.dk_types.specs.Names.{IsName}
 use Rattle.dk_wire.specs.Fields.{IsU8, IsU16, IsU32, IsU64, IsBlob, IsId, IsKey, u8_spelling, u16_spelling, u32_spelling, u64_spelling, name_spelling, blob_spelling, id_spelling, key_spelling}
 use Rattle.dk_wire.specs.Reading.{u8_at, u16_at, u32_at, u64_at, name_at, blob_at, id_at}
