@@ -9,12 +9,12 @@ use Rattle.dk_wire.specs.Payload.{placed, checked}
 use Rattle.dk_wire.proofs.Steps.{IsBytes-taken, Takes-then, Takes-none, bind_ok, admit_ok, ok_is}
 
 -- a field, and then what follows it. `part` is the field of the record `B`; what follows is read under its value.
-pub then_exact : {A B F : Type 0} (part : B → A) (Fits : A → Type 0) (spelling : A → List ℕ) (reading : Rest → Result (A × Rest) F) (All : B → Type 0) (others : B → List ℕ) (following : A → Rest → Result (B × Rest) F)
-    → IsExact Fits spelling reading → ((b : B) → All b → Fits (part b)) → ((a : A) → Fits a → IsExact (λ b. All b × (part b ≡ a)) others (following a))
-    → IsExact All (λ b. spelling (part b) ++ others b) (λ r. reading r >>= λ x. following x.0 x.1)
-then_exact part Fits spelling reading All others following exact fits after = record {
+pub then_exact : {A B F : Type 0} {Fits : A → Type 0} {spelling : A → List ℕ} {reading : Rest → Result (A × Rest) F} {All : B → Type 0} {others : B → List ℕ} (part : B → A) (following : A × Rest → Result (B × Rest) F)
+    → IsExact Fits spelling reading → ((b : B) → All b → Fits (part b)) → ((a : A) → Fits a → IsExact (λ b. All b × (part b ≡ a)) others (λ r. following (a, r)))
+    → IsExact All (λ b. spelling (part b) ++ others b) (λ r. reading r >>= following)
+then_exact {A} {B} {F} {Fits} {spelling} {reading} {All} {others} part following exact fits after = record {
   takes = λ old b new each e.
-      let s = bind_ok (reading old) (λ x. following x.0 x.1) (b, new) e in
+      let s = bind_ok (reading old) following (b, new) e in
       let a = s.0.0 in
       let mid = s.0.1 in
       let first = exact.takes old a mid each s.1 in
@@ -27,14 +27,14 @@ then_exact part Fits spelling reading All others following exact fits after = re
       let second = (after a (fits b all)).again (at + length (spelling a)) b behind (all, refl) in
       let parts : (spelling a ++ others b) ++ behind ≡ spelling a ++ (others b ++ behind) = append_assoc (spelling a) (others b) behind in
       let place : (at + length (spelling a)) + length (others b) ≡ at + length (spelling a ++ others b) = omega (arith, length-append (spelling a) (others b)) in
-      ap (λ (bytes : List ℕ). reading (record { at = at; bytes = bytes }) >>= λ x. following x.0 x.1) parts ∙ ap (λ read. read >>= λ x. following x.0 x.1) first ∙ second ∙ ap (λ (p : ℕ). Ok (b, record { at = p; bytes = behind })) place;
+      ap (λ (bytes : List ℕ). reading (record { at = at; bytes = bytes }) >>= following) parts ∙ ap (λ read. read >>= following) first ∙ second ∙ ap (λ (p : ℕ). Ok (b, record { at = p; bytes = behind })) place;
 }
 
 -- the last field; `make` makes the record of it
-pub last_exact : {A B F : Type 0} (part : B → A) (make : A → B) (Fits : A → Type 0) (spelling : A → List ℕ) (reading : Rest → Result (A × Rest) F) (All : B → Type 0)
+pub last_exact : {A B F : Type 0} {Fits : A → Type 0} {spelling : A → List ℕ} {reading : Rest → Result (A × Rest) F} {All : B → Type 0} (part : B → A) (make : A → B)
     → IsExact Fits spelling reading → ((b : B) → All b → Fits (part b)) → ((a : A) → Fits a → All (make a)) → ((a : A) → part (make a) ≡ a) → ((b : B) → All b → b ≡ make (part b))
     → IsExact All (λ b. spelling (part b)) (λ r. reading r >>= λ x. Ok (make x.0, x.1))
-last_exact {A} {B} {F} part make Fits spelling reading All exact fits all made is = record {
+last_exact {A} {B} {F} {Fits} {spelling} {reading} {All} part make exact fits all made is = record {
   takes = λ old b new each e.
       let s = bind_ok (reading old) (λ x. Ok (make x.0, x.1)) (b, new) e in
       let first = exact.takes old s.0.0 s.0.1 each s.1 in
@@ -46,8 +46,8 @@ last_exact {A} {B} {F} part make Fits spelling reading All exact fits all made i
 }
 
 -- no field: the value that nothing spells
-pub none_exact : {B F : Type 0} (b : B) (All : B → Type 0) → All b → ((x : B) → All x → x ≡ b) → IsExact {F = F} All (λ x. []) (λ r. Ok (b, r))
-none_exact {B} {F} b All all is = record {
+pub none_exact : {B F : Type 0} {All : B → Type 0} (b : B) → All b → ((x : B) → All x → x ≡ b) → IsExact {F = F} All (λ x. []) (λ r. Ok (b, r))
+none_exact {B} {F} {All} b all is = record {
   takes = λ old x new each e.
       subst (λ (p : B × Rest). All p.0 × Takes old [] p.1) (ok_is {F = F} (b, old) (x, new) e) (all, Takes-none old);
   again = λ at x behind g.
@@ -55,10 +55,10 @@ none_exact {B} {F} b All all is = record {
 }
 
 -- the same under other words for what fits and for its spelling
-pub alike_exact : {A F : Type 0} (Fits Other : A → Type 0) (spelling respelling : A → List ℕ) (reading : Rest → Result (A × Rest) F)
+pub alike_exact : {A F : Type 0} {Fits Other : A → Type 0} {spelling respelling : A → List ℕ} {reading : Rest → Result (A × Rest) F}
     → IsExact Fits spelling reading → ((x : A) → Fits x → Other x) → ((x : A) → Other x → Fits x) → ((x : A) → Fits x → spelling x ≡ respelling x)
     → IsExact Other respelling reading
-alike_exact Fits Other spelling respelling reading exact to from same = record {
+alike_exact {A} {F} {Fits} {Other} {spelling} {respelling} {reading} exact to from same = record {
   takes = λ old x new each e.
       let t = exact.takes old x new each e in
       (to x t.0, subst (λ (text : List ℕ). Takes old text new) (same x t.0) t.1);
@@ -67,9 +67,9 @@ alike_exact Fits Other spelling respelling reading exact to from same = record {
 }
 
 -- a value that passes a test
-pub checked_exact : {A : Type 0} (test : A → Bool) (Fits : A → Type 0) (spelling : A → List ℕ) (reading : Rest → Result (A × Rest) ℕ)
+pub checked_exact : {A : Type 0} {Fits : A → Type 0} {spelling : A → List ℕ} {reading : Rest → Result (A × Rest) ℕ} (test : A → Bool)
     → IsExact Fits spelling reading → IsExact (λ x. Fits x × (test x ≡ true)) spelling (checked test reading)
-checked_exact {A} test Fits spelling reading exact = record {
+checked_exact {A} {Fits} {spelling} {reading} test exact = record {
   takes = λ old x new each e.
       let s = bind_ok (reading old) (λ y. cond (test y.0) (Ok y) (Err old.at)) (x, new) e in
       let g = admit_ok (test s.0.0) old.at (Ok s.0) (x, new) s.2 in
@@ -80,9 +80,9 @@ checked_exact {A} test Fits spelling reading exact = record {
 }
 
 -- a reading whose faults are told by their place
-pub placed_exact : {A : Type 0} (Fits : A → Type 0) (spelling : A → List ℕ) (reading : Rest → Result (A × Rest) WireRefused)
+pub placed_exact : {A : Type 0} {Fits : A → Type 0} {spelling : A → List ℕ} {reading : Rest → Result (A × Rest) WireRefused}
     → IsExact Fits spelling reading → IsExact Fits spelling (λ r. placed r.at (reading r))
-placed_exact {A} Fits spelling reading exact = record {
+placed_exact {A} {Fits} {spelling} {reading} exact = record {
   takes = λ old x new each e. exact.takes old x new each (unplaced old.at (reading old) (x, new) e);
   again = λ at x behind fits. ap (placed at) (exact.again at x behind fits);
 }

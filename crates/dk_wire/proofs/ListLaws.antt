@@ -38,9 +38,9 @@ module _ {A : Type 0} (Fits : Option A → A → Type 0) (spelling : A → List 
       ∙ ap (λ (p : ℕ). Ok (x ∷ xs, record { at = p; bytes = behind })) place
 
   -- a counted list
-  pub list_exact : IsExact (IsList Fits) (list_spelling spelling) (list_at item)
+  counted : IsExact (IsList Fits) (list_spelling spelling) (list_at item)
   unfolding list_at
-  list_exact = record {
+  counted = record {
     takes = λ old xs new each e.
         let a = bind_ok (next_u32 old) (λ count. items_at item None count.0 count.1) (xs, new) e in
         let first = next_u32_exact.takes old a.0.0 a.0.1 each a.1 in
@@ -51,6 +51,10 @@ module _ {A : Type 0} (Fits : Option A → A → Type 0) (spelling : A → List 
         ap (λ (bytes : List ℕ). list_at item (record { at = at; bytes = bytes })) (append_assoc (u32_spelling (length xs)) (flat_map spelling xs) behind)
         ∙ rw (next_u32_exact.again at (length xs) (flat_map spelling xs ++ behind) is.count, items_again None (at + length (u32_spelling (length xs))) xs behind is.each) (ap (λ (p : ℕ). Ok (xs, record { at = p; bytes = behind })) (omega (arith, length-append (u32_spelling (length xs)) (flat_map spelling xs))));
   }
+
+-- a counted list of items that are read exactly
+pub list_exact : {A : Type 0} {Fits : Option A → A → Type 0} {spelling : A → List ℕ} {item : Option A → Rest → Result (A × Rest) ℕ} → ((before : Option A) → IsExact (Fits before) spelling (item before)) → IsExact (IsList Fits) (list_spelling spelling) (list_at item)
+list_exact {A} {Fits} {spelling} {item} exact = counted Fits spelling item exact
 
 -- a chain without an order is a list of items that fit
 pub chained_all : {A : Type 0} (Fits : A → Type 0) (before : Option A) (xs : List A) → AllByRecursion Fits xs → AreChained (λ _. Fits) before xs

@@ -1,4 +1,8 @@
-//! Counted lists of items of any form.
+//! Formats of whole values: a form of a record, counted lists of a form, and payloads that hold one value.
+//!
+//! A format above names a type of its own for each record and implements `Form` for it: `put` and `take` are its fields
+//! one after another, `reading` says the same with `do`, and `exact` is a lemma for each field, out of
+//! `proofs/Composing`. Lists, `encode` and `decode` then come with their laws. The crate `dk_wire_uses` is a whole one.
 ghost use Rattle.std.specs.Prelude.{◌≡◌, ◌++◌, ℕ, List, Option, None, Result, Ok, OnOk, IfOk, MatchResult};
 ghost use Rattle.std.specs.Option.{option_copied};
 ghost use Rattle.dk_wire.specs.Rest.{Rest};
@@ -12,8 +16,9 @@ use crate::writer::Writer;
 use dk_types::{Blob, Listed, NoMemory};
 use std::alloc::Global;
 
-/// A form in which values of `T` stand in a list. Whoever lists values of a type names a form of it, a type without
-/// values or fields of its own, so that one type may have several.
+/// A form in which values of `T` are spelled. It is a type without fields, named for the format, so that one type may
+/// have several. In a list an item may have to fit behind the one before it, as where items ascend; a form that does
+/// not care leaves that argument alone.
 pub trait Form<T> {
     // what may stand behind the item before it, if there is one
     ghost fits: { Option T → T → Type 0 };
