@@ -42,5 +42,6 @@ length-key key = length-id (id_of_key key)
 
 -- a list's length is that of its count and of its items
 pub length-list : {A : Type 0} (spelling : A → List ℕ) (xs : List A) → length (list_spelling spelling xs) ≡ list_length (λ x. length (spelling x)) xs
+unfolding list_spelling
 length-list spelling xs =
     omega (arith, length-append (u32_spelling (length xs)) (flat_map spelling xs), length-flat_map spelling xs, length-u32 (length xs))

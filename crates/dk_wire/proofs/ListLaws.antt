@@ -39,7 +39,7 @@ module _ {A : Type 0} (Fits : Option A → A → Type 0) (spelling : A → List 
 
   -- a counted list
   counted : IsExact (IsList Fits) (list_spelling spelling) (list_at item)
-  unfolding list_at
+  unfolding list_at list_spelling
   counted = record {
     takes = λ old xs new each e.
         let a = bind_ok (next_u32 old) (λ count. items_at item None count.0 count.1) (xs, new) e in

@@ -1,4 +1,5 @@
 -- Fields as bytes: for each kind of field what its values are, and the one spelling of each. Numbers are big-endian.
+-- A record's spelling is that of its fields, grouped to the right: `a ++ (b ++ c)`.
 use Rattle.std.specs.Prelude.{ℕ, ◌<◌, ◌≤◌, ◌^◌, List, [], ◌∷◌, ◌++◌, length}
 use Rattle.std.specs.Int.{w16, w32, w64, to_be_bytes}
 use Rattle.dk_types.specs.declared.number.ObjectId.{ObjectId}

@@ -17,7 +17,7 @@ pub record IsList {A : Type 0} (Fits : Option A → A → Type 0) (xs : List A) 
   pub each : AreChained Fits None xs
 
 -- a list is the number of its items, and these
-abbrev pub list_spelling : {A : Type 0} → (A → List ℕ) → List A → List ℕ
+unfoldable pub list_spelling : {A : Type 0} → (A → List ℕ) → List A → List ℕ
 list_spelling spelling xs = u32_spelling (length xs) ++ flat_map spelling xs
 
 -- so many items, one after another, each read behind the one before it

@@ -69,6 +69,7 @@ fn decode_any<T: Drop, F: Form<T>>(alloc: Global, payload: &[u8]) -> Result<T, P
 }
 
 /// Puts the number of the items, and the items. Where there is no memory, what the writer holds is not said: let it go.
+#[tactic(auto, unfolding(crate::specs::Lists::list_spelling))]
 pub fn put_list<T, F: Form<T>>(writer: &mut Writer, items: &[T]) -> Result<(), NoMemory>
     requires { IsList F.fits items.now }
     ensures { OnOk result (writer.new ≡ writer.old ++ list_spelling F.spelling items.now) }
