@@ -23,6 +23,7 @@ use Rattle.dk_model.specs.Worlds.{World}
 use Rattle.dk_model.specs.Picks.{runnable}
 use Rattle.dk_model.specs.Events.{Meaning, Happens, outbox}
 use Rattle.dk_model.specs.Lines.{text_of, escaped}
+use Rattle.dk_model.specs.Phases.{AreSmall}
 use Rattle.dk_model.specs.Orders.{OrderItem, item_of, job_text, outcome_text}
 
 -- what a reader of events knows so far: the login names of connections, and the moment
@@ -187,3 +188,12 @@ pub record IsTranscript (rules : Meaning) (opening : World) (script : List (List
   pub end : Playing
   pub plays : Plays rules (playing opening) ([] ∷ script) order phases end
   pub told : text ≡ transcript_text phases end.world.durable.commits (maps.len end.world.durable.tasks)
+
+-- a whole play of a script from the opening world on: these are its phases, and these the durable world's numbers at its end
+pub record IsPlayed (rules : Meaning) (opening : World) (script : List (List Line)) (phases : List (List Event)) (commits tasks : ℕ) : Type 0 where
+  pub order : List (List OrderItem)
+  pub end : Playing
+  pub plays : Plays rules (playing opening) ([] ∷ script) order phases end
+  pub commits_are : commits ≡ end.world.durable.commits
+  pub tasks_are : tasks ≡ maps.len end.world.durable.tasks
+  pub small : AreSmall phases

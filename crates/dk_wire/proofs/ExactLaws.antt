@@ -1,8 +1,8 @@
 -- What follows where reading is exact.
-use Rattle.std.proofs.Common.{◌≡◌, ℕ, ◌+◌, List, ◌++◌, length, Result, Ok, Err, refl, sym, ap, ◌∙◌}
+use Rattle.std.proofs.Common.{◌≡◌, ℕ, ◌+◌, List, ◌++◌, length, Result, Ok, Err, sym, ap, ◌∙◌}
 use Rattle.dk_wire.specs.declared.refused.WireRefused.{WireRefused}
 use Rattle.dk_wire.specs.declared.refused.WireRefused.TheVariants.{Short, Extra, BadTag, TooLong, NoMemory}
-use Rattle.dk_wire.specs.Rest.{Rest, IsBytes, Takes}
+use Rattle.dk_wire.specs.Rest.{Rest, IsBytes}
 use Rattle.dk_wire.specs.Reading.{Reads}
 use Rattle.dk_wire.specs.Exact.{IsExact, IsPrefixFree, HasNone, TakesFront}
 use Rattle.dk_wire.proofs.Steps.{ok_is}

@@ -1,5 +1,5 @@
 -- Each kind of field is read exactly.
-use Rattle.std.proofs.Common.{◌≡◌, ℕ, ◌+◌, ◌^◌, ◌<◌, ◌≤◌, Bool, true, false, cond, ltb, eqb, List, [], ◌∷◌, ◌++◌, length, get_or, take, drop, Result, Ok, Err, refl, sym, ap, subst, ◌∙◌, append_assoc, length-append, arith}
+use Rattle.std.proofs.Common.{◌≡◌, ℕ, ◌+◌, ◌^◌, ◌<◌, ◌≤◌, false, cond, ltb, eqb, List, [], ◌∷◌, ◌++◌, length, get_or, take, drop, Result, Ok, Err, refl, sym, ap, subst, ◌∙◌, length-append, arith}
 use Rattle.std.specs.Int.{Width, w16, w32, w64, byte_len, from_be_bytes, to_be_bytes}
 use Rattle.std.specs.Str.Lossy.{utf8_valid_len}
 use Rattle.std.proofs.Math.Nat.{le_antisymm}
@@ -10,7 +10,7 @@ use Rattle.dk_types.specs.declared.number.ObjectId.{ObjectId}
 use Rattle.dk_types.specs.declared.limits.TheConstants.{NUMBERS_END}
 use Rattle.dk_types.specs.Names.{IsName}
 use Rattle.dk_wire.specs.declared.refused.WireRefused.{WireRefused}
-use Rattle.dk_wire.specs.declared.refused.WireRefused.TheVariants.{Short, Extra, BadTag, TooLong, NoMemory}
+use Rattle.dk_wire.specs.declared.refused.WireRefused.TheVariants.{Short, BadTag, TooLong}
 use Rattle.dk_wire.specs.Rest.{Rest, moved, IsBytes, Takes}
 use Rattle.dk_wire.specs.Fields.{IsU8, IsU16, IsU32, IsU64, IsBlob, IsId, u8_spelling, u16_spelling, u32_spelling, u64_spelling, name_spelling, blob_spelling, id_spelling}
 use Rattle.dk_wire.specs.Reading.{◌>>=◌, bytes_at, number_at, text_of, id_of, u8_at, u16_at, u32_at, u64_at, name_at, blob_at, id_at}
@@ -49,15 +49,15 @@ number_exact w limit wide = record {
 }
 
 pub u16_exact : IsExact IsU16 u16_spelling u16_at
-unfolding u16_at
+unfolding u16_at u16_spelling
 u16_exact = number_exact w16 (2 ^ 16) wide16
 
 pub u32_exact : IsExact IsU32 u32_spelling u32_at
-unfolding u32_at
+unfolding u32_at u32_spelling
 u32_exact = number_exact w32 (2 ^ 32) wide32
 
 pub u64_exact : IsExact IsU64 u64_spelling u64_at
-unfolding u64_at
+unfolding u64_at u64_spelling
 u64_exact = number_exact w64 (2 ^ 64) wide64
 
 -- one byte is a list of itself
@@ -67,7 +67,7 @@ single (b ∷ []) len = refl
 single (b ∷ c ∷ front) len = absurd (omega (arith, len))
 
 pub u8_exact : IsExact IsU8 u8_spelling u8_at
-unfolding u8_at
+unfolding u8_at u8_spelling
 u8_exact = record {
   takes = λ old n new each e.
       let b = bind_ok (bytes_at 1 old) (λ front. Ok (get_or front.0 0 0, front.1)) (n, new) e in
@@ -85,7 +85,7 @@ text_again name at behind is =
     rw whole refl
 
 pub name_exact : IsExact IsName name_spelling name_at
-unfolding name_at
+unfolding name_at name_spelling u8_spelling
 name_exact = record {
   takes = λ old name new each e.
       let b = bind_ok (u8_at old) (λ len. cond (eqb len.0 0) (Err (BadTag old.at 0)) (bytes_at len.0 len.1) >>= λ front. text_of front.0 len.1.at front.1) (name, new) e in
@@ -109,7 +109,7 @@ name_exact = record {
 }
 
 pub blob_exact : (most : ℕ) → most < 2 ^ 32 → IsExact (IsBlob most) blob_spelling (blob_at most)
-unfolding blob_at
+unfolding blob_at blob_spelling u32_spelling
 blob_exact most small = record {
   takes = λ old blob new each e.
       let b = bind_ok (u32_at old) (λ len. cond (ltb most len.0) (Err TooLong) (bytes_at len.0 len.1)) (blob, new) e in
@@ -127,6 +127,7 @@ blob_exact most small = record {
 
 -- twelve bytes are the spelling of the id in them
 id_back : (bytes : List ℕ) → length bytes ≡ 12 → IsBytes bytes → id_spelling (id_of bytes) ≡ bytes
+unfolding id_spelling u64_spelling u32_spelling
 id_back bytes len each =
     let run : u64_spelling (from_be_bytes w64 (take 8 bytes)) ≡ take 8 bytes = wide64.back (take 8 bytes) (omega (arith, len, length-take 8 bytes)) (IsBytes-take 8 bytes each) in
     let k : u32_spelling (from_be_bytes w32 (drop 8 bytes)) ≡ drop 8 bytes = wide32.back (drop 8 bytes) (omega (arith, len, length-drop 8 bytes)) (IsBytes-drop 8 bytes each) in
@@ -134,6 +135,7 @@ id_back bytes len each =
 
 -- the id in its spelling
 id_again : (id : ObjectId) → IsId id → id_of (id_spelling id) ≡ id
+unfolding id_spelling u64_spelling u32_spelling
 id_again id fits =
     let run : from_be_bytes w64 (u64_spelling id.run.0) ≡ id.run.0 = wide64.again id.run.0 (omega (arith, fits.run)) in
     let k : from_be_bytes w32 (u32_spelling id.k) ≡ id.k = wide32.again id.k fits.k in
@@ -144,7 +146,7 @@ id_chosen : (read id : ObjectId) (new : Rest) (e : WireRefused) → read ≡ id 
 id_chosen read id new e same below = rw same (rw (lt-ltb id.run.0 NUMBERS_END below) refl)
 
 pub id_exact : IsExact IsId id_spelling id_at
-unfolding id_at
+unfolding id_at id_spelling u64_spelling u32_spelling
 id_exact = record {
   takes = λ old id new each e.
       let b = bind_ok (bytes_at 12 old) (λ front. cond (ltb (id_of front.0).run.0 NUMBERS_END) (Ok (id_of front.0, front.1)) (Err (BadTag old.at (get_or front.0 0 0)))) (id, new) e in

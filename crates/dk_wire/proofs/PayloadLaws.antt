@@ -1,8 +1,10 @@
 -- Readings whose faults are places.
-use Rattle.std.proofs.Common.{◌≡◌, ℕ, List, Result, Ok, Err, refl, ap}
+use Rattle.std.specs.Prelude.{IfErr}
+use Rattle.std.proofs.Common.{◌≢◌, ◌≡◌, ℕ, Result, Ok, Err, refl, ap}
 use Rattle.dk_wire.specs.declared.refused.WireRefused.{WireRefused}
 use Rattle.dk_wire.specs.declared.refused.WireRefused.TheVariants.{Short, Extra, BadTag, TooLong, NoMemory}
 use Rattle.dk_wire.specs.declared.payload.PayloadRefused.{PayloadRefused}
+use Rattle.dk_wire.specs.declared.payload.PayloadRefused.TheVariants as payload
 use Rattle.dk_wire.specs.Rest.{Rest}
 use Rattle.dk_wire.specs.Reading.{Reads}
 use Rattle.dk_wire.specs.Payload.{placed, told_of, Gives}
@@ -18,3 +20,12 @@ told_gives {A} reading old at taken new result same is reads = rw (is, same) (by
     by (Err (Extra at)) reads = ap (placed old.at) reads.1
     by (Err (BadTag at tag)) reads = ap (placed old.at) reads.1
     by (Err TooLong) reads = ap (placed old.at) reads.1
+
+-- where taking took no memory, telling takes none
+pub told_memory : {A : Type 0} (at : ℕ) (taken : Result A WireRefused) (result : Result A PayloadRefused) → result ≡ told_of at taken → IfErr taken (λ e. e ≢ NoMemory) → IfErr result (λ e. e ≢ payload.NoMemory)
+told_memory at (Ok x) result is never = rw is tt
+told_memory at (Err NoMemory) result is never = absurd (never refl)
+told_memory at (Err (Short need have)) result is never = rw is (λ e. cc)
+told_memory at (Err (Extra place)) result is never = rw is (λ e. cc)
+told_memory at (Err (BadTag place tag)) result is never = rw is (λ e. cc)
+told_memory at (Err TooLong) result is never = rw is (λ e. cc)

@@ -1,11 +1,13 @@
 -- Reading a payload of fields. A fault is told by its place alone: that of the first byte of the field that is cut off, or is outside its form or limit.
-use Rattle.std.specs.Prelude.{◌≡◌, ℕ, Bool, List, length, Result, Ok, Err, if◌then◌else◌}
+use Rattle.std.specs.Prelude.{◌≡◌, ℕ, Bool, List, Result, Ok, Err, if◌then◌else◌}
 use Rattle.dk_types.specs.declared.number.ObjectId.{ObjectId}
+use Rattle.dk_types.specs.declared.number.TaskKey.{TaskKey}
 use Rattle.dk_wire.specs.declared.refused.WireRefused.{WireRefused}
 use Rattle.dk_wire.specs.declared.refused.WireRefused.TheVariants as wire
 use Rattle.dk_wire.specs.declared.payload.PayloadRefused.{PayloadRefused}
 use Rattle.dk_wire.specs.declared.payload.PayloadRefused.TheVariants.{NotInGrammar, NoMemory}
 use Rattle.dk_wire.specs.Rest.{Rest}
+use Rattle.dk_wire.specs.Fields.{key_of_id}
 use Rattle.dk_wire.specs.Reading.{◌>>=◌, u8_at, u16_at, u32_at, u64_at, name_at, blob_at, id_at, end_at}
 
 -- what was read at this place, with any fault told by the place
@@ -33,6 +35,12 @@ next_blob most r = placed r.at (blob_at most r)
 
 unfoldable pub next_id : Rest → Result (ObjectId × Rest) ℕ
 next_id r = placed r.at (id_at r)
+
+-- a key has the form of an id
+unfoldable pub next_key : Rest → Result (TaskKey × Rest) ℕ
+next_key r = do
+  id ← next_id r
+  Ok (key_of_id id.0, id.1)
 
 -- nothing is left
 unfoldable pub next_end : Rest → Result Unit ℕ
@@ -74,3 +82,9 @@ GivesBy view reading old (Err e) new = Misses e (reading old)
 abbrev pub Gives : {A : Type 0} → (Rest → Result (A × Rest) ℕ) → Rest → Result A PayloadRefused → Rest → Type 0
 Gives reading old (Ok x) new = reading old ≡ Ok (x, new)
 Gives reading old (Err e) new = Misses e (reading old)
+
+-- What a whole payload was decoded to, where reading is exact. Ok: a value that fits, and the payload is its spelling. Refused for another cause than memory: the payload spells no value that fits, and the place is that of the first fault.
+abbrev pub Decodes : {A : Type 0} → (A → Type 0) → (A → List ℕ) → (Rest → Result (A × Rest) ℕ) → List ℕ → Result A PayloadRefused → Type 0
+Decodes Fits spelling reading payload (Ok x) = Fits x × (payload ≡ spelling x)
+Decodes Fits spelling reading payload (Err NoMemory) = Unit {0}
+Decodes {A} Fits spelling reading payload (Err (NotInGrammar at)) = (whole reading payload ≡ Err at) × ((x : A) → Fits x → payload ≡ spelling x → ⊥)

@@ -1,11 +1,11 @@
 //! Reading a payload of fields, where a fault is told by its place alone.
 ghost use Rattle.std.specs.Prelude.{◌≡◌, ◌≢◌, Ok, IfErr, MatchResult};
 ghost use Rattle.dk_wire.specs.declared.payload.PayloadRefused.TheVariants.{NoMemory as OutOfMemory};
-ghost use Rattle.dk_wire.specs.Payload.{Gives, Misses, told_of, next_u8, next_u16, next_u32, next_u64, next_name, next_blob, next_id, next_end};
+ghost use Rattle.dk_wire.specs.Payload.{Gives, Misses, told_of, next_u8, next_u16, next_u32, next_u64, next_name, next_blob, next_id, next_key, next_end};
 
 use crate::reader::Reader;
 use crate::refused::WireRefused;
-use dk_types::{Blob, Name, NoMemory, ObjectId};
+use dk_types::{Blob, Name, NoMemory, ObjectId, TaskKey};
 use std::alloc::{AllocError, AllocFailed, Global};
 
 /// Why a payload is no spelling of a value.
@@ -44,59 +44,77 @@ impl<T: Drop> From<AllocFailed<T>> for PayloadRefused {
 /// Each call is the `take` of its name, and its refusal tells where the field stands.
 impl<'a> Reader<'a> {
     pub fn next_u8(&mut self) -> Result<u8, PayloadRefused>
-        ensures { Gives next_u8 self.old result self.new }
+        ensures gives { Gives next_u8 self.old result self.new }
+        ensures memory { IfErr result (λ e. e ≢ PayloadRefused.NoMemory) }
     {
         let at = self.at();
-        told(at, self.take_u8())
+        told(at, self.read_u8())
     }
 
     pub fn next_u16(&mut self) -> Result<u16, PayloadRefused>
-        ensures { Gives next_u16 self.old result self.new }
+        ensures gives { Gives next_u16 self.old result self.new }
+        ensures memory { IfErr result (λ e. e ≢ PayloadRefused.NoMemory) }
     {
         let at = self.at();
-        told(at, self.take_u16())
+        told(at, self.read_u16())
     }
 
     pub fn next_u32(&mut self) -> Result<u32, PayloadRefused>
-        ensures { Gives next_u32 self.old result self.new }
+        ensures gives { Gives next_u32 self.old result self.new }
+        ensures memory { IfErr result (λ e. e ≢ PayloadRefused.NoMemory) }
     {
         let at = self.at();
-        told(at, self.take_u32())
+        told(at, self.read_u32())
     }
 
     pub fn next_u64(&mut self) -> Result<u64, PayloadRefused>
-        ensures { Gives next_u64 self.old result self.new }
+        ensures gives { Gives next_u64 self.old result self.new }
+        ensures memory { IfErr result (λ e. e ≢ PayloadRefused.NoMemory) }
     {
         let at = self.at();
-        told(at, self.take_u64())
+        told(at, self.read_u64())
     }
 
     pub fn next_name(&mut self, alloc: Global) -> Result<Name, PayloadRefused>
         ensures { Gives next_name self.old result self.new }
     {
         let at = self.at();
-        told(at, self.take_name(alloc))
+        told(at, self.read_name(alloc))
     }
 
     pub fn next_blob(&mut self, alloc: Global, most: u32) -> Result<Blob, PayloadRefused>
         ensures { Gives (next_blob most) self.old result self.new }
     {
         let at = self.at();
-        told(at, self.take_blob(alloc, most))
+        told(at, self.read_blob(alloc, most))
     }
 
     pub fn next_id(&mut self) -> Result<ObjectId, PayloadRefused>
-        ensures { Gives next_id self.old result self.new }
+        ensures gives { Gives next_id self.old result self.new }
+        ensures memory { IfErr result (λ e. e ≢ PayloadRefused.NoMemory) }
     {
         let at = self.at();
-        told(at, self.take_id())
+        told(at, self.read_id())
+    }
+
+    /// The key of a task, which has the form of an id.
+    #[tactic(auto, unfolding(crate::specs::Payload::next_key))]
+    pub fn next_key(&mut self) -> Result<TaskKey, PayloadRefused>
+        ensures gives { Gives next_key self.old result self.new }
+        ensures memory { IfErr result (λ e. e ≢ PayloadRefused.NoMemory) }
+    {
+        let id = self.next_id()?;
+        Ok(TaskKey {
+            run: id.run,
+            k: id.k,
+        })
     }
 
     /// Refuses the place where bytes are left. Takes no memory.
     #[tactic(auto, unfolding(crate::specs::Payload::next_end, crate::specs::Reading::end_at))]
     pub fn next_end(&self) -> Result<(), PayloadRefused>
         ensures gives { MatchResult result (λ done. next_end self.now ≡ Ok done) (λ e. Misses e (next_end self.now)) }
-        ensures never { IfErr result (λ e. e ≢ PayloadRefused.NoMemory) }
+        ensures memory { IfErr result (λ e. e ≢ PayloadRefused.NoMemory) }
     {
         match self.end() {
             Ok(()) => Ok(()),

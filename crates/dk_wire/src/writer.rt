@@ -1,9 +1,9 @@
 //! Putting fields at the end.
 ghost use Rattle.std.specs.Prelude.{◌≡◌, ◌<◌, ◌≤◌, ◌^◌, ◌++◌, [], length, OnOk, OnErr};
-ghost use Rattle.dk_wire.specs.Fields.{u8_spelling, u16_spelling, u32_spelling, u64_spelling, name_spelling, blob_spelling, id_spelling};
+ghost use Rattle.dk_wire.specs.Fields.{u8_spelling, u16_spelling, u32_spelling, u64_spelling, name_spelling, blob_spelling, id_spelling, key_spelling};
 
 use byteorder::{BigEndian, ByteOrder};
-use dk_types::{Blob, Name, NoMemory, ObjectId};
+use dk_types::{Blob, Name, NoMemory, ObjectId, TaskKey};
 use std::alloc::Global;
 use std::marker::Model;
 
@@ -39,6 +39,7 @@ impl Writer {
         Blob::from_vec(out)
     }
 
+    #[tactic(auto, unfolding(crate::specs::Fields::u8_spelling))]
     pub fn put_u8(&mut self, value: u8) -> Result<(), NoMemory>
         ensures ok { OnOk result (self.new ≡ self.old ++ u8_spelling value) }
         ensures err { OnErr result (self.new ≡ self.old) }
@@ -47,6 +48,7 @@ impl Writer {
         Ok(())
     }
 
+    #[tactic(auto, unfolding(crate::specs::Fields::u16_spelling))]
     pub fn put_u16(&mut self, value: u16) -> Result<(), NoMemory>
         ensures ok { OnOk result (self.new ≡ self.old ++ u16_spelling value) }
         ensures err { OnErr result (self.new ≡ self.old) }
@@ -57,6 +59,7 @@ impl Writer {
         Ok(())
     }
 
+    #[tactic(auto, unfolding(crate::specs::Fields::u32_spelling))]
     pub fn put_u32(&mut self, value: u32) -> Result<(), NoMemory>
         ensures ok { OnOk result (self.new ≡ self.old ++ u32_spelling value) }
         ensures err { OnErr result (self.new ≡ self.old) }
@@ -67,6 +70,7 @@ impl Writer {
         Ok(())
     }
 
+    #[tactic(auto, unfolding(crate::specs::Fields::u64_spelling))]
     pub fn put_u64(&mut self, value: u64) -> Result<(), NoMemory>
         ensures ok { OnOk result (self.new ≡ self.old ++ u64_spelling value) }
         ensures err { OnErr result (self.new ≡ self.old) }
@@ -77,6 +81,7 @@ impl Writer {
         Ok(())
     }
 
+    #[tactic(auto, unfolding(crate::specs::Fields::name_spelling))]
     pub fn put_name(&mut self, value: &Name) -> Result<(), NoMemory>
         ensures ok { OnOk result (self.new ≡ self.old ++ name_spelling value.now) }
         ensures err { OnErr result (self.new ≡ self.old) }
@@ -86,6 +91,7 @@ impl Writer {
     }
 
     /// Puts the blob, which the caller holds below 2^32 bytes.
+    #[tactic(auto, unfolding(crate::specs::Fields::blob_spelling, crate::specs::Fields::u32_spelling))]
     pub fn put_blob(&mut self, value: &Blob) -> Result<(), NoMemory>
         requires { length value.now < 2 ^ 32 }
         ensures ok { OnOk result (self.new ≡ self.old ++ blob_spelling value.now) }
@@ -97,6 +103,7 @@ impl Writer {
         append_both(&mut self.out, &len, blob)
     }
 
+    #[tactic(auto, unfolding(crate::specs::Fields::id_spelling, crate::specs::Fields::u64_spelling, crate::specs::Fields::u32_spelling))]
     pub fn put_id(&mut self, value: ObjectId) -> Result<(), NoMemory>
         ensures ok { OnOk result (self.new ≡ self.old ++ id_spelling value) }
         ensures err { OnErr result (self.new ≡ self.old) }
@@ -106,6 +113,18 @@ impl Writer {
         BigEndian::write_u32(&mut bytes[8..], value.k);
         self.out.extend_from_slice(&bytes)?;
         Ok(())
+    }
+
+    /// Puts the key of a task, which has the form of an id.
+    #[tactic(auto, unfolding(crate::specs::Fields::key_spelling))]
+    pub fn put_key(&mut self, value: TaskKey) -> Result<(), NoMemory>
+        ensures ok { OnOk result (self.new ≡ self.old ++ key_spelling value) }
+        ensures err { OnErr result (self.new ≡ self.old) }
+    {
+        self.put_id(ObjectId {
+            run: value.run,
+            k: value.k,
+        })
     }
 }
 

@@ -1,4 +1,4 @@
-use Rattle.std.proofs.Common.{◌≡◌, ◌∙◌, sym, nat_eq, string_bytes}
+use Rattle.std.proofs.Common.{◌∙◌, sym, nat_eq, string_bytes}
 use Rattle.std.specs.Cmp.Lexicographic.{pointwise}
 use Rattle.std.specs.Cmp.Derive.Mapped.{pointwise-map}
 use Rattle.dk_types.proofs.words.WordsPartialEq.eq.Goals as goal

@@ -1,8 +1,11 @@
 use Rattle.dk_wire.specs.Reading.{u16_at}
 use Rattle.dk_wire.specs.Payload.{next_u16}
-use Rattle.dk_wire.proofs.PayloadLaws.{told_gives}
+use Rattle.dk_wire.proofs.PayloadLaws.{told_gives, told_memory}
 use Rattle.dk_wire.proofs.reader.Reader.next_u16.Goals as goal
 
-pub returns : goal.returns
+pub returns-clause-gives : goal.returns-clause-gives
 unfolding next_u16
-returns c = told_gives u16_at c.args.self.now c.at-at.result c.take_u16.result c.take_u16.new.self c.told.result c.at-at.ensures c.told.ensures c.take_u16.ensures
+returns-clause-gives c = told_gives u16_at c.args.self.now c.at-at.result c.read_u16.result c.read_u16.new.self c.told.result c.at-at.ensures c.told.ensures c.read_u16.ensures.reads
+
+pub returns-clause-memory : goal.returns-clause-memory
+returns-clause-memory c = told_memory c.at-at.result c.read_u16.result c.told.result c.told.ensures c.read_u16.ensures.memory

@@ -1,0 +1,109 @@
+//! Formats of whole values: a form of a record, counted lists of a form, and payloads that hold one value.
+//!
+//! A format above names a type of its own for each record and implements `Form` for it: `put` and `take` are its fields
+//! one after another, `reading` says the same with `do`, and `exact` is a lemma for each field, out of
+//! `proofs/Composing`. Lists, `encode` and `decode` then come with their laws. The crate `dk_wire_uses` is a whole one.
+ghost use Rattle.std.specs.Prelude.{◌≡◌, ◌++◌, ℕ, List, Option, None, Result, Ok, OnOk, IfOk, MatchResult};
+ghost use Rattle.std.specs.Option.{option_copied};
+ghost use Rattle.dk_wire.specs.Rest.{Rest};
+ghost use Rattle.dk_wire.specs.Exact.{IsExact};
+ghost use Rattle.dk_wire.specs.Payload.{Gives, Misses, Decodes, whole};
+ghost use Rattle.dk_wire.specs.Lists.{IsList, list_spelling, items_at, list_at};
+
+use crate::payload::PayloadRefused;
+use crate::reader::Reader;
+use crate::writer::Writer;
+use dk_types::{Blob, Listed, NoMemory};
+use std::alloc::Global;
+
+/// A form in which values of `T` are spelled. It is a type without fields, named for the format, so that one type may
+/// have several. In a list an item may have to fit behind the one before it, as where items ascend; a form that does
+/// not care leaves that argument alone.
+pub trait Form<T> {
+    // what may stand behind the item before it, if there is one
+    ghost fits: { Option T → T → Type 0 };
+
+    ghost spelling: { T → List ℕ };
+
+    // behind the item before it
+    ghost reading: { Option T → Rest → Result (T × Rest) ℕ };
+
+    /// Puts an item. Where there is no memory, what the writer holds is not said: let it go.
+    fn put(writer: &mut Writer, item: &T) -> Result<(), NoMemory>
+        requires { (before : Option T) × fits before item.now }
+        ensures { OnOk result (writer.new ≡ writer.old ++ spelling item.now) };
+
+    /// Takes an item that stands behind `before`.
+    fn take(alloc: Global, reader: &mut Reader<'_>, before: Option<&T>) -> Result<T, PayloadRefused>
+        ensures { Gives (reading (option_copied before.entry)) reader.old result reader.new };
+
+    // what is put is taken again, and nothing else is taken
+    ghost exact: { (before : Option T) → IsExact (fits before) spelling (reading before) };
+}
+
+/// The spelling of a value.
+pub fn encode<T, F: Form<T>>(alloc: Global, value: &T) -> Result<Blob, NoMemory>
+    requires { F.fits None value.now }
+    ensures { IfOk result (λ payload. payload ≡ F.spelling value.now) }
+{
+    let mut writer = Writer::new(alloc);
+    F::put(&mut writer, value)?;
+    Ok(writer.finish())
+}
+
+/// The value that a whole payload spells.
+pub fn decode<T: Drop, F: Form<T>>(alloc: Global, payload: &[u8]) -> Result<T, PayloadRefused>
+    ensures { Decodes (F.fits None) F.spelling (F.reading None) payload.now result }
+{
+    decode_any::<T, F>(alloc, payload)
+}
+
+fn decode_any<T: Drop, F: Form<T>>(alloc: Global, payload: &[u8]) -> Result<T, PayloadRefused>
+    ensures { MatchResult result (λ x. whole (F.reading None) payload.now ≡ Ok x) (λ e. Misses e (whole (F.reading None) payload.now)) }
+{
+    let mut reader = Reader::new(payload);
+    let before: Option<T> = None;
+    let value = F::take(alloc, &mut reader, before.as_ref())?;
+    reader.next_end()?;
+    Ok(value)
+}
+
+/// Puts the number of the items, and the items. Where there is no memory, what the writer holds is not said: let it go.
+#[tactic(auto, unfolding(crate::specs::Lists::list_spelling))]
+pub fn put_list<T, F: Form<T>>(writer: &mut Writer, items: &[T]) -> Result<(), NoMemory>
+    requires { IsList F.fits items.now }
+    ensures { OnOk result (writer.new ≡ writer.old ++ list_spelling F.spelling items.now) }
+{
+    writer.put_u32(items.len() as u32)?;
+    for item in items {
+        F::put(writer, item)?;
+    }
+    Ok(())
+}
+
+/// Takes a list: its count, and that many items, each behind the one before it.
+#[tactic(auto, unfolding(crate::specs::Lists::list_at))]
+pub fn take_list<T: Drop, F: Form<T>>(
+    alloc: Global,
+    reader: &mut Reader<'_>,
+) -> Result<Listed<T>, PayloadRefused>
+    ensures { Gives (list_at F.reading) reader.old result reader.new }
+{
+    let count = reader.next_u32()?;
+    take_items::<T, F>(alloc, reader, count)
+}
+
+fn take_items<T: Drop, F: Form<T>>(
+    alloc: Global,
+    reader: &mut Reader<'_>,
+    count: u32,
+) -> Result<Listed<T>, PayloadRefused>
+    ensures { Gives (items_at F.reading None count) reader.old result reader.new }
+{
+    let mut items: Vec<T> = Vec::new(alloc);
+    for _ in 0..count {
+        let item = F::take(alloc, reader, items.last())?;
+        items.push(item)?;
+    }
+    Ok(Listed::from_vec(items))
+}
