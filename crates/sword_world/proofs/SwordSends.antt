@@ -1,4 +1,4 @@
--- The game sends at most one message in each job.
+-- The game sends at most one message in each job, and leaves the number of commits alone.
 use Rattle.std.proofs.Common.{ℕ, Option, Some, None, List, [], ◌∷◌, Ok, ◌+◌, arith}
 use Rattle.std.specs.FinMap as maps
 use Rattle.dk_types.specs.declared.number.ConnNo.{ConnNo}
