@@ -60,4 +60,25 @@ impl<O: Book, J: Naming> Desk<O, J> {
         end_turn::<O, J>(words, &mut self.seat, &mut pass.seat, number, &self.book);
         reply
     }
+
+    // `enter` by the pass, before and after which `other` sees the history.
+    pub(crate) fn enter_both<E: Step<O>>(
+        &mut self,
+        words: &Words<O>,
+        pass: &mut Pass<O, J>,
+        other: &mut Pass<O, J>,
+        step: E,
+    ) -> E::Reply
+        requires words { (words.now.table_id ≡ J.name.table) × (0 < words.now.table_id.words) }
+        requires may { Continues O.number pass.old.number pass.old.front (O.history self.old.book) → Continues O.number other.old.number other.old.front (O.history self.old.book) → E.may step pass.old.number (O.history self.old.book) }
+        ensures numbers { (pass.new.number ≡ pass.old.number) × (other.new.number ≡ other.old.number) }
+        ensures same { other.new.front ≡ pass.new.front }
+        ensures named { All (λ e. O.number e < J.name.passes) pass.new.front }
+        ensures called { Called O.number pass.old.number (λ before added. Continues O.number other.old.number other.old.front before × E.gives step pass.old.number before result added) pass.old.front pass.new.front }
+    {
+        self.see(words, other);
+        let reply = self.enter(words, pass, step);
+        self.see(words, other);
+        reply
+    }
 }

@@ -1,4 +1,6 @@
 //! The right to call, and what the calls have seen.
+ghost use Rattle.std.specs.Prelude.{◌≡◌};
+
 use crate::book::Book;
 use crate::naming::Naming;
 use crate::rule::Place;
@@ -26,4 +28,13 @@ impl<O: Book, J: Naming> Model for Pass<O, J> {
     ghost view = { λ p. known p.number p.seat.me.0.seen };
 
     ghost invariant = { λ p. (p.seat.table_id ≡ J.name.table) × (p.seat.me.0 ≡ pass_of p.number p.seat.me.0.seen) × (p.number < J.name.passes) × All (λ e. O.number e < J.name.passes) p.seat.me.0.seen };
+}
+
+impl<O: Book, J: Naming> Pass<O, J> {
+    /// The number in whose name its steps enter. The passes of a turn have the numbers from 0 on.
+    pub fn number(&self) -> u32
+        ensures { result ≡ self.now.number }
+    {
+        self.number
+    }
 }

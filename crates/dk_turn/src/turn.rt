@@ -77,7 +77,9 @@ impl<O: Book, J: Naming> Turn<O, J> {
         ensures called { Called O.number pass.old.number (λ before added. E.gives step pass.old.number before result added) pass.old.front pass.new.front }
         ensures named { All (λ e. O.number e < J.name.passes) pass.new.front }
     {
-        let reply = self.desk.lock(rt).enter(&self.table.shared, pass, step);
+        let mut desk = self.desk.lock(rt);
+        let reply = desk.enter(&self.table.shared, pass, step);
+        drop(desk);
         self.wake(E::wakes(&reply));
         reply
     }
@@ -110,9 +112,7 @@ impl<O: Book, J: Naming> Turn<O, J> {
         ensures named { All (λ e. O.number e < J.name.passes) pass.new.front }
     {
         let mut desk = self.desk.lock(rt);
-        desk.see(&self.table.shared, other);
-        let reply = desk.enter(&self.table.shared, pass, step);
-        desk.see(&self.table.shared, other);
+        let reply = desk.enter_both(&self.table.shared, pass, other, step);
         drop(desk);
         self.wake(E::wakes(&reply));
         reply
