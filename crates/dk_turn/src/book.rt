@@ -26,7 +26,10 @@ pub trait Step<O: Book> {
     /// Adds no entry or more to the end of the history, each with the number `pass`. The lock is held meanwhile.
     fn apply(self, pass: u32, book: &mut O) -> Self::Reply
         requires { may self pass (O.history book.old) }
-        ensures { (added : List O.Entry) × (O.history book.new ≡ O.history book.old ++ added) × All (λ e. O.number e ≡ pass) added × gives self pass (O.history book.old) result added };
+        ensures { (added : List O.Entry)
+            × (O.history book.new ≡ O.history book.old ++ added)
+            × All (λ e. O.number e ≡ pass) added
+            × gives self pass (O.history book.old) result added };
 
     /// Whether those who wait (`Turn::wait`) are to look again after this reply. Without an `impl` of it they always are.
     fn wakes(reply: &Self::Reply) -> bool {

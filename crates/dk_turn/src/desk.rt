@@ -46,11 +46,15 @@ impl<O: Book, J: Naming> Desk<O, J> {
         step: E,
     ) -> E::Reply
         requires words { (words.now.table_id ≡ J.name.table) × (0 < words.now.table_id.words) }
-        requires may { Continues O.number pass.old.number pass.old.front (O.history self.old.book) → E.may step pass.old.number (O.history self.old.book) }
+        requires may { Continues O.number pass.old.number pass.old.front (O.history self.old.book)
+            → E.may step pass.old.number (O.history self.old.book) }
         ensures number { pass.new.number ≡ pass.old.number }
         ensures front { pass.new.front ≡ O.history self.new.book }
         ensures named { All (λ e. O.number e < J.name.passes) pass.new.front }
-        ensures called { Called O.number pass.old.number (λ before added. (before ≡ O.history self.old.book) × E.gives step pass.old.number before result added) pass.old.front pass.new.front }
+        ensures called { Called O.number pass.old.number
+            (λ before added. (before ≡ O.history self.old.book)
+            × E.gives step pass.old.number before result added)
+            pass.old.front pass.new.front }
     {
         let number = pass.number;
         take_turn::<O, J>(words, &mut self.seat, &mut pass.seat, number, &self.book);
@@ -70,11 +74,16 @@ impl<O: Book, J: Naming> Desk<O, J> {
         step: E,
     ) -> E::Reply
         requires words { (words.now.table_id ≡ J.name.table) × (0 < words.now.table_id.words) }
-        requires may { Continues O.number pass.old.number pass.old.front (O.history self.old.book) → Continues O.number other.old.number other.old.front (O.history self.old.book) → E.may step pass.old.number (O.history self.old.book) }
+        requires may { Continues O.number pass.old.number pass.old.front (O.history self.old.book)
+            → Continues O.number other.old.number other.old.front (O.history self.old.book)
+            → E.may step pass.old.number (O.history self.old.book) }
         ensures numbers { (pass.new.number ≡ pass.old.number) × (other.new.number ≡ other.old.number) }
         ensures same { other.new.front ≡ pass.new.front }
         ensures named { All (λ e. O.number e < J.name.passes) pass.new.front }
-        ensures called { Called O.number pass.old.number (λ before added. Continues O.number other.old.number other.old.front before × E.gives step pass.old.number before result added) pass.old.front pass.new.front }
+        ensures called { Called O.number pass.old.number
+            (λ before added. Continues O.number other.old.number other.old.front before
+            × E.gives step pass.old.number before result added)
+            pass.old.front pass.new.front }
     {
         self.see(words, other);
         let reply = self.enter(words, pass, step);

@@ -10,7 +10,8 @@ use crate::rule::{Enters, Lends, Place, Sees, Words};
 
 // The book goes from one seat to another.
 fn lend<O: Book>(words: &Words<O>, from: &mut Place<O>, to: &mut Place<O>)
-    requires table { (0 < words.now.table_id.words) × (from.old.table_id ≡ words.now.table_id) × (to.old.table_id ≡ words.now.table_id) }
+    requires words { 0 < words.now.table_id.words }
+    requires table { (from.old.table_id ≡ words.now.table_id) × (to.old.table_id ≡ words.now.table_id) }
     requires book { (h : List O.Entry) × (from.old.me.0.book ≡ Some h) }
     ensures from { (from.new.table_id ≡ from.old.table_id) × (from.new.me.0 ≡ without_book from.old.me.0) }
     ensures to { (to.new.table_id ≡ to.old.table_id) × (to.new.me.0 ≡ with_book to.old.me.0 from.old.me.0) }
@@ -27,7 +28,8 @@ pub(crate) fn take_turn<O: Book, J: Naming>(
     number: u32,
     book: &O,
 )
-    requires table { (0 < words.now.table_id.words) × (desk.old.table_id ≡ words.now.table_id) × (pass.old.table_id ≡ words.now.table_id) }
+    requires words { 0 < words.now.table_id.words }
+    requires table { (desk.old.table_id ≡ words.now.table_id) × (pass.old.table_id ≡ words.now.table_id) }
     requires desk { desk.old.me.0 ≡ keeper_of (O.history book.now) J.name.passes }
     requires pass { pass.old.me.0 ≡ pass_of number pass.old.me.0.seen }
     ensures table { (desk.new.table_id ≡ desk.old.table_id) × (pass.new.table_id ≡ pass.old.table_id) }
@@ -49,8 +51,12 @@ pub(crate) fn add_entries<O: Book, J: Naming>(
     book: &O,
     wakes: bool,
 ) -> u64
-    requires table { (0 < words.now.table_id.words) × (pass.old.table_id ≡ words.now.table_id) }
-    requires added { (old : List O.Entry) × (added : List O.Entry) × (pass.old.me.0 ≡ turn_of number old old J.name.passes) × (O.history book.now ≡ old ++ added) × All (λ e. O.number e ≡ number) added }
+    requires words { 0 < words.now.table_id.words }
+    requires table { pass.old.table_id ≡ words.now.table_id }
+    requires added { (old : List O.Entry) × (added : List O.Entry)
+        × (pass.old.me.0 ≡ turn_of number old old J.name.passes)
+        × (O.history book.now ≡ old ++ added)
+        × All (λ e. O.number e ≡ number) added }
     ensures table { pass.new.table_id ≡ pass.old.table_id }
     ensures pass { pass.new.me.0 ≡ turn_of number (O.history book.now) (O.history book.now) J.name.passes }
     ensures named { All (λ e. O.number e < J.name.passes) (O.history book.now) }
@@ -69,7 +75,8 @@ pub(crate) fn end_turn<O: Book, J: Naming>(
     number: u32,
     book: &O,
 )
-    requires table { (0 < words.now.table_id.words) × (desk.old.table_id ≡ words.now.table_id) × (pass.old.table_id ≡ words.now.table_id) }
+    requires words { 0 < words.now.table_id.words }
+    requires table { (desk.old.table_id ≡ words.now.table_id) × (pass.old.table_id ≡ words.now.table_id) }
     requires desk { desk.old.me.0 ≡ nobody }
     requires pass { pass.old.me.0 ≡ turn_of number (O.history book.now) (O.history book.now) J.name.passes }
     ensures table { (desk.new.table_id ≡ desk.old.table_id) × (pass.new.table_id ≡ pass.old.table_id) }

@@ -27,7 +27,10 @@ impl<O: Book, J: Naming> Model for Pass<O, J> {
 
     ghost view = { λ p. known p.number p.seat.me.0.seen };
 
-    ghost invariant = { λ p. (p.seat.table_id ≡ J.name.table) × (p.seat.me.0 ≡ pass_of p.number p.seat.me.0.seen) × (p.number < J.name.passes) × All (λ e. O.number e < J.name.passes) p.seat.me.0.seen };
+    ghost invariant = { λ p. (p.seat.table_id ≡ J.name.table)
+        × (p.seat.me.0 ≡ pass_of p.number p.seat.me.0.seen)
+        × (p.number < J.name.passes)
+        × All (λ e. O.number e < J.name.passes) p.seat.me.0.seen };
 }
 
 impl<O: Book, J: Naming> Pass<O, J> {

@@ -72,9 +72,13 @@ impl<O: Book, J: Naming> Turn<O, J> {
 
     /// Applies the step at one point of the history. The new front begins with the old one, and ends with what the step added.
     pub fn with<R: Wait, E: Step<O>>(&self, rt: &R, pass: &mut Pass<O, J>, step: E) -> E::Reply
-        requires { (book : O) → Continues O.number pass.old.number pass.old.front (O.history book) → E.may step pass.old.number (O.history book) }
+        requires { (book : O)
+            → Continues O.number pass.old.number pass.old.front (O.history book)
+            → E.may step pass.old.number (O.history book) }
         ensures number { pass.new.number ≡ pass.old.number }
-        ensures called { Called O.number pass.old.number (λ before added. E.gives step pass.old.number before result added) pass.old.front pass.new.front }
+        ensures called { Called O.number pass.old.number
+            (λ before added. E.gives step pass.old.number before result added)
+            pass.old.front pass.new.front }
         ensures named { All (λ e. O.number e < J.name.passes) pass.new.front }
     {
         let mut desk = self.desk.lock(rt);
@@ -105,10 +109,16 @@ impl<O: Book, J: Naming> Turn<O, J> {
         other: &mut Pass<O, J>,
         step: E,
     ) -> E::Reply
-        requires { (book : O) → Continues O.number pass.old.number pass.old.front (O.history book) → Continues O.number other.old.number other.old.front (O.history book) → E.may step pass.old.number (O.history book) }
+        requires { (book : O)
+            → Continues O.number pass.old.number pass.old.front (O.history book)
+            → Continues O.number other.old.number other.old.front (O.history book)
+            → E.may step pass.old.number (O.history book) }
         ensures numbers { (pass.new.number ≡ pass.old.number) × (other.new.number ≡ other.old.number) }
         ensures same { other.new.front ≡ pass.new.front }
-        ensures called { Called O.number pass.old.number (λ before added. Continues O.number other.old.number other.old.front before × E.gives step pass.old.number before result added) pass.old.front pass.new.front }
+        ensures called { Called O.number pass.old.number
+            (λ before added. Continues O.number other.old.number other.old.front before
+            × E.gives step pass.old.number before result added)
+            pass.old.front pass.new.front }
         ensures named { All (λ e. O.number e < J.name.passes) pass.new.front }
     {
         let mut desk = self.desk.lock(rt);
@@ -169,7 +179,8 @@ fn deal<O: Book, J: Naming>(
     passes: u32,
     mut given: Vec<Pass<O, J>>,
 ) -> Vec<Pass<O, J>>
-    requires table { (0 < words.now.table_id.words) × (words.now.table_id ≡ J.name.table) × (seat.old.table_id ≡ J.name.table) }
+    requires words { (words.now.table_id ≡ J.name.table) × (0 < words.now.table_id.words) }
+    requires table { seat.old.table_id ≡ J.name.table }
     requires first { seat.old.me.0 ≡ dealer 0 }
     requires count { passes ≡ J.name.passes }
     requires room { (given.items ≡ []) × (passes ≤ vec_capacity given) }
