@@ -1,5 +1,5 @@
 //! What lies behind the second lock.
-ghost use Rattle.std.specs.Prelude.{◌≡◌, ◌≢◌, ◌<◌, ◌+◌, true, false, List, [], ◌∷◌, ◌++◌};
+ghost use Rattle.std.specs.Prelude.{◌≡◌, ◌≢◌, ◌<◌, ◌+◌, ◌-◌, ◌^◌, true, false, List, [], ◌∷◌, ◌++◌};
 ghost use mathlib.Core.List.{IsPrefix};
 ghost use Rattle.dk_turn_ledger.specs.declared.world.Event.{Event};
 ghost use Rattle.dk_turn_ledger.specs.Commits.{commits_of, event};
@@ -32,7 +32,7 @@ impl<L: Side, J: Naming> Store<L, J> {
         }
     }
 
-    /// Enters a commit. Before it the history had just the commits that this store had seen.
+    /// Enters a commit, and answers true. Before it the history had just the commits that this store had seen.
     pub fn publish<R: Wait>(
         &mut self,
         rt: &R,
@@ -41,9 +41,13 @@ impl<L: Side, J: Naming> Store<L, J> {
     ) -> bool
         requires { (L.all ≡ L.parts) × (L.all ≡ 1) }
         ensures number { pass.new.number ≡ pass.old.number }
-        ensures full { result ≡ false → (pass.new.front ≡ pass.old.front) × (self.new.pass.front ≡ self.old.pass.front) }
+        ensures full { result ≡ false
+            → (self.old.stored ≡ 2 ^ 64 - 1) × (self.new ≡ self.old) × (pass.new.front ≡ pass.old.front) }
         ensures same { result ≡ true → pass.new.front ≡ self.new.pass.front }
-        ensures commit { result ≡ true → (before : List Event) × IsPrefix self.old.pass.front before × (commits_of before ≡ commits_of self.old.pass.front) × (pass.new.front ≡ before ++ event pass.old.number true ∷ []) }
+        ensures commit { result ≡ true
+            → (before : List Event) × IsPrefix self.old.pass.front before
+            × (commits_of before ≡ commits_of self.old.pass.front)
+            × (pass.new.front ≡ before ++ event pass.old.number true ∷ []) }
     {
         if self.stored == u64::MAX {
             return false;

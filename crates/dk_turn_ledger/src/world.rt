@@ -59,7 +59,10 @@ impl<L: Side> Step<World<L>> for Commit<L> {
 
     ghost may = { λ s pass history. (s.share.parts ≡ L.parts) × (0 < L.parts) };
 
-    ghost gives = { λ s pass before reply added. (commits_of before ≡ s.share.amount) × (reply.parts ≡ s.share.parts) × (reply.amount ≡ s.share.amount + 1) × (added ≡ event pass true ∷ []) };
+    ghost gives = { λ s pass before reply added. (commits_of before ≡ s.share.amount)
+        × (reply.parts ≡ s.share.parts)
+        × (reply.amount ≡ s.share.amount + 1)
+        × (added ≡ event pass true ∷ []) };
 
     fn apply(self, pass: u32, book: &mut World<L>) -> Share<L> {
         let Commit { mut share } = self;

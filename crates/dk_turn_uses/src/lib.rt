@@ -1,4 +1,7 @@
-//! Books that threads share.
+//! Books that threads share behind a turn, each with a contract that pins what the threads were told.
+//!
+//! A journal of lines (`append_both`), a tally whose turns are not lost (`tally_in_threads`), and a relay whose legs two passes run in turn
+//! (`race_in_threads`). `empty_turns` and `locked_adds` are what a benchmark runs side by side.
 #![tactic(auto)]
 
 mod any_book;

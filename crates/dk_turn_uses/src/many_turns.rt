@@ -2,7 +2,7 @@
 ghost use Rattle.std.specs.Prelude.{◌≡◌, ◌+◌, ◌*◌, ◌-◌, ◌^◌, ◌<◌, ◌≤◌, true, false, List, [], ◌∷◌, length, IfSome};
 ghost use Rattle.std.specs.List.{All};
 ghost use Rattle.dk_turn.specs.Fronts.{known, ContinuesAll};
-ghost use Rattle.dk_turn_uses.specs.Ticks.{own_ticks, Took};
+ghost use Rattle.dk_turn_uses.specs.Ticks.{ticks_of, Took};
 ghost use Rattle.dk_turn_uses.specs.declared.tally.Tick.{Tick};
 
 use crate::tally::{Count, Tally, Tick};
@@ -33,8 +33,11 @@ pub(crate) fn begin<J: Naming>(
 // One turn, and whether it was counted.
 fn count<J: Naming, R: Wait>(rt: &R, turn: &Turn<Tally, J>, pass: &mut Pass<Tally, J>) -> bool
     ensures number { pass.new.number ≡ pass.old.number }
-    ensures counted { result ≡ true → length (own_ticks pass.old.number pass.new.front) ≡ length (own_ticks pass.old.number pass.old.front) + 1 }
-    ensures full { result ≡ false → (length (own_ticks pass.old.number pass.new.front) ≡ length (own_ticks pass.old.number pass.old.front)) × (length pass.new.front ≡ 2 ^ 64 - 1) }
+    ensures counted { result ≡ true
+        → ticks_of pass.old.number pass.new.front ≡ ticks_of pass.old.number pass.old.front + 1 }
+    ensures full { result ≡ false
+        → (ticks_of pass.old.number pass.new.front ≡ ticks_of pass.old.number pass.old.front)
+        × (length pass.new.front ≡ 2 ^ 64 - 1) }
     ensures longer { length pass.old.front ≤ length pass.new.front }
 {
     turn.with(rt, pass, Count).is_some()
@@ -95,7 +98,10 @@ pub(crate) fn end<J: Naming>(
     one: Pass<Tally, J>,
     two: Pass<Tally, J>,
 ) -> Option<u64>
-    ensures { IfSome result (λ n. (log : List Tick) × (n ≡ length log) × ContinuesAll (λ t. t.by) (one ∷ two ∷ []) log × All (λ t. t.by < J.name.passes) log) }
+    ensures { IfSome result (λ n. (log : List Tick)
+        × (n ≡ length log)
+        × ContinuesAll (λ t. t.by) (one ∷ two ∷ []) log
+        × All (λ t. t.by < J.name.passes) log) }
 {
     let mut passes = Vec::new(alloc);
     passes.reserve(2).ok()?;

@@ -2,7 +2,7 @@
 ghost use Rattle.std.specs.Prelude.{◌≡◌, ◌+◌, ◌%◌, ◌^◌, ◌<◌, ◌≤◌, true, false, [], ◌∷◌, length, IfSome, vec_len};
 ghost use Rattle.std.specs.List.{All};
 ghost use Rattle.dk_turn.specs.Fronts.{known, Continues, ContinuesAll};
-ghost use Rattle.dk_turn_uses.specs.Legs.{own_legs, IsInTurn};
+ghost use Rattle.dk_turn_uses.specs.Legs.{legs_of, IsInTurn};
 
 use crate::relay::{CountLegs, Leg, Relay, RunLeg};
 use dk_turn::{Blank, Naming, Pass, Turn};
@@ -39,8 +39,10 @@ fn await_turn<J: Naming, R: Wait>(rt: &R, turn: &Turn<Relay, J>, pass: &mut Pass
 fn run_leg<J: Naming, R: Wait>(rt: &R, turn: &Turn<Relay, J>, pass: &mut Pass<Relay, J>) -> bool
     requires { length pass.old.front % 2 ≡ pass.old.number }
     ensures number { pass.new.number ≡ pass.old.number }
-    ensures ran { result ≡ true → length (own_legs pass.old.number pass.new.front) ≡ length (own_legs pass.old.number pass.old.front) + 1 }
-    ensures full { result ≡ false → length (own_legs pass.old.number pass.new.front) ≡ length (own_legs pass.old.number pass.old.front) }
+    ensures ran { result ≡ true
+        → legs_of pass.old.number pass.new.front ≡ legs_of pass.old.number pass.old.front + 1 }
+    ensures full { result ≡ false
+        → legs_of pass.old.number pass.new.front ≡ legs_of pass.old.number pass.old.front }
 {
     turn.with(rt, pass, RunLeg)
 }
@@ -54,7 +56,7 @@ fn run_legs<J: Naming, R: Wait>(
 ) -> (Pass<Relay, J>, usize)
     requires { pass.front ≡ [] }
     ensures number { result.0.number ≡ pass.number }
-    ensures ran { length (own_legs pass.number result.0.front) ≡ result.1 }
+    ensures ran { legs_of pass.number result.0.front ≡ result.1 }
     ensures most { result.1 ≤ legs }
 {
     let mut ran = 0;
@@ -96,20 +98,20 @@ fn run_in_threads<J: Naming + Send + Sync, R: Threads + Wait + Sync>(
 ) -> ((Pass<Relay, J>, usize), (Pass<Relay, J>, usize))
     requires fronts { (one.front ≡ []) × (two.front ≡ []) }
     ensures numbers { (result.0.0.number ≡ one.number) × (result.1.0.number ≡ two.number) }
-    ensures one { (length (own_legs one.number result.0.0.front) ≡ result.0.1) × (result.0.1 ≤ legs) }
-    ensures two { (length (own_legs two.number result.1.0.front) ≡ result.1.1) × (result.1.1 ≤ legs) }
+    ensures one { (legs_of one.number result.0.0.front ≡ result.0.1) × (result.0.1 ≤ legs) }
+    ensures two { (legs_of two.number result.1.0.front ≡ result.1.1) × (result.1.1 ≤ legs) }
 {
     join(
         rt,
         || -> (Pass<Relay, J>, usize)
             requires { one.front ≡ [] }
             ensures number { result.0.number ≡ one.number }
-            ensures ran { (length (own_legs one.number result.0.front) ≡ result.1) × (result.1 ≤ legs) }
+            ensures ran { (legs_of one.number result.0.front ≡ result.1) × (result.1 ≤ legs) }
         { run_legs(rt, turn, one, legs) },
         || -> (Pass<Relay, J>, usize)
             requires { two.front ≡ [] }
             ensures number { result.0.number ≡ two.number }
-            ensures ran { (length (own_legs two.number result.0.front) ≡ result.1) × (result.1 ≤ legs) }
+            ensures ran { (legs_of two.number result.0.front ≡ result.1) × (result.1 ≤ legs) }
         { run_legs(rt, turn, two, legs) },
     )
 }

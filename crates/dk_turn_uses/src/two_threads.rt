@@ -2,8 +2,8 @@
 ghost use Rattle.std.specs.Prelude.{◌≡◌, ◌<◌, [], ◌∷◌, ◌++◌, length, Some, IfSome, MatchOption, slice_get};
 ghost use Rattle.std.specs.List.{All};
 ghost use mathlib.Core.List.{IsPrefix};
-ghost use Rattle.dk_turn.specs.Fronts.{known, own, Continues, ContinuesAll};
-ghost use Rattle.dk_turn_uses.specs.Lines.{line, HasLine, portion};
+ghost use Rattle.dk_turn.specs.Fronts.{known, Continues, ContinuesAll};
+ghost use Rattle.dk_turn_uses.specs.Lines.{line, own_lines, HasLine, portion};
 
 use crate::journal::{Append, Journal, Line, Portion, Recall};
 use dk_turn::{Blank, Naming, Pass, Turn};
@@ -23,8 +23,9 @@ pub fn append<J: Naming, R: Wait>(
     ensures number { pass.new.number ≡ pass.old.number }
     ensures seen { IsPrefix pass.old.front pass.new.front }
     ensures own { MatchOption result
-        (own (λ l. l.by) pass.old.number pass.new.front ≡ own (λ l. l.by) pass.old.number pass.old.front)
-        (λ _. own (λ l. l.by) pass.old.number pass.new.front ≡ own (λ l. l.by) pass.old.number pass.old.front ++ line pass.old.number value ∷ []) }
+        (own_lines pass.old.number pass.new.front ≡ own_lines pass.old.number pass.old.front)
+        (λ _. own_lines pass.old.number pass.new.front
+        ≡ own_lines pass.old.number pass.old.front ++ line pass.old.number value ∷ []) }
     ensures place { IfSome result (λ place. slice_get pass.new.front place ≡ Some (line pass.old.number value)) }
 {
     turn.with(rt, pass, Append { value })
@@ -149,8 +150,8 @@ fn end<J: Naming>(
     Some(lines)
 }
 
-/// Two threads append a line each, and then one pass reads what the other was told. Both lines stand in the history at the places that the threads were told,
-/// and neither pass has another.
+/// Two threads append a line each, and then one pass reads what the other was told. Both lines stand in the history
+/// at the places that the threads were told, and neither pass has another.
 pub fn append_both<J: Naming + Send + Sync, R: Threads + Wait + Sync>(
     rt: &R,
     alloc: Global,
