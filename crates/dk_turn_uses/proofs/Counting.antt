@@ -1,10 +1,10 @@
 -- Two threads that count lose no turn.
-use Rattle.std.proofs.Common.{◌≡◌, ℕ, ◌+◌, ◌*◌, ◌-◌, ◌^◌, ◌<◌, ◌≤◌, List, [], ◌∷◌, length, ap, subst, ◌∙◌, arith, length-append}
+use Rattle.std.proofs.Common.{◌≡◌, ℕ, ◌+◌, ◌*◌, ◌-◌, ◌^◌, ◌<◌, ◌≤◌, List, [], ◌∷◌, length, ap, arith, length-append}
 use Rattle.std.specs.List.{All}
 use mathlib.Core.Logic.{dite}
 use native.Mathlib.Decide.{ℕ_discrete}
 use mathlib.Core.List.{IsPrefix}
-use Rattle.dk_turn.specs.Fronts.{Known, Continues, ContinuesAll}
+use Rattle.dk_turn.specs.Fronts.{Known, ContinuesAll}
 use Rattle.dk_turn_uses.specs.declared.tally.Tick.{Tick}
 use Rattle.dk_turn_uses.specs.Ticks.{Took}
 use Rattle.dk_turn_uses.proofs.Passes.{first_of_two, second_of_two}

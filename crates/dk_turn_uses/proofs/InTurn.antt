@@ -1,11 +1,11 @@
 -- Whose leg is next.
-use Rattle.std.proofs.Common.{◌≡◌, ℕ, zero, suc, ◌%◌, ◌==◌, ◌⊎◌, List, [], ◌∷◌, ◌++◌, length, Some, cond, refl, sym, ap, subst, ◌∙◌, ⊎_elim, inl, inr, eq-eqb}
+use Rattle.std.proofs.Common.{◌≡◌, ℕ, ◌%◌, List, [], ◌∷◌, ◌++◌, length, Some, cond, refl, sym, ap, subst, ◌∙◌, eq-eqb}
 use Rattle.std.specs.List.{slice_get}
 use Rattle.std.proofs.lemmas.List.{append-nil, append_cancel_left}
 use Rattle.dk_turn.specs.Fronts.{Continues}
 use Rattle.dk_turn.proofs.Beginnings.{own-append}
 use Rattle.dk_turn_uses.specs.declared.relay.Leg.{Leg}
-use Rattle.dk_turn_uses.specs.Legs.{leg, own_legs, IsInTurn}
+use Rattle.dk_turn_uses.specs.Legs.{own_legs, IsInTurn}
 
 -- after a list stands what follows it
 get_next : {A : Type 0} (xs rest : List A) (x : A) → slice_get (xs ++ x ∷ rest) (length xs) ≡ Some x

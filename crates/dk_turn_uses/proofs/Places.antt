@@ -1,9 +1,8 @@
 -- A line that was seen stays at its place.
-use Rattle.std.proofs.Common.{◌≡◌, ℕ, zero, suc, List, [], ◌∷◌, ◌++◌, length, Some, sym, ap, subst, ◌∙◌, arith, length-append}
+use Rattle.std.proofs.Common.{◌≡◌, ℕ, zero, suc, List, [], ◌∷◌, Some, sym, subst, ◌∙◌}
 use Rattle.std.specs.List.{slice_get}
-use Rattle.std.proofs.lemmas.List.Elements.{All-head, All-tail}
 use mathlib.Core.List.{IsPrefix}
-use Rattle.dk_turn.specs.Fronts.{Known, known, Continues, ContinuesAll, IsDealt}
+use Rattle.dk_turn.specs.Fronts.{Continues}
 use Rattle.dk_turn_uses.specs.declared.journal.Line.{Line}
 use Rattle.dk_turn_uses.specs.Lines.{line, HasLine}
 
