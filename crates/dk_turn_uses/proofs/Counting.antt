@@ -1,12 +1,12 @@
 -- Two threads that count lose no turn.
-use Rattle.std.proofs.Common.{◌≡◌, ℕ, ◌+◌, ◌*◌, ◌-◌, ◌^◌, ◌<◌, ◌≤◌, List, [], ◌∷◌, length, ap, arith, length-append}
+use Rattle.std.proofs.Common.{◌≡◌, ℕ, ◌+◌, ◌*◌, ◌-◌, ◌^◌, ◌<◌, ◌≤◌, List, [], ◌∷◌, length, refl, ap, ◌∙◌, arith, length-append}
 use Rattle.std.specs.List.{All}
 use mathlib.Core.Logic.{dite}
 use native.Mathlib.Decide.{ℕ_discrete}
 use mathlib.Core.List.{IsPrefix}
-use Rattle.dk_turn.specs.Fronts.{Known, ContinuesAll}
+use Rattle.dk_turn.specs.Fronts.{Known, known, Continues, ContinuesAll}
 use Rattle.dk_turn_uses.specs.declared.tally.Tick.{Tick}
-use Rattle.dk_turn_uses.specs.Ticks.{Took}
+use Rattle.dk_turn_uses.specs.Ticks.{own_ticks, Took}
 use Rattle.dk_turn_uses.proofs.Passes.{first_of_two, second_of_two}
 use Rattle.dk_turn_uses.proofs.Shares.{two_shares}
 
@@ -33,3 +33,12 @@ none_lost turns passes total a b i j one two log few both zero_is one_is same sa
     let all_1 = counted_all i turns a one.front log first (first_of_two (λ t. t.by) one two log all).begins small in
     let all_2 = counted_all j turns b two.front log second (second_of_two (λ t. t.by) one two log all).begins small in
     omega arith
+
+-- where one pass entered nothing and the other made no call, there is nothing
+pub none_entered : (passes total : ℕ) (first one two : Known Tick) (log : List Tick) → passes ≡ 2 → first ≡ known 0 [] → two ≡ known 1 [] → one.number ≡ first.number
+    → Continues (λ t. t.by) first.number first.front one.front → total ≡ length log → ContinuesAll (λ t. t.by) (one ∷ two ∷ []) log → All (λ t. t.by < passes) log → total ≡ 0
+none_entered passes total first one two log both dealt_0 dealt_1 same seen is all named =
+    let none : length (own_ticks first.number one.front) ≡ 0 = ap length seen.none_beyond ∙ ap (λ (k : Known Tick). length (own_ticks k.number k.front)) dealt_0 in
+    let sum : length log ≡ 0 + 0 = two_shares (λ t. t.by) passes 0 0 first.number two.number one two log both (ap (λ k. k.number) dealt_0) (ap (λ k. k.number) dealt_1) same refl
+    none (ap (λ (k : Known Tick). length (own_ticks k.number k.front)) dealt_1) all named in
+    is ∙ sum

@@ -1,5 +1,5 @@
 -- What the steps of a relay give.
-use Rattle.std.specs.Prelude.{◌≡◌, ℕ, ◌%◌, Bool, true, false, List, [], ◌∷◌, length, Some, slice_get}
+use Rattle.std.specs.Prelude.{◌≡◌, ℕ, ◌%◌, List, [], length, Some, slice_get}
 use Rattle.dk_turn.specs.Fronts.{own}
 use Rattle.dk_turn_uses.specs.declared.relay.Leg.{Leg}
 
@@ -18,7 +18,3 @@ legs_of n legs = length (own_legs n legs)
 -- the legs at even places are those of pass 0, and the others of pass 1
 abbrev pub IsInTurn : List Leg → Type 0
 IsInTurn legs = (k : ℕ) (l : Leg) → slice_get legs k ≡ Some l → l.by ≡ k % 2
-
--- one leg more, or none
-abbrev pub runs : ℕ → Bool → List Leg → Type 0
-runs n reply added = (reply ≡ true → added ≡ leg n ∷ []) × (reply ≡ false → added ≡ [])

@@ -2,6 +2,7 @@
 ghost use Rattle.dk_turn_uses.specs.Legs.{IsInTurn};
 
 use dk_turn::{Book, Step};
+use std::alloc::AllocError;
 
 /// One leg, and the pass that ran it.
 #[derive(Clone, Copy)]
@@ -24,26 +25,23 @@ impl Book for Relay {
     ghost number = { λ l. l.by };
 }
 
-/// Runs the next leg, which has to be this pass's, and answers true. Where the list has no room left it runs none. It takes no memory.
+/// Runs the next leg, which has to be this pass's. With no memory it runs none.
 #[derive(Drop)]
 pub struct RunLeg;
 
 impl Step<Relay> for RunLeg {
-    ghost use Rattle.std.specs.Prelude.{◌≡◌, ◌%◌, length};
-    ghost use Rattle.dk_turn_uses.specs.Legs.{runs};
+    ghost use Rattle.std.specs.Prelude.{◌≡◌, ◌%◌, [], ◌∷◌, length, OnOk, OnErr};
+    ghost use Rattle.dk_turn_uses.specs.Legs.{leg};
 
-    type Reply = bool;
+    type Reply = Result<(), AllocError>;
 
     ghost may = { λ _ pass history. length history % 2 ≡ pass };
 
-    ghost gives = { λ _ pass _ reply added. runs pass reply added };
+    ghost gives = { λ _ pass _ reply added. OnOk reply (added ≡ leg pass ∷ []) × OnErr reply (added ≡ []) };
 
-    fn apply(self, pass: u32, book: &mut Relay) -> bool {
-        if book.legs.len() >= book.legs.capacity() {
-            return false;
-        }
-        book.legs.push_reserved(Leg { by: pass });
-        true
+    fn apply(self, pass: u32, book: &mut Relay) -> Result<(), AllocError> {
+        book.legs.push(Leg { by: pass })?;
+        Ok(())
     }
 }
 

@@ -1,23 +1,15 @@
 //! Two threads that run the legs of a relay, each waiting for the other's.
-ghost use Rattle.std.specs.Prelude.{◌≡◌, ◌+◌, ◌%◌, ◌^◌, ◌<◌, ◌≤◌, true, false, [], ◌∷◌, length, IfSome, vec_len};
+ghost use Rattle.std.specs.Prelude.{◌≡◌, ◌+◌, ◌*◌, ◌%◌, ◌^◌, ◌<◌, [], ◌∷◌, length, IfSome, OnOk, OnErr};
 ghost use Rattle.std.specs.List.{All};
 ghost use Rattle.dk_turn.specs.Fronts.{known, Continues, ContinuesAll};
 ghost use Rattle.dk_turn_uses.specs.Legs.{legs_of, IsInTurn};
 
 use crate::relay::{CountLegs, Leg, Relay, RunLeg};
 use dk_turn::{Blank, Naming, Pass, Turn};
-use std::alloc::Global;
+use std::alloc::{AllocError, Global};
 use std::marker::Brand;
 use std::sync::Wait;
 use std::thread::{Threads, join};
-
-/// The legs of a race, and how many each thread was told that it ran.
-#[derive(Drop)]
-pub struct Race {
-    pub legs: Vec<Leg>,
-    pub first: usize,
-    pub second: usize,
-}
 
 // Waits until the next leg is this pass's.
 fn await_turn<J: Naming, R: Wait>(rt: &R, turn: &Turn<Relay, J>, pass: &mut Pass<Relay, J>)
@@ -36,40 +28,38 @@ fn await_turn<J: Naming, R: Wait>(rt: &R, turn: &Turn<Relay, J>, pass: &mut Pass
 }
 
 // Runs a leg. That it is still this pass's, whatever the others did, follows from the relay's order: the next leg is no other pass's.
-fn run_leg<J: Naming, R: Wait>(rt: &R, turn: &Turn<Relay, J>, pass: &mut Pass<Relay, J>) -> bool
+fn run_leg<J: Naming, R: Wait>(
+    rt: &R,
+    turn: &Turn<Relay, J>,
+    pass: &mut Pass<Relay, J>,
+) -> Result<(), AllocError>
     requires { length pass.old.front % 2 ≡ pass.old.number }
     ensures number { pass.new.number ≡ pass.old.number }
-    ensures ran { result ≡ true
-        → legs_of pass.old.number pass.new.front ≡ legs_of pass.old.number pass.old.front + 1 }
-    ensures full { result ≡ false
-        → legs_of pass.old.number pass.new.front ≡ legs_of pass.old.number pass.old.front }
+    ensures ran { OnOk result (legs_of pass.old.number pass.new.front ≡ legs_of pass.old.number pass.old.front + 1) }
+    ensures err { OnErr result (legs_of pass.old.number pass.new.front ≡ legs_of pass.old.number pass.old.front) }
 {
     turn.with(rt, pass, RunLeg)
 }
 
-// Runs this many legs, and gives the pass back with the number of those that were run.
+// Runs this many legs, and gives the pass back.
 fn run_legs<J: Naming, R: Wait>(
     rt: &R,
     turn: &Turn<Relay, J>,
     mut pass: Pass<Relay, J>,
     legs: usize,
-) -> (Pass<Relay, J>, usize)
+) -> Option<Pass<Relay, J>>
     requires { pass.front ≡ [] }
-    ensures number { result.0.number ≡ pass.number }
-    ensures ran { legs_of pass.number result.0.front ≡ result.1 }
-    ensures most { result.1 ≤ legs }
+    ensures number { IfSome result (λ p. p.number ≡ pass.number) }
+    ensures ran { IfSome result (λ p. legs_of pass.number p.front ≡ legs) }
 {
-    let mut ran = 0;
     for _ in 0..legs {
         await_turn(rt, turn, &mut pass);
-        if run_leg(rt, turn, &mut pass) {
-            ran += 1;
-        }
+        run_leg(rt, turn, &mut pass).ok()?;
     }
-    (pass, ran)
+    Some(pass)
 }
 
-// A relay with room for this many legs, behind a turn with two passes.
+// A relay with room for this many legs, so that none of them takes memory, behind a turn with two passes.
 fn begin<J: Naming>(
     alloc: Global,
     blank: Blank<Relay>,
@@ -95,25 +85,26 @@ fn run_in_threads<J: Naming + Send + Sync, R: Threads + Wait + Sync>(
     one: Pass<Relay, J>,
     two: Pass<Relay, J>,
     legs: usize,
-) -> ((Pass<Relay, J>, usize), (Pass<Relay, J>, usize))
+) -> Option<(Pass<Relay, J>, Pass<Relay, J>)>
     requires fronts { (one.front ≡ []) × (two.front ≡ []) }
-    ensures numbers { (result.0.0.number ≡ one.number) × (result.1.0.number ≡ two.number) }
-    ensures one { (legs_of one.number result.0.0.front ≡ result.0.1) × (result.0.1 ≤ legs) }
-    ensures two { (legs_of two.number result.1.0.front ≡ result.1.1) × (result.1.1 ≤ legs) }
+    ensures numbers { IfSome result (λ r. (r.0.number ≡ one.number) × (r.1.number ≡ two.number)) }
+    ensures one { IfSome result (λ r. legs_of one.number r.0.front ≡ legs) }
+    ensures two { IfSome result (λ r. legs_of two.number r.1.front ≡ legs) }
 {
-    join(
+    let (first, second) = join(
         rt,
-        || -> (Pass<Relay, J>, usize)
+        || -> Option<Pass<Relay, J>>
             requires { one.front ≡ [] }
-            ensures number { result.0.number ≡ one.number }
-            ensures ran { (legs_of one.number result.0.front ≡ result.1) × (result.1 ≤ legs) }
+            ensures number { IfSome result (λ p. p.number ≡ one.number) }
+            ensures ran { IfSome result (λ p. legs_of one.number p.front ≡ legs) }
         { run_legs(rt, turn, one, legs) },
-        || -> (Pass<Relay, J>, usize)
+        || -> Option<Pass<Relay, J>>
             requires { two.front ≡ [] }
-            ensures number { result.0.number ≡ two.number }
-            ensures ran { (legs_of two.number result.0.front ≡ result.1) × (result.1 ≤ legs) }
+            ensures number { IfSome result (λ p. p.number ≡ two.number) }
+            ensures ran { IfSome result (λ p. legs_of two.number p.front ≡ legs) }
         { run_legs(rt, turn, two, legs) },
-    )
+    );
+    Some((first?, second?))
 }
 
 // All legs, once no thread has the turn.
@@ -140,29 +131,27 @@ fn race_of<J: Naming + Send + Sync, R: Threads + Wait + Sync>(
     alloc: Global,
     blank: Blank<Relay>,
     legs: usize,
-) -> Option<Race>
+) -> Option<Vec<Leg>>
     requires name { (blank ≡ J.name) × (blank.passes ≡ 2) }
     requires legs { legs < 2 ^ 62 }
-    ensures in_turn { IfSome result (λ r. IsInTurn r.legs.items) }
-    ensures told { IfSome result (λ r. vec_len r.legs ≡ r.first + r.second) }
-    ensures most { IfSome result (λ r. (r.first ≤ legs) × (r.second ≤ legs)) }
+    ensures in_turn { IfSome result (λ v. IsInTurn v.items) }
+    ensures all { IfSome result (λ v. length v.items ≡ 2 * legs) }
 {
     let (turn, one, two) = begin::<J>(alloc, blank, 2 * legs)?;
-    let ((one, first), (two, second)) = run_in_threads(rt, &turn, one, two, legs);
-    let legs = end(alloc, turn, one, two)?;
-    Some(Race {
-        legs,
-        first,
-        second,
-    })
+    let (one, two) = run_in_threads(rt, &turn, one, two, legs)?;
+    let legs_run = end(alloc, turn, one, two)?;
+    Some(legs_run)
 }
 
-/// Two threads run this many legs each, in turn. The list has no other legs than those that a thread was told of. None where there was no memory.
-pub fn race_in_threads<R: Threads + Wait + Sync>(rt: &R, alloc: Global, legs: usize) -> Option<Race>
+/// Two threads run this many legs each, in turn. None where there was no memory. It needs both threads at once, since each waits for the other.
+pub fn race_in_threads<R: Threads + Wait + Sync>(
+    rt: &R,
+    alloc: Global,
+    legs: usize,
+) -> Option<Vec<Leg>>
     requires { legs < 2 ^ 62 }
-    ensures in_turn { IfSome result (λ r. IsInTurn r.legs.items) }
-    ensures told { IfSome result (λ r. vec_len r.legs ≡ r.first + r.second) }
-    ensures most { IfSome result (λ r. (r.first ≤ legs) × (r.second ≤ legs)) }
+    ensures in_turn { IfSome result (λ v. IsInTurn v.items) }
+    ensures all { IfSome result (λ v. length v.items ≡ 2 * legs) }
 {
     let blank = Blank::new(alloc, 2).ok()?;
     race_of::<Brand, R>(rt, alloc, blank, legs)

@@ -44,14 +44,18 @@ fn empty_turns_of<J: Naming, R: Wait>(
     turns: u64,
 ) -> Option<u64>
     requires { (blank ≡ J.name) × (blank.passes ≡ 2) }
+    ensures { IfSome result (λ total. total ≡ 0) }
 {
     let (turn, mut one, two) = begin::<J>(alloc, blank)?;
     empty_turns(rt, &turn, &mut one, turns);
-    end(alloc, turn, one, two)
+    let total = end(alloc, turn, one, two)?;
+    Some(total)
 }
 
 /// The same turns at a tally of their own, whose count at the end is answered. None where there was no memory.
-pub fn empty_turns_anew<R: Wait>(rt: &R, alloc: Global, turns: u64) -> Option<u64> {
+pub fn empty_turns_anew<R: Wait>(rt: &R, alloc: Global, turns: u64) -> Option<u64>
+    ensures { IfSome result (λ total. total ≡ 0) }
+{
     let blank = Blank::new(alloc, 2).ok()?;
     empty_turns_of::<Brand, R>(rt, alloc, blank, turns)
 }
