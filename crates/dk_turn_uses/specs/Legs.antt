@@ -1,5 +1,5 @@
 -- What the steps of a relay give.
-use Rattle.std.specs.Prelude.{◌≡◌, ℕ, ◌%◌, List, [], length, Some, slice_get}
+use Rattle.std.specs.Prelude.{◌≡◌, ℕ, ◌%◌, List, length, Some, slice_get}
 use Rattle.dk_turn.specs.Fronts.{own}
 use Rattle.dk_turn_uses.specs.declared.relay.Leg.{Leg}
 

@@ -1,4 +1,4 @@
-use Rattle.std.proofs.Common.{◌+◌, sym, ap, ◌∙◌, arith}
+use Rattle.std.proofs.Common.{sym, ap, ◌∙◌, arith}
 use Rattle.dk_turn_uses.proofs.Shares.{two_shares}
 use Rattle.dk_turn_uses.proofs.relay_race.race_of.Goals as goal
 
