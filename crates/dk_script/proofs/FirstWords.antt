@@ -1,8 +1,8 @@
 -- The first word of a line, and what stands behind it.
-use Rattle.std.proofs.Common.{◌≡◌, ℕ, suc, ◌+◌, Bool, true, false, cond, not, ◌&&◌, eqb, List, [], ◌∷◌, ◌++◌, take, drop, refl, ap, add-one}
+use Rattle.std.proofs.Common.{◌≡◌, ℕ, ◌+◌, Bool, true, false, cond, not, ◌&&◌, eqb, List, [], ◌∷◌, ◌++◌, take, drop, refl, ap, add-one}
 use Rattle.std.proofs.Math.Numerals.{one-add}
 use Rattle.std.specs.List.{position_or_len}
-use Rattle.dk_model.specs.Lines.{first_word, after_word, is_space, lines_of, text_of}
+use Rattle.dk_model.specs.Lines.{first_word, after_word, is_space}
 use Rattle.dk_script.proofs.Lacking.{lacks}
 
 first_word-cons : (b : ℕ) (t : Bool) (n : ℕ) (word line : List ℕ) (others : Bool) → (not t && others) ≡ true → (others ≡ true → take n line ≡ word) → take (cond (not t) (1 + n) 0) (b ∷ line) ≡ b ∷ word

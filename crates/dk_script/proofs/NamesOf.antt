@@ -1,5 +1,5 @@
 -- The names that the printer knows, as a finite map.
-use Rattle.std.proofs.Common.{◌≡◌, ℕ, Option, Some, None, cond, List, [], ◌∷◌, map, refl, sym, ap, ◌∙◌}
+use Rattle.std.proofs.Common.{◌≡◌, ℕ, Some, cond, List, [], ◌∷◌, map, refl, sym, ap, ◌∙◌}
 use Rattle.std.specs.FinMap as maps
 use Rattle.std.specs.FinMap.{find, IsAntisymmetric, same_map, get-from_entries, get-insert, nat_cmp-IsAntisymmetric}
 use Rattle.std.specs.Cmp.{IsTotalOrder, nat_cmp_total, eq_by_cmp_equiv}

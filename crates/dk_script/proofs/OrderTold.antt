@@ -1,5 +1,5 @@
 -- The order of a history is read back from its transcript.
-use Rattle.std.proofs.Common.{◌≡◌, ℕ, suc, ◌+◌, ◌^◌, ◌<◌, Bool, true, false, cond, not, ◌&&◌, eqb, Option, Some, None, List, [], ◌∷◌, ◌++◌, map, codes, refl, sym, ap, ◌∙◌, subst, arith, append_assoc}
+use Rattle.std.proofs.Common.{◌≡◌, ℕ, ◌+◌, ◌^◌, ◌<◌, Bool, true, false, cond, not, ◌&&◌, eqb, Option, Some, None, List, [], ◌∷◌, ◌++◌, map, codes, refl, ap, ◌∙◌, arith, append_assoc}
 use Rattle.std.specs.Fmt.{decimal}
 use Rattle.std.specs.Str.Parse.{digits_value}
 use Rattle.std.specs.List.{AllByRecursion, cons_option, filter_map, onto_first}
@@ -17,7 +17,7 @@ use Rattle.dk_types.specs.declared.event.ClaimReply.TheVariants as claimed
 use Rattle.dk_types.specs.declared.number.ConnNo.{ConnNo}
 use Rattle.dk_types.specs.declared.job.Out.{Out}
 use Rattle.dk_model.specs.Lines.{lines_of, text_of, first_word, after_word}
-use Rattle.dk_model.specs.Orders.{OrderItem, Claimed, Committed, job_text, outcome_text, claim_of, commit_of, item_of_line, is_phase_line, parted, order_of, item_of_claim, item_of}
+use Rattle.dk_model.specs.Orders.{OrderItem, Claimed, Committed, job_text, outcome_text, claim_of, commit_of, item_of_line, parted, order_of, item_of_claim, item_of}
 use Rattle.dk_model.specs.Phases.{IsSmallClaim, IsSmall, AreSmall}
 use Rattle.dk_model.specs.Transcripts.{Known, name_at, nothing_known, to_line, connect_lines, post_lines, claim_lines, event_lines, lines_of_events, known_after, knowing, lines_of_phases, done_line, transcript_text}
 use Rattle.dk_script.proofs.Lacking.{lacks, lacks-append, lacks-decimal}

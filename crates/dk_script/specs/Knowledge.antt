@@ -1,7 +1,6 @@
 -- What the printer of a transcript knows, seen as the definitions see it.
 use Rattle.std.specs.Prelude.{ℕ, List, map}
 use Rattle.std.specs.FinMap as maps
-use Rattle.dk_types.specs.declared.number.ConnNo.{ConnNo}
 use Rattle.dk_model.specs.Keys.{conn_cmp}
 use Rattle.dk_model.specs.Transcripts as transcripts
 use Rattle.dk_script.specs.declared.known.Known.{Known}
