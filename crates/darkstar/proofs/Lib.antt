@@ -1,0 +1,3 @@
+pub mod PlayOrder
+pub mod SourceReads
+pub mod SinkPieces
