@@ -1,3 +1,2 @@
 pub mod PlayOrder
-pub mod SourceReads
 pub mod SinkPieces

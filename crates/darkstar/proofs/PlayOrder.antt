@@ -11,7 +11,7 @@ use Rattle.dk_model.specs.declared.script.Line.TheVariants as line
 use Rattle.dk_model.specs.Worlds.{World}
 use Rattle.dk_model.specs.Events.{Meaning}
 use Rattle.dk_model.specs.Orders.{OrderItem, item_of, order_of}
-use Rattle.dk_model.specs.Transcripts.{Playing, Enters, EntersAll, Follows, Hands, PlaysPhase, Plays, IsPlayed, IsTranscript, transcript_text}
+use Rattle.dk_model.specs.Transcripts.{Playing, Enters, EntersAll, Follows, Hands, PlaysPhase, Plays, IsPlayed, IsTranscript, playing, transcript_text}
 use Rattle.dk_script.proofs.OrderTold.{order_of-transcript_text}
 
 -- an event that tells no item adds none
@@ -69,10 +69,10 @@ order_of-Plays rules p (lines ∷ script) (items ∷ order) [] after h = absurd 
 -- the text of a whole play is its transcript in the order that the text tells
 pub IsTranscript-IsPlayed : (rules : Meaning) (opening : World) (script : List (List Line)) (phases : List (List Event)) (commits tasks : ℕ) (text : List ℕ) → IsPlayed rules opening script phases commits tasks → text ≡ transcript_text phases commits tasks → IsTranscript rules opening script (order_of text) text
 IsTranscript-IsPlayed rules opening script phases commits tasks text h is =
-    let told = order_of-Plays rules _ _ h.order phases h.end h.plays ∙ sym (ap order_of is ∙ order_of-transcript_text phases commits tasks h.small) in
+    let told = order_of-Plays rules (playing opening) ([] ∷ script) h.order phases h.end h.plays ∙ sym (ap order_of is ∙ order_of-transcript_text phases commits tasks h.small) in
     record {
       phases = phases;
       end = h.end;
-      plays = subst (λ (order : List (List OrderItem)). Plays rules _ _ order phases h.end) told h.plays;
+      plays = subst (λ (order : List (List OrderItem)). Plays rules (playing opening) ([] ∷ script) order phases h.end) told h.plays;
       told = is ∙ ap (λ (n : ℕ). transcript_text phases n tasks) h.commits_are ∙ ap (λ (n : ℕ). transcript_text phases h.end.world.durable.commits n) h.tasks_are;
     }
