@@ -1,0 +1,23 @@
+use Rattle.std.proofs.Common.{◌≡◌, [], ◌∷◌, ◌∙◌, ap, None, List, ℕ, IfOk, Ok, Err, Result}
+use Rattle.dk_types.specs.declared.event.Event.{Event}
+use Rattle.dk_types.specs.declared.fault.NoMemory.{NoMemory}
+use Rattle.dk_model.specs.declared.script.Line.{Line}
+use Rattle.dk_model.specs.Worlds.{fresh_world}
+use Rattle.dk_model.specs.Phases.{phases_of}
+use Rattle.dk_model.specs.Transcripts.{IsPlayed, transcript_text}
+use Rattle.sword_world.specs.Rules.{sword_rules}
+use Rattle.darkstar.specs.Headline.{IsToldPlay}
+use Rattle.darkstar.proofs.PlayOrder.{IsTranscript-IsPlayed}
+use Rattle.darkstar.proofs.session.transcript.Goals as goal
+
+-- the transcript of the play's events and marks, lent as slices, is that of the play
+told : (result : Result (List ℕ) NoMemory) (lines : List Line) (events items : List Event) (marks places : List ℕ) (commits tasks : ℕ) → events ≡ items → marks ≡ places → IsPlayed sword_rules (fresh_world None) (lines ∷ []) (phases_of items places) commits tasks → IfOk result (λ text. text ≡ transcript_text (phases_of events marks) commits tasks) → IfOk result (IsToldPlay lines)
+told (Ok text) lines events items marks places commits tasks same_events same_marks played is =
+    IsTranscript-IsPlayed sword_rules (fresh_world None) (lines ∷ []) (phases_of items places) commits tasks text played
+    (is ∙ ap (λ (es : List Event). transcript_text (phases_of es marks) commits tasks) same_events ∙ ap (λ (ms : List ℕ). transcript_text (phases_of items ms) commits tasks) same_marks)
+told (Err e) lines events items marks places commits tasks same_events same_marks played is = tt
+
+pub returns : goal.returns
+returns c =
+    let p = c.in_ok-played.played in
+    told c.transcript_of.result c.args.lines.items c.as_slice.result.now p.events.items c.as_slice-2.result.now p.marks.items p.commits p.tasks c.as_slice.ensures.value c.as_slice-2.ensures.value c.in_ok-played.ensures.played c.transcript_of.ensures

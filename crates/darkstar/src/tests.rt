@@ -1,0 +1,192 @@
+//! The program over streams in memory. The texts are worked by hand.
+
+use crate::program::run;
+use crate::status::Status;
+use dk_edge::{MemorySink, MemorySource, Source};
+use dk_types::{Failed, NoMemory, Words};
+use std::alloc::{AllocError, Global};
+use std::test::Fail;
+
+const EMPTY: &str = "phase 0
+claim 0 at 0 initialize
+commit 1 run 0 ok
+phase 1
+done commits 1 tasks 0
+";
+
+const LOOK: &str = "phase 0
+claim 0 at 0 initialize
+commit 1 run 0 ok
+phase 1
+open 1 alice
+claim 2 at 0 login alice
+commit 2 run 2 ok
+claim 3 at 0 message alice
+commit 3 run 3 ok
+to 1 alice accepted
+to 1 alice message You are in a plain room.\\x0aOn the floor: a shiny sword.\\x0a
+done commits 3 tasks 0
+";
+
+const DANCE: &str = "phase 0
+claim 0 at 0 initialize
+commit 1 run 0 ok
+phase 1
+open 1 alice
+claim 2 at 0 login alice
+commit 2 run 2 ok
+claim 3 at 0 message alice
+commit 3 run 3 ok
+claim 4 at 0 message alice
+commit 4 run 4 ok
+to 1 alice accepted
+to 1 alice message You are in a plain room.\\x0aOn the floor: a shiny sword.\\x0a
+done commits 4 tasks 0
+";
+
+/// A source with no end, which tells nothing of its bytes.
+#[derive(Drop)]
+struct Flood;
+
+impl Source for Flood {
+    ghost use Rattle.std.specs.Prelude.{None};
+
+    ghost remaining = { λ _. None };
+
+    ghost counted = { λ _. 0 };
+
+    fn take(&mut self, into: &mut [u8]) -> Result<usize, Failed> {
+        Ok(into.len())
+    }
+
+    fn faults(&self) -> u64 {
+        0
+    }
+}
+
+fn play_word(alloc: Global) -> Result<Words, NoMemory> {
+    let mut words = Words::new(alloc);
+    words.push("play")?;
+    Ok(words)
+}
+
+// A source in pieces of ten bytes; the call of this number fails, and 0 is none.
+fn source(alloc: Global, bytes: &[u8], failing: u64) -> Result<MemorySource, AllocError> {
+    Ok(MemorySource::in_pieces(bytes.to_vec(alloc)?, [failing].to_vec(alloc)?, 10))
+}
+
+// What `play` answers of these bytes, and the sink that it wrote to, whose call of this number fails after five bytes.
+fn played(alloc: Global, bytes: &[u8], failing: u64) -> Result<(Status, MemorySink), Fail> {
+    let mut input = source(alloc, bytes, 0)?;
+    let mut out = MemorySink::tearing(alloc, [failing].to_vec(alloc)?, 5);
+    let status = run(alloc, &play_word(alloc)?, &mut input, &mut out);
+    Ok((status, out))
+}
+
+// A login and so many sends.
+fn many_sends(alloc: Global, sends: usize) -> Result<Vec<u8>, AllocError> {
+    let mut script = Vec::from_slice(alloc, b"login a\n")?;
+    for _ in 0..sends {
+        script.extend_from_slice(b"send a hum\n")?;
+    }
+    Ok(script)
+}
+
+#[test]
+fn transcripts_are_as_worked(rt: HostRuntime) -> Result<(), Fail> {
+    let rows = [
+        ("", EMPTY),
+        ("login alice\nsend alice look\n", LOOK),
+        ("login alice\nsend alice LooK\nsend alice dance", DANCE),
+    ];
+    for (script, text) in rows {
+        let (status, out) = played(rt.alloc(), script.as_bytes(), 0)?;
+        assert_eq!(rt; status, Status::Ok, "{script:?}");
+        assert_eq!(rt; out.contents(), text.as_bytes(), "{script:?}");
+    }
+    Ok(())
+}
+
+#[test]
+fn other_words_touch_no_stream(rt: HostRuntime) -> Result<(), Fail> {
+    let alloc = rt.alloc();
+    let none = Words::new(alloc);
+    let mut two = play_word(alloc)?;
+    two.push("D")?;
+    for words in [&none, &two] {
+        let mut input = source(alloc, b"", 0)?;
+        let mut out = MemorySink::new(alloc, Vec::new(alloc));
+        assert_eq!(rt; run(alloc, words, &mut input, &mut out), Status::Usage);
+        assert_eq!(rt; input.calls(), 0);
+        assert_eq!(rt; out.calls(), 0);
+    }
+    Ok(())
+}
+
+#[test]
+fn other_input_is_not_yet_played(rt: HostRuntime) -> Result<(), Fail> {
+    let inputs = [
+        "login alice\nsync\n",
+        "login alice\nlogin bob\n",
+        "login alice\nsend bob look\n",
+        "login alice\nsend alice take\n",
+        "login alice\nsend alice DroP\n",
+        "send bob look\n",
+        "login a b\n",
+        "login alice\nsend alice a\tb\n",
+        "login alice\nsend alice \u{E9}\n",
+        "login alice\nsend alice\n",
+    ];
+    for input in inputs {
+        let (status, out) = played(rt.alloc(), input.as_bytes(), 0)?;
+        assert_eq!(rt; status, Status::NotYet, "{input:?}");
+        assert_eq!(rt; out.calls(), 0, "{input:?}");
+    }
+    Ok(())
+}
+
+#[test]
+fn too_many_sends_or_bytes_are_not_yet_played(rt: HostRuntime) -> Result<(), Fail> {
+    let alloc = rt.alloc();
+    let script = many_sends(alloc, 1_024)?;
+    let (status, out) = played(alloc, script.as_slice(), 0)?;
+    assert_eq!(rt; status, Status::NotYet);
+    assert_eq!(rt; out.calls(), 0);
+    let mut out = MemorySink::new(alloc, Vec::new(alloc));
+    let status = run(alloc, &play_word(alloc)?, &mut Flood, &mut out);
+    assert_eq!(rt; status, Status::NotYet);
+    assert_eq!(rt; out.calls(), 0);
+    Ok(())
+}
+
+#[test]
+fn each_failing_read_stops_it(rt: HostRuntime) -> Result<(), Fail> {
+    let alloc = rt.alloc();
+    let words = play_word(alloc)?;
+    for failing in 1..=4 {
+        let mut input = source(alloc, b"login alice\nsend alice look\n", failing)?;
+        let mut out = MemorySink::new(alloc, Vec::new(alloc));
+        let status = run(alloc, &words, &mut input, &mut out);
+        assert_eq!(rt; status, Status::ReadFault, "call {failing}");
+        assert_eq!(rt; input.calls(), failing);
+        assert_eq!(rt; out.calls(), 0);
+    }
+    Ok(())
+}
+
+#[test]
+fn each_failing_write_leaves_a_prefix(rt: HostRuntime) -> Result<(), Fail> {
+    let alloc = rt.alloc();
+    let script = many_sends(alloc, 400)?;
+    let (status, whole) = played(alloc, script.as_slice(), 0)?;
+    assert_eq!(rt; status, Status::Ok);
+    assert_eq!(rt; whole.calls(), 3);
+    for (failing, length) in [(1, 5), (2, 8_197), (3, 16_389)] {
+        let (status, out) = played(alloc, script.as_slice(), failing)?;
+        assert_eq!(rt; status, Status::WriteFault, "call {failing}");
+        assert_eq!(rt; out.calls(), failing);
+        assert_eq!(rt; out.contents().len(), length);
+        assert!(rt; whole.contents().starts_with(out.contents()));
+    }
+    Ok(())
+}
