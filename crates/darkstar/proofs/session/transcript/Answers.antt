@@ -6,6 +6,7 @@ use Rattle.dk_model.specs.Worlds.{fresh_world}
 use Rattle.dk_model.specs.Phases.{phases_of}
 use Rattle.dk_model.specs.Transcripts.{IsPlayed, transcript_text}
 use Rattle.sword_world.specs.Rules.{sword_rules}
+use Rattle.sword_world.proofs.SwordSends.{sword-is_terse}
 use Rattle.darkstar.specs.Headline.{IsToldPlay}
 use Rattle.darkstar.proofs.PlayOrder.{IsTranscript-IsPlayed}
 use Rattle.darkstar.proofs.session.transcript.Goals as goal
@@ -16,6 +17,10 @@ told (Ok text) lines events items marks places commits tasks same_events same_ma
     IsTranscript-IsPlayed sword_rules (fresh_world None) (lines ∷ []) (phases_of items places) commits tasks text played
     (is ∙ ap (λ (es : List Event). transcript_text (phases_of es marks) commits tasks) same_events ∙ ap (λ (ms : List ℕ). transcript_text (phases_of items ms) commits tasks) same_marks)
 told (Err e) lines events items marks places commits tasks same_events same_marks played is = tt
+
+-- SwordWorld sends at most one message in each job
+pub play_session-requires-clause-terse : goal.play_session-requires-clause-terse
+play_session-requires-clause-terse c = sword-is_terse
 
 pub returns : goal.returns
 returns c =
