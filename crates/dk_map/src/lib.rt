@@ -1,0 +1,4 @@
+//! An ordered map whose room is made in advance.
+#![tactic(auto)]
+
+mod tree;
