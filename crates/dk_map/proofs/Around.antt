@@ -223,3 +223,21 @@ module _ {K V : Type 0} {R : K → K → Ordering} (o : IsTotalOrder R) {d l : L
 
   pub above_right : R q e.0 ≡ Greater → first_above R q d ≡ first_above R q r
   above_right p = rw a.is (above_below R q l (e ∷ r) (below_greater o q e.0 l p a.below) ∙ ap (λ c. cond (is_lt c) (Some e) (first_above R q r)) p)
+
+  -- past an entry that is not above q, the first above q stands to the right
+  pub above_beyond : (R q e.0 ≡ Less → ⊥) → first_above R q d ≡ first_above R q r
+  above_beyond n =
+      elim (R q e.0) as (λ c. R q e.0 ≡ c → first_above R q d ≡ first_above R q r) [
+        | Less ↦ λ p. absurd (n p)
+        | Equal ↦ λ p. above_middle p
+        | Greater ↦ λ p. above_right p
+      ] refl
+
+  -- a key that is neither below e nor at it is above it
+  pub otherwise : (R q e.0 ≡ Less → ⊥) → (R q e.0 ≡ Equal → ⊥) → R q e.0 ≡ Greater
+  otherwise n m =
+      elim (R q e.0) as (λ c. R q e.0 ≡ c → R q e.0 ≡ Greater) [
+        | Less ↦ λ p. absurd (n p)
+        | Equal ↦ λ p. absurd (m p)
+        | Greater ↦ λ p. p
+      ] refl

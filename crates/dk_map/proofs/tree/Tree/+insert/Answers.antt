@@ -47,9 +47,9 @@ returns-after-cmp-clause-entries g t c =
     let a = at_top o (has_top c.self.view_is c.self.invariant c.in-Some.is c.deref_mut-in-Some.ensures.value c.in-Some-deref_mut.is) c.requires.ordered in
     elim c.match-cmp.branch [
       | in-Less w ↦
-          settled _ _ _ c.settle-self-inside.ensures c.deref_mut-in-Some-deref_mut.ensures.value w.cell-is refl
+          (settled _ _ _ c.settle-self-inside.ensures c.deref_mut-in-Some-deref_mut.ensures.value w.cell-is refl).1
               ∙ ap (λ l. l ++ (n.key, n.value) ∷ n.right.0) w.insert-old.ensures.entries ∙ sym (put_left o a _ _ (sym c.cmp.ensures ∙ w.in-Less.is))
       | in-Greater w ↦
-          settled _ _ _ c.settle-self-inside.ensures c.deref_mut-in-Some-deref_mut.ensures.value w.cell-is refl
+          (settled _ _ _ c.settle-self-inside.ensures c.deref_mut-in-Some-deref_mut.ensures.value w.cell-is refl).1
               ∙ ap (λ r. n.left.0 ++ (n.key, n.value) ∷ r) w.insert-old-in-Greater.ensures.entries ∙ sym (put_right o a _ _ (sym c.cmp.ensures ∙ w.in-Greater.is))
     ]
