@@ -26,7 +26,7 @@ has_top {h = h} {b = b} {w = w} {n = n} v a r e i =
     record {
       entries = sym (ap (λ p. p.0) v) ∙ ap root_entries r ∙ ap cell_entries full;
       height = sym (ap (λ p. p.1) v) ∙ cell.0;
-      balanced = cell.1
+      balanced = cell.1;
     }
 
 -- what stands around the top entry

@@ -53,28 +53,6 @@ impl<K: Ord + Drop, V: Drop> Tree<K, V> {
         }
     }
 
-    /// Puts a value at a key that is there, and gives the old one. At another key it gives the value back.
-    pub(crate) fn replace(&mut self, key: &K, value: V) -> Result<V, V>
-        requires ordered { IsOrdered K.cmp self.old.0 }
-        ensures old { IfOk result (λ old. find K.cmp key.now self.old.0 ≡ Some old) }
-        ensures absent { IfErr result (λ back. (find K.cmp key.now self.old.0 ≡ None) × (back ≡ value)) }
-        ensures entries { self.new.0 ≡ (if is_ok result then put K.cmp key.now value self.old.0 else self.old.0) }
-        ensures len { length self.new.0 ≡ length self.old.0 }
-        ensures height { self.new.1 ≡ self.old.1 }
-    {
-        match &mut self.root {
-            None => Err(value),
-            Some(cell) => match &mut **cell {
-                None => unreachable!(),
-                Some(node) => match key.cmp(&node.key) {
-                    Ordering::Less => node.left.replace(key, value),
-                    Ordering::Equal => Ok(mem::replace(&mut node.value, value)),
-                    Ordering::Greater => node.right.replace(key, value),
-                },
-            },
-        }
-    }
-
     /// Takes the entry at a key out, if there is one. Its cell is spare from then on.
     pub(crate) fn remove(&mut self, key: &K, spare: &mut Vec<Cell<K, V>>) -> Option<(K, V)>
         requires ordered { IsOrdered K.cmp self.old.0 }

@@ -48,8 +48,8 @@ returns-after-cmp-clause-entries g t c =
     elim c.match-cmp.branch [
       | in-Less w ↦
           (settled _ _ _ c.settle-self-inside.ensures c.deref_mut-in-Some-deref_mut.ensures.value w.cell-is refl).1
-              ∙ ap (λ l. l ++ (n.key, n.value) ∷ n.right.0) w.insert-old.ensures.entries ∙ sym (put_left o a _ _ (sym c.cmp.ensures ∙ w.in-Less.is))
+          ∙ ap (λ l. l ++ (n.key, n.value) ∷ n.right.0) w.insert-old.ensures.entries ∙ sym (put_left o a _ _ (sym c.cmp.ensures ∙ w.in-Less.is))
       | in-Greater w ↦
           (settled _ _ _ c.settle-self-inside.ensures c.deref_mut-in-Some-deref_mut.ensures.value w.cell-is refl).1
-              ∙ ap (λ r. n.left.0 ++ (n.key, n.value) ∷ r) w.insert-old-in-Greater.ensures.entries ∙ sym (put_right o a _ _ (sym c.cmp.ensures ∙ w.in-Greater.is))
+          ∙ ap (λ r. n.left.0 ++ (n.key, n.value) ∷ r) w.insert-old-in-Greater.ensures.entries ∙ sym (put_right o a _ _ (sym c.cmp.ensures ∙ w.in-Greater.is))
     ]

@@ -57,7 +57,7 @@ returns g t c =
             spare = rw (w.removed-is, w.spare-is) e.spare;
             capacity = rw w.spare-is e.capacity;
             not_higher = rw top.height falls.0;
-            at_most_one_lower = rw top.height falls.1
+            at_most_one_lower = rw top.height falls.1;
           }
       | in_default-order-2 w ↦
           let e = w.remove-removed-in_default-order-2.ensures in
@@ -71,6 +71,6 @@ returns g t c =
             spare = rw (w.removed-is, w.spare-is) e.spare;
             capacity = rw w.spare-is e.capacity;
             not_higher = rw top.height falls.0;
-            at_most_one_lower = rw top.height falls.1
+            at_most_one_lower = rw top.height falls.1;
           }
     ]
