@@ -1,4 +1,5 @@
 pub mod Around
 pub mod Counts
 pub mod Heights
+pub mod Maps
 pub mod Top
