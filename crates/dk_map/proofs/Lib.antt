@@ -2,4 +2,5 @@ pub mod Around
 pub mod Counts
 pub mod Heights
 pub mod Maps
+pub mod Next
 pub mod Top
