@@ -44,7 +44,7 @@ module _ {K V : Type 0} {R : K → K → Ordering} (o : IsTotalOrder R) (es : Li
   pub find-without : (q : K) → find R q (without R k es) ≡ cond (eq_by_cmp R q k) None (find R q es)
   find-without q =
       find-where_key R (λ x. not (eq_by_cmp R k x)) q (λ x t. ap (λ r. not (is_eq r)) (sym (alike_right o q x k t))) es
-          ∙ turned (eq_by_cmp R k q) _ _ ∙ ap (λ b. cond b None (find R q es)) ((eq_by_cmp_equiv o).symm k q)
+      ∙ turned (eq_by_cmp R k q) _ _ ∙ ap (λ b. cond b None (find R q es)) ((eq_by_cmp_equiv o).symm k q)
 
   -- to leave a key out is to remove it
   pub map_of-without : IsAntisymmetric R → map_of R (without R k es) ≡ map.remove (map_of R es) k

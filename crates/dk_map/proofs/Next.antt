@@ -46,12 +46,13 @@ module _ {K V : Type 0} {R : K → K → Ordering} (o : IsTotalOrder R) where
 
   -- the first of entries in order is found, and no key that is found is below it
   first_is : (e : K × V) (es : List (K × V)) → AllAbove R e.0 es → (find R e.0 (e ∷ es) ≡ Some e.1) × ((k : K) → IsSome (find R k (e ∷ es)) → is_lt (R k e.0) ≡ false)
-  first_is e es a =
-      (ap (λ c. cond (is_eq c) (Some e.1) (find R e.0 es)) (tied_itself o e.0),
-        λ k s. elim (eq_by_cmp R k e.0) as (λ b. eq_by_cmp R k e.0 ≡ b → IsSome (cond b (Some e.1) (find R k es)) → is_lt (R k e.0) ≡ false) [
-          | true ↦ λ t _. ap is_lt (equal _ t)
-          | false ↦ λ _ r. ap is_lt (o.antisymm k e.0 ∙ ap ordering_reverse (found_above e.0 k es a r))
-        ] refl s)
+  first_is e es a = (
+    ap (λ c. cond (is_eq c) (Some e.1) (find R e.0 es)) (tied_itself o e.0),
+    λ k s. elim (eq_by_cmp R k e.0) as (λ b. eq_by_cmp R k e.0 ≡ b → IsSome (cond b (Some e.1) (find R k es)) → is_lt (R k e.0) ≡ false) [
+      | true ↦ λ t _. ap is_lt (equal _ t)
+      | false ↦ λ _ r. ap is_lt (o.antisymm k e.0 ∙ ap ordering_reverse (found_above e.0 k es a r))
+    ] refl s,
+  )
 
   -- where no entry is above q, no key above q is found
   none_above : (q k : K) (es : List (K × V)) → first_above R q es ≡ None → R q k ≡ Less → find R k es ≡ None
@@ -72,16 +73,18 @@ module _ {K V : Type 0} {R : K → K → Ordering} (o : IsTotalOrder R) where
   next_above q (x ∷ es) e h i =
       let a : AtEntry R (x ∷ es) [] x es = at_entry o refl h in
       elim (is_lt (R q x.0)) as (λ b. is_lt (R q x.0) ≡ b → cond b (Some x) (first_above R q es) ≡ Some e
-          → (find R e.0 (x ∷ es) ≡ Some e.1) × (R q e.0 ≡ Less) × ((k : K) → R q k ≡ Less → IsSome (find R k (x ∷ es)) → is_lt (R k e.0) ≡ false)) [
+      → (find R e.0 (x ∷ es) ≡ Some e.1) × (R q e.0 ≡ Less) × ((k : K) → R q k ≡ Less → IsSome (find R k (x ∷ es)) → is_lt (R k e.0) ≡ false)) [
         | true ↦ λ t r.
-          let same : x ≡ e = cc in
-          let f = first_is x es a.above in
-          subst (λ y. (find R y.0 (x ∷ es) ≡ Some y.1) × (R q y.0 ≡ Less) × ((k : K) → R q k ≡ Less → IsSome (find R k (x ∷ es)) → is_lt (R k y.0) ≡ false)) same (f.0, less _ t, λ k p s. f.1 k s)
+            let same : x ≡ e = cc in
+            let f = first_is x es a.above in
+            subst (λ y. (find R y.0 (x ∷ es) ≡ Some y.1) × (R q y.0 ≡ Less) × ((k : K) → R q k ≡ Less → IsSome (find R k (x ∷ es)) → is_lt (R k y.0) ≡ false)) same (f.0, less _ t, λ k p s. f.1 k s)
         | false ↦ λ t r.
-          let rest = next_above q es e a.right r in
-          let apart : (k : K) → R q k ≡ Less → eq_by_cmp R k x.0 ≡ false = λ k p. not_tied o q k x.0 p t in
-          (ap (λ b. cond b (Some x.1) (find R e.0 es)) (apart e.0 rest.1) ∙ rest.0, rest.1,
-            λ k p s. rest.2 k p (subst (λ b. IsSome (cond b (Some x.1) (find R k es))) (apart k p) s))
+            let rest = next_above q es e a.right r in
+            let apart : (k : K) → R q k ≡ Less → eq_by_cmp R k x.0 ≡ false = λ k p. not_tied o q k x.0 p t in (
+              ap (λ b. cond b (Some x.1) (find R e.0 es)) (apart e.0 rest.1) ∙ rest.0,
+              rest.1,
+              λ k p s. rest.2 k p (subst (λ b. IsSome (cond b (Some x.1) (find R k es))) (apart k p) s),
+            )
       ] refl i
 
 -- the same by the key that is given and by what is found
@@ -94,7 +97,7 @@ next_cases {R = R} o (x ∷ es) h None (Some e) i =
     let same : x ≡ e = cc in
     let f = first_is o x es a.above in
     subst (λ y. IsNext (map_of R (x ∷ es)) None (Some y)) same
-      (get-map_of R (x ∷ es) h x.0 ∙ f.0, tt, λ k _ s. f.1 k (subst IsSome (get-map_of R (x ∷ es) h k) s))
+    (get-map_of R (x ∷ es) h x.0 ∙ f.0, tt, λ k _ s. f.1 k (subst IsSome (get-map_of R (x ∷ es) h k) s))
 next_cases {R = R} o es h (Some q) None i = λ k p. get-map_of R es h k ∙ none_above o q k es i p
 next_cases {R = R} o es h (Some q) (Some e) i =
     let f = next_above o q es e h i in

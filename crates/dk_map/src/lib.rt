@@ -10,3 +10,6 @@ mod map;
 mod tree;
 
 pub use map::OrderedMap;
+
+#[cfg(test)]
+mod tests;
