@@ -1,13 +1,13 @@
 -- What stands around an entry e of a list in order, and where a key's place is in it.
-use Rattle.std.proofs.Common.{◌≡◌, refl, sym, ap, subst, ◌∙◌, Bool, true, false, cond, not, ◌&&◌, List, [], ◌∷◌, ◌++◌, ◌<◌, length, length-append, arith}
-use Rattle.std.specs.Prelude.{T, Option, None, Some}
+use Rattle.std.proofs.Common.{◌≡◌, refl, ap, subst, ◌∙◌, Bool, true, false, cond, not, ◌&&◌, List, [], ◌∷◌, ◌++◌, ◌<◌, length, length-append, arith}
+use Rattle.std.specs.Prelude.{T, None, Some}
 use Rattle.std.specs.Option.{option_or}
 use Rattle.std.specs.declared.cmp.Ordering.{Ordering}
 use Rattle.std.specs.declared.cmp.Ordering.TheVariants.{Less, Equal, Greater}
 use Rattle.std.specs.Ordering.{is_lt, is_eq, ordering_reverse, eq_by_cmp}
-use Rattle.std.specs.Cmp.{IsTotalOrder, tied_back, alike_right}
-use Rattle.std.specs.FinMap.Entries.{below_all, by_order, where_key}
-use Rattle.dk_map.specs.Entries.{find, put, is_sorted, IsOrdered, without, first_above, first_entry}
+use Rattle.std.specs.Cmp.{IsTotalOrder}
+use Rattle.std.specs.FinMap.Entries.{below_all, by_order}
+use Rattle.dk_map.specs.Entries.{find, put, IsOrdered, without, first_above, first_entry}
 
 -- the first of two tests that both hold
 first : (a b : Bool) → T (a && b) → T a

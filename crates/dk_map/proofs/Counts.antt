@@ -1,6 +1,6 @@
 -- How a change at one key keeps the order, and what it does to the number of entries.
 use Rattle.std.specs.Option.{option_map}
-use Rattle.std.proofs.Common.{◌≡◌, ℕ, ◌+◌, refl, Bool, cond, true, false, List, length, Option, None, Some, is_some, ap, ◌∙◌, subst, sym, arith}
+use Rattle.std.proofs.Common.{◌≡◌, ◌+◌, refl, Bool, cond, true, false, List, length, Option, None, Some, is_some, ap, ◌∙◌, subst, sym, arith}
 use Rattle.std.specs.declared.cmp.Ordering.{Ordering}
 use Rattle.std.specs.Cmp.{IsTotalOrder}
 use Rattle.std.specs.FinMap.Entries.{is_sorted-put, is_sorted-where_key, length-put, length_without}

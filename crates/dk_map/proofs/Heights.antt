@@ -1,5 +1,5 @@
 -- A balanced tree is low: its height is at most twice the logarithm of its entries.
-use Rattle.std.proofs.Common.{◌≡◌, ℕ, suc, ◌+◌, ◌/◌, ◌^◌, ◌-◌, ◌<◌, ◌≤◌, max, List, [], ◌∷◌, ◌++◌, length, length-append, ◌⊎◌, inl, inr, arith, refl, sym, subst, Option, None, Some, Box}
+use Rattle.std.proofs.Common.{◌≡◌, ℕ, suc, ◌+◌, ◌/◌, ◌^◌, ◌-◌, ◌<◌, ◌≤◌, max, ◌∷◌, length, length-append, ◌⊎◌, inl, inr, arith, Option, None, Some, Box}
 use Rattle.std.proofs.lemmas.Bool.{cases_order}
 use Rattle.std.proofs.Math.Pow.{pow_mono}
 use Rattle.std.proofs.Math.Nat.{two-pow-succ}

@@ -3,4 +3,5 @@ pub mod Counts
 pub mod Heights
 pub mod Maps
 pub mod Next
+pub mod Replaced
 pub mod Top

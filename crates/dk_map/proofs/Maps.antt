@@ -1,15 +1,14 @@
 -- What the calls of an `OrderedMap` do to the finite map that its entries are. `o` is the key's order, as `nat_cmp_total`,
 -- `same` says that only equal keys tie, as `nat_cmp-IsAntisymmetric`, and `h` that the entries are in order.
-use Rattle.std.proofs.Common.{◌≡◌, ℕ, ◌+◌, refl, sym, ap, subst, ◌∙◌, Bool, true, false, cond, not, List, [], ◌∷◌, length, Option, None, Some, is_some, IsSome}
+use Rattle.std.proofs.Common.{◌≡◌, refl, sym, ap, ◌∙◌, Bool, true, false, cond, not, List, [], length, None}
 use Rattle.std.specs.declared.cmp.Ordering.{Ordering}
-use Rattle.std.specs.declared.cmp.Ordering.TheVariants.{Less, Equal, Greater}
-use Rattle.std.specs.Ordering.{is_lt, is_eq, eq_by_cmp, ordering_reverse}
-use Rattle.std.specs.Cmp.{IsTotalOrder, tied_itself, alike_right, eq_by_cmp_equiv}
+use Rattle.std.specs.Ordering.{is_eq, eq_by_cmp}
+use Rattle.std.specs.Cmp.{IsTotalOrder, alike_right, eq_by_cmp_equiv}
 use Rattle.std.specs.FinMap as map
-use Rattle.std.specs.FinMap.{FinMap, IsAntisymmetric, from_sorted, get-from_sorted, entries-from_sorted, get-insert, get-remove, same_map, same_entries_map, entries-insert, len-entries}
-use Rattle.std.specs.FinMap.Entries.{where_key, find-where_key}
-use Rattle.dk_map.specs.Entries.{find, put, without, first_entry, first_above, entry_after, IsOrdered}
-use Rattle.dk_map.specs.AsMap.{map_of, IsAfter, IsNext}
+use Rattle.std.specs.FinMap.{IsAntisymmetric, get-from_sorted, entries-from_sorted, get-remove, same_map, same_entries_map, entries-insert, len-entries}
+use Rattle.std.specs.FinMap.Entries.{find-where_key}
+use Rattle.dk_map.specs.Entries.{find, put, without, IsOrdered}
+use Rattle.dk_map.specs.AsMap.{map_of}
 use Rattle.dk_map.proofs.Counts.{ordered_put, ordered_without}
 
 module _ {K V : Type 0} (R : K → K → Ordering) (es : List (K × V)) (h : IsOrdered R es) where

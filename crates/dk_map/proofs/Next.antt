@@ -1,12 +1,12 @@
 -- What `next_after` finds: the least key above another, or the least of all.
-use Rattle.std.proofs.Common.{◌≡◌, refl, sym, ap, subst, ◌∙◌, Bool, true, false, cond, List, [], ◌∷◌, Option, None, Some, IsSome}
+use Rattle.std.proofs.Common.{◌≡◌, refl, sym, ap, subst, ◌∙◌, true, false, cond, List, [], ◌∷◌, Option, None, Some, IsSome}
 use Rattle.std.specs.Prelude.{T}
 use Rattle.std.specs.declared.cmp.Ordering.{Ordering}
 use Rattle.std.specs.declared.cmp.Ordering.TheVariants.{Less, Equal, Greater}
 use Rattle.std.specs.Ordering.{is_lt, is_eq, eq_by_cmp, ordering_reverse}
 use Rattle.std.specs.Cmp.{IsTotalOrder, tied_itself, alike_right}
-use Rattle.dk_map.specs.Entries.{find, first_entry, first_above, entry_after, IsOrdered}
-use Rattle.dk_map.specs.AsMap.{map_of, IsAfter, IsNext}
+use Rattle.dk_map.specs.Entries.{find, first_above, entry_after, IsOrdered}
+use Rattle.dk_map.specs.AsMap.{map_of, IsNext}
 use Rattle.dk_map.proofs.Around.{AllAbove, AtEntry, at_entry}
 use Rattle.dk_map.proofs.Maps.{get-map_of}
 

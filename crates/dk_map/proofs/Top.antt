@@ -1,5 +1,5 @@
 -- What the node at the top of a tree says of the tree.
-use Rattle.std.proofs.Common.{◌≡◌, ℕ, ◌+◌, ◌≤◌, max, arith, sym, ap, subst, ◌∙◌, List, Option, None, Some, Box}
+use Rattle.std.proofs.Common.{◌≡◌, ℕ, ◌+◌, ◌≤◌, max, arith, sym, ap, subst, ◌∙◌, List, [], Option, None, Some, Box}
 use Rattle.std.specs.declared.cmp.Ordering.{Ordering}
 use Rattle.std.specs.Cmp.{IsTotalOrder}
 use Rattle.dk_map.specs.declared.tree.Node.{Node}
@@ -49,3 +49,7 @@ right_falls l r k h d p q s = grind (arith, s.2)
 pub same_node : {K V Z : Type 0} {root : Option (Box (Option (Node K V)) Z)} {b c : Box (Option (Node K V)) Z} {w x : Option (Node K V)} {n m : Node K V}
     → root ≡ Some b → w ≡ b.value → w ≡ Some n → root ≡ Some c → x ≡ c.value → x ≡ Some m → n ≡ m
 same_node r e i s f j = cc
+
+-- a tree with no top node has no entries
+pub no_top : {K V Z : Type 0} {root : Option (Box (Option (Node K V)) Z)} {h : ℕ} {d : List (K × V) × ℕ} → (root_entries root, h) ≡ d → root ≡ None → d.0 ≡ []
+no_top v r = sym (ap (λ p. p.0) v) ∙ ap root_entries r

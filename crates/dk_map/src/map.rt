@@ -2,7 +2,7 @@
 ghost use Rattle.std.specs.Prelude.{◌≡◌, ◌+◌, ◌^◌, ◌<◌, ◌≤◌, [], ◌++◌, length, map, None, Some, IfSome, IfOk, OnErr, OnOk, is_some, IsTrue, ◌↔◌, if◌then◌else◌, Ok, vec_len, vec_capacity};
 ghost use Rattle.std.specs.Option.{option_map, option_copied};
 ghost use Rattle.std.specs.declared.cmp.Ordering.TheVariants.{Equal};
-ghost use Rattle.dk_map.specs.Entries.{find, put, without, first_entry, entry_after, IsOrdered};
+ghost use Rattle.dk_map.specs.Entries.{find, put, without, first_entry, entry_after, IsOrdered, IsReplaced};
 
 use crate::tree::{Cell, Tree};
 use std::alloc::{AllocError, Global};
@@ -144,6 +144,15 @@ impl<K: Ord + Drop, V: Drop> OrderedMap<K, V> {
             self.len += 1;
         }
         old
+    }
+
+    /// Puts a value at a key that is there, and gives the old one. At another key it gives the value back.
+    pub fn replace(&mut self, key: &K, value: V) -> Result<V, V>
+        ensures replaced { IsReplaced K.cmp key.now value self.old.entries self.new.entries result }
+        ensures spare { self.new.spare ≡ self.old.spare }
+        ensures ordered { IsOrdered K.cmp self.new.entries }
+    {
+        self.tree.replace(key, value)
     }
 
     /// Takes the entry at a key out, if there is one. Its room is spare from then on.

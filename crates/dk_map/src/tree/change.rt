@@ -3,7 +3,7 @@ ghost use Rattle.std.specs.Prelude.{◌≡◌, ◌∷◌, ◌++◌, ◌+◌, ◌
 ghost use Rattle.std.specs.Option.{option_map};
 ghost use Rattle.std.specs.declared.cmp.Ordering.TheVariants.{Equal};
 ghost use Rattle.dk_map.specs.Balance.{DifferByAtMost};
-ghost use Rattle.dk_map.specs.Entries.{find, put, without, IsOrdered};
+ghost use Rattle.dk_map.specs.Entries.{find, put, without, IsOrdered, IsReplaced};
 
 use super::balance::settle;
 use super::{Cell, Node, Tree};
@@ -49,6 +49,26 @@ impl<K: Ord + Drop, V: Drop> Tree<K, V> {
                     self.height = settle(cell);
                     old
                 }
+            },
+        }
+    }
+
+    /// Puts a value at a key that is there, and gives the old one. At another key it gives the value back.
+    pub(crate) fn replace(&mut self, key: &K, value: V) -> Result<V, V>
+        requires { IsOrdered K.cmp self.old.0 }
+        ensures replaced { IsReplaced K.cmp key.now value self.old.0 self.new.0 result }
+        ensures len { length self.new.0 ≡ length self.old.0 }
+        ensures height { self.new.1 ≡ self.old.1 }
+    {
+        match &mut self.root {
+            None => Err(value),
+            Some(cell) => match &mut **cell {
+                None => unreachable!(),
+                Some(node) => match key.cmp(&node.key) {
+                    Ordering::Less => node.left.replace(key, value),
+                    Ordering::Equal => Ok(mem::replace(&mut node.value, value)),
+                    Ordering::Greater => node.right.replace(key, value),
+                },
             },
         }
     }

@@ -1,5 +1,4 @@
-use Rattle.std.proofs.Common.{◌≡◌, ◌+◌, ◌<◌, ◌^◌, false, true, is_some, length, sym, ap, ◌∙◌, arith}
-use Rattle.dk_map.specs.Entries.{find, put, IsOrdered}
+use Rattle.std.proofs.Common.{is_some, sym, ap, ◌∙◌, arith}
 use Rattle.dk_map.proofs.Counts.{ordered_put, length_put_new, length_put_same}
 use Rattle.dk_map.proofs.Heights.{low_fits}
 use Rattle.dk_map.proofs.map.OrderedMap.insert.Goals as goal

@@ -1,5 +1,4 @@
-use Rattle.std.proofs.Common.{◌≡◌, ◌+◌, ◌<◌, ◌^◌, false, true, is_some, length, sym, ap, ◌∙◌, arith}
-use Rattle.dk_map.specs.Entries.{find, without, IsOrdered}
+use Rattle.std.proofs.Common.{sym, arith}
 use Rattle.dk_map.proofs.Counts.{ordered_without, length_without_one, length_without_none, found_of}
 use Rattle.dk_map.proofs.Heights.{low_fits}
 use Rattle.dk_map.proofs.map.OrderedMap.remove.Goals as goal

@@ -1,6 +1,4 @@
-use Rattle.std.proofs.Common.{◌≡◌, Some, sym, ap, ◌∙◌, arith}
-use Rattle.std.specs.Option.{option_or}
-use Rattle.dk_map.specs.Entries.{first_above}
+use Rattle.std.proofs.Common.{sym, ◌∙◌, arith}
 use Rattle.dk_map.proofs.Around.{at_entry, above_left, above_beyond}
 use Rattle.dk_map.proofs.tree.Tree.+above.Goals as goal
 

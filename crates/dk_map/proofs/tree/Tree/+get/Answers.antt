@@ -1,5 +1,4 @@
-use Rattle.std.proofs.Common.{◌≡◌, sym, ◌∙◌, arith}
-use Rattle.dk_map.specs.Entries.{find}
+use Rattle.std.proofs.Common.{sym, ◌∙◌, arith}
 use Rattle.dk_map.proofs.Around.{at_entry, find_left, find_middle, find_right}
 use Rattle.dk_map.proofs.tree.Tree.+get.Goals as goal
 

@@ -1,5 +1,4 @@
-use Rattle.std.proofs.Common.{◌≡◌, ◌∷◌, ◌++◌, Some, refl, sym, ap, ◌∙◌, arith}
-use Rattle.dk_map.specs.Entries.{find, put}
+use Rattle.std.proofs.Common.{◌∷◌, ◌++◌, refl, sym, ap, ◌∙◌, arith}
 use Rattle.dk_map.proofs.Around.{find_left, find_middle, find_right, put_left, put_middle, put_right}
 use Rattle.dk_map.proofs.Top.{has_top, at_top, settled}
 use Rattle.dk_map.proofs.tree.Tree.+insert.Goals as goal

@@ -1,6 +1,4 @@
-use Rattle.std.proofs.Common.{◌≡◌, ◌∷◌, ◌++◌, Some, None, is_some, IfSome, refl, sym, ap, subst, ◌∙◌, arith}
-use Rattle.dk_map.specs.Balance.{root_entries}
-use Rattle.dk_map.specs.Entries.{find, without}
+use Rattle.std.proofs.Common.{◌≡◌, ◌∷◌, ◌++◌, refl, sym, ap, ◌∙◌, arith}
 use Rattle.dk_map.proofs.Around.{find_left, find_middle, find_right, without_left, without_middle, without_right, otherwise}
 use Rattle.dk_map.proofs.Top.{has_top, at_top, settled, left_falls, right_falls, same_node}
 use Rattle.dk_map.proofs.tree.Tree.+remove.Goals as goal
