@@ -1,5 +1,5 @@
 -- The order of moments and tickets is total, and only equal ones tie.
-use Rattle.std.proofs.Common.{◌≡◌, ℕ}
+use Rattle.std.proofs.Common.{ℕ}
 use Rattle.std.specs.Cmp.{IsTotalOrder, on_total, then_total, nat_cmp_total}
 use Rattle.std.specs.FinMap.{IsAntisymmetric, nat_cmp-IsAntisymmetric}
 use Rattle.dk_map.proofs.Keys.{then-IsAntisymmetric}

@@ -1,10 +1,10 @@
 -- What a store over an ordered map shows: a finite map, and how many more keys fit without memory.
-use Rattle.std.specs.Prelude.{◌≡◌, ℕ, refl, Option, None, Some}
+use Rattle.std.specs.Prelude.{ℕ, refl, Option, None, Some}
 use Rattle.std.specs.Coded.{Coded, code_by, coded×, coded_ℕ}
 use Rattle.std.specs.declared.cmp.Ordering.{Ordering}
 use Rattle.std.specs.FinMap as map
 use Rattle.std.specs.FinMap.{FinMap}
-use Rattle.dk_map.specs.AsMap.{IsAfter, IsNext}
+use Rattle.dk_map.specs.AsMap.{IsNext}
 
 pub record Shown {K : Type 0} (R : K → K → Ordering) (V : Type 0) : Type 0 where
   pub map : FinMap R V

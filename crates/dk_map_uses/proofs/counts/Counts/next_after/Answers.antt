@@ -1,4 +1,4 @@
-use Rattle.std.proofs.Common.{◌≡◌, None, Some, ap}
+use Rattle.std.proofs.Common.{None, Some, ap}
 use Rattle.std.specs.Cmp.{nat_cmp_total}
 use Rattle.dk_map.proofs.Seen.{next_seen}
 use Rattle.dk_map_uses.proofs.counts.Counts.next_after.Goals as goal

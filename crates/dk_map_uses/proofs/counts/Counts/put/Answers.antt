@@ -1,4 +1,4 @@
-use Rattle.std.proofs.Common.{◌≡◌, ap, ◌∙◌}
+use Rattle.std.proofs.Common.{ap, ◌∙◌}
 use Rattle.std.specs.Cmp.{nat_cmp_total}
 use Rattle.dk_map.proofs.Seen.{get_seen, put_seen}
 use Rattle.dk_map_uses.proofs.counts.Counts.put.Goals as goal

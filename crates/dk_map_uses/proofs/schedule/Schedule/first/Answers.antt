@@ -1,4 +1,4 @@
-use Rattle.std.proofs.Common.{◌≡◌, None, Some, ap}
+use Rattle.std.proofs.Common.{None, Some, ap}
 use Rattle.dk_map.proofs.Seen.{next_seen}
 use Rattle.dk_map_uses.proofs.Due.{due_total}
 use Rattle.dk_map_uses.proofs.schedule.Schedule.first.Goals as goal

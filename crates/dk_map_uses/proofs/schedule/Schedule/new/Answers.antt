@@ -1,4 +1,4 @@
-use Rattle.std.proofs.Common.{◌≡◌, ap, ◌∙◌}
+use Rattle.std.proofs.Common.{ap, ◌∙◌}
 use Rattle.dk_map.specs.AsMap.{map_of}
 use Rattle.dk_map.proofs.Maps.{map_of-empty}
 use Rattle.dk_map_uses.specs.Due.{due_cmp}

@@ -1,4 +1,4 @@
-use Rattle.std.proofs.Common.{◌≡◌, Some, sym, ap, ◌∙◌, is_some}
+use Rattle.std.proofs.Common.{sym, ap, ◌∙◌, is_some}
 use Rattle.dk_map.proofs.Seen.{get_seen, put_seen, without_seen}
 use Rattle.dk_map_uses.proofs.Due.{due_total, due_same}
 use Rattle.dk_map_uses.proofs.schedule.Schedule.put_off.Goals as goal

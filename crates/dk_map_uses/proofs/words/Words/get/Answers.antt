@@ -1,4 +1,4 @@
-use Rattle.std.proofs.Common.{◌≡◌, ap, ◌∙◌}
+use Rattle.std.proofs.Common.{ap, ◌∙◌}
 use Rattle.dk_map.proofs.Seen.{get_seen}
 use Rattle.dk_map_uses.proofs.words.Words.get.Goals as goal
 

@@ -1,4 +1,4 @@
-use Rattle.std.proofs.Common.{◌≡◌, ap, ◌∙◌}
+use Rattle.std.proofs.Common.{ap, ◌∙◌}
 use Rattle.std.specs.Cmp.Lexicographic.{nat_list_cmp_total}
 use Rattle.dk_map.proofs.Seen.{get_seen, put_seen}
 use Rattle.dk_map_uses.proofs.words.Words.put.Goals as goal
