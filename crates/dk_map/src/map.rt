@@ -8,7 +8,7 @@ use crate::tree::{Cell, Tree};
 use std::alloc::{AllocError, Global};
 use std::marker::Model;
 
-/// An ordered map whose room is made in advance.
+/// An ordered map whose room is made in advance. The room that was made stays until the map is dropped.
 #[derive(Drop)]
 pub struct OrderedMap<K: Ord, V> {
     tree: Tree<K, V>,
