@@ -1,0 +1,9 @@
+pub mod Around
+pub mod Counts
+pub mod Heights
+pub mod Keys
+pub mod Maps
+pub mod Next
+pub mod Replaced
+pub mod Seen
+pub mod Top

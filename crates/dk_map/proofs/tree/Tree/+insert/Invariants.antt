@@ -1,0 +1,4 @@
+use Rattle.dk_map.proofs.tree.Tree.+insert.Given as goal
+
+abbrev pub decreases-insert : goal.decreases-insert
+decreases-insert g l = goal.size-insert g l

@@ -1,0 +1,36 @@
+-- Entries in the strictly ascending order of their keys. The words for one key are those on which `FinMap` stands:
+--     find R q es      the value at the key q
+--     put R k v es     the entry in its place; at a key that is there the key stays and the value is new
+use Rattle.std.specs.Prelude.{cond, not, T, List, [], ◌∷◌, Option, None, Some, Result, Ok, Err, ◌≡◌}
+use Rattle.std.specs.declared.cmp.Ordering.{Ordering}
+use Rattle.std.specs.Ordering.{is_lt, eq_by_cmp}
+use Rattle.std.specs.FinMap.Entries.{where_key}
+pub use Rattle.std.specs.FinMap.Entries.{find, put, is_sorted}
+
+-- the keys strictly ascend
+abbrev pub IsOrdered : {K X : Type 0} → (K → K → Ordering) → List (K × X) → Type 0
+IsOrdered R es = T (is_sorted R es)
+
+-- the entries of the other keys
+abbrev pub without : {K X : Type 0} → (K → K → Ordering) → K → List (K × X) → List (K × X)
+without R k es = where_key R (λ x. not (eq_by_cmp R k x)) es
+
+-- the first entry
+abbrev pub first_entry : {K X : Type 0} → List (K × X) → Option (K × X)
+first_entry [] = None
+first_entry (e ∷ es) = Some e
+
+-- the first entry whose key is above q
+abbrev pub first_above : {K X : Type 0} → (K → K → Ordering) → K → List (K × X) → Option (K × X)
+first_above R q [] = None
+first_above R q (e ∷ es) = cond (is_lt (R q e.0)) (Some e) (first_above R q es)
+
+-- the first entry above a key, or the first of all
+abbrev pub entry_after : {K X : Type 0} → (K → K → Ordering) → Option K → List (K × X) → Option (K × X)
+entry_after R None es = first_entry es
+entry_after R (Some q) es = first_above R q es
+
+-- what putting v at the key k of the entries d leaves, and answers: the old value, or v itself where k is not there
+abbrev pub IsReplaced : {K X : Type 0} → (K → K → Ordering) → K → X → List (K × X) → List (K × X) → Result X X → Type 0
+IsReplaced R k v d e (Ok old) = (find R k d ≡ Some old) × (e ≡ put R k v d)
+IsReplaced R k v d e (Err back) = (find R k d ≡ None) × (back ≡ v) × (e ≡ d)

@@ -1,0 +1,4 @@
+pub mod AsMap
+pub mod Balance
+pub mod Entries
+pub mod OrderedMap

@@ -1,0 +1,213 @@
+// How an entry comes into a tree, and how it leaves.
+ghost use Rattle.std.specs.Prelude.{◌≡◌, ◌∷◌, ◌++◌, ◌+◌, ◌-◌, ◌^◌, ◌<◌, ◌≤◌, max, None, Some, IfSome, IfOk, IfErr, is_some, is_ok, length, if◌then◌else◌, vec_len, vec_capacity};
+ghost use Rattle.std.specs.Option.{option_map};
+ghost use Rattle.std.specs.declared.cmp.Ordering.TheVariants.{Equal};
+ghost use Rattle.dk_map.specs.Balance.{DifferByAtMost};
+ghost use Rattle.dk_map.specs.Entries.{find, put, without, IsOrdered, IsReplaced};
+
+use super::balance::settle;
+use super::{Cell, Node, Tree};
+use std::cmp::Ordering;
+use std::mem;
+
+impl<K: Ord + Drop, V: Drop> Tree<K, V> {
+    /// Puts an entry in. At a key that is there the key stays, and its old value comes back.
+    pub(crate) fn insert(&mut self, key: K, value: V, spare: &mut Vec<Cell<K, V>>) -> Option<V>
+        requires ordered { IsOrdered K.cmp self.old.0 }
+        requires room { find K.cmp key self.old.0 ≡ None → 0 < vec_len spare.old }
+        requires fits { self.old.1 < 2 ^ 8 - 2 }
+        ensures old { result ≡ find K.cmp key self.old.0 }
+        ensures entries { self.new.0 ≡ put K.cmp key value self.old.0 }
+        ensures spare { vec_len spare.new + (if is_some result then 0 else 1) ≡ vec_len spare.old }
+        ensures capacity { vec_capacity spare.new ≡ vec_capacity spare.old }
+        ensures not_lower { self.old.1 ≤ self.new.1 }
+        ensures at_most_one_higher { self.new.1 ≤ self.old.1 + 1 }
+    {
+        match &mut self.root {
+            None => {
+                let Some(mut cell) = spare.pop() else {
+                    unreachable!()
+                };
+                *cell = Some(Node {
+                    left: Tree::leaf(),
+                    key,
+                    value,
+                    right: Tree::leaf(),
+                });
+                self.root = Some(cell);
+                self.height = 1;
+                None
+            }
+            Some(cell) => match &mut **cell {
+                None => unreachable!(),
+                Some(node) => {
+                    let old = match key.cmp(&node.key) {
+                        Ordering::Less => node.left.insert(key, value, spare),
+                        Ordering::Equal => return Some(mem::replace(&mut node.value, value)),
+                        Ordering::Greater => node.right.insert(key, value, spare),
+                    };
+                    self.height = settle(cell);
+                    old
+                }
+            },
+        }
+    }
+
+    /// Puts a value at a key that is there, and gives the old one. At another key it gives the value back.
+    pub(crate) fn replace(&mut self, key: &K, value: V) -> Result<V, V>
+        requires { IsOrdered K.cmp self.old.0 }
+        ensures replaced { IsReplaced K.cmp key.now value self.old.0 self.new.0 result }
+        ensures len { length self.new.0 ≡ length self.old.0 }
+        ensures height { self.new.1 ≡ self.old.1 }
+    {
+        match &mut self.root {
+            None => Err(value),
+            Some(cell) => match &mut **cell {
+                None => unreachable!(),
+                Some(node) => match key.cmp(&node.key) {
+                    Ordering::Less => node.left.replace(key, value),
+                    Ordering::Equal => Ok(mem::replace(&mut node.value, value)),
+                    Ordering::Greater => node.right.replace(key, value),
+                },
+            },
+        }
+    }
+
+    /// Takes the entry at a key out, if there is one. Its cell is spare from then on.
+    pub(crate) fn remove(&mut self, key: &K, spare: &mut Vec<Cell<K, V>>) -> Option<(K, V)>
+        requires ordered { IsOrdered K.cmp self.old.0 }
+        requires room { vec_len spare.old < vec_capacity spare.old }
+        requires fits { self.old.1 < 2 ^ 8 - 2 }
+        ensures value { option_map (λ e. e.1) result ≡ find K.cmp key.now self.old.0 }
+        ensures same_key { IfSome result (λ e. K.cmp key.now e.0 ≡ Equal) }
+        ensures entries { self.new.0 ≡ without K.cmp key.now self.old.0 }
+        ensures spare { vec_len spare.new ≡ vec_len spare.old + (if is_some result then 1 else 0) }
+        ensures capacity { vec_capacity spare.new ≡ vec_capacity spare.old }
+        ensures not_higher { self.new.1 ≤ self.old.1 }
+        ensures at_most_one_lower { self.old.1 ≤ self.new.1 + 1 }
+    {
+        let Some(cell) = &self.root else {
+            return None;
+        };
+        let Some(node) = &**cell else { unreachable!() };
+        let order = key.cmp(&node.key);
+        if let Ordering::Equal = order {
+            let Some(mut cell) = mem::replace(&mut self.root, None) else {
+                unreachable!()
+            };
+            let Some(node) = mem::replace(&mut *cell, None) else {
+                unreachable!()
+            };
+            let Node {
+                left,
+                key,
+                value,
+                right,
+            } = node;
+            *self = join(cell, left, right, spare);
+            return Some((key, value));
+        }
+        match &mut self.root {
+            None => unreachable!(),
+            Some(cell) => match &mut **cell {
+                None => unreachable!(),
+                Some(node) => {
+                    let removed = match order {
+                        Ordering::Less => node.left.remove(key, spare),
+                        _ => node.right.remove(key, spare),
+                    };
+                    self.height = settle(cell);
+                    removed
+                }
+            },
+        }
+    }
+}
+
+impl<K: Drop, V: Drop> Tree<K, V> {
+    /// Takes the first entry out.
+    fn take_first(&mut self, spare: &mut Vec<Cell<K, V>>) -> (K, V)
+        requires nonempty { 0 < self.old.1 }
+        requires room { vec_len spare.old < vec_capacity spare.old }
+        requires fits { self.old.1 < 2 ^ 8 - 2 }
+        ensures entries { self.old.0 ≡ result ∷ self.new.0 }
+        ensures spare { vec_len spare.new ≡ vec_len spare.old + 1 }
+        ensures capacity { vec_capacity spare.new ≡ vec_capacity spare.old }
+        ensures not_higher { self.new.1 ≤ self.old.1 }
+        ensures at_most_one_lower { self.old.1 ≤ self.new.1 + 1 }
+    {
+        let Some(cell) = &self.root else {
+            unreachable!()
+        };
+        let Some(node) = &**cell else { unreachable!() };
+        if node.left.height() == 0 {
+            let Some(mut cell) = mem::replace(&mut self.root, None) else {
+                unreachable!()
+            };
+            let Some(node) = mem::replace(&mut *cell, None) else {
+                unreachable!()
+            };
+            spare.push_reserved(cell);
+            let Node {
+                left: _,
+                key,
+                value,
+                right,
+            } = node;
+            *self = right;
+            return (key, value);
+        }
+        match &mut self.root {
+            None => unreachable!(),
+            Some(cell) => match &mut **cell {
+                None => unreachable!(),
+                Some(node) => {
+                    let first = node.left.take_first(spare);
+                    self.height = settle(cell);
+                    first
+                }
+            },
+        }
+    }
+}
+
+/// One tree of two, the second of which stands after the first. The cell between them is used again or is spare.
+fn join<K: Drop, V: Drop>(
+    mut cell: Cell<K, V>,
+    left: Tree<K, V>,
+    mut right: Tree<K, V>,
+    spare: &mut Vec<Cell<K, V>>,
+) -> Tree<K, V>
+    requires empty { cell.value ≡ None }
+    requires room { vec_len spare.old < vec_capacity spare.old }
+    requires balanced { DifferByAtMost 1 left.1 right.1 }
+    requires fits { max left.1 right.1 < 2 ^ 8 - 2 }
+    ensures entries { result.0 ≡ left.0 ++ right.0 }
+    ensures spare { vec_len spare.new ≡ vec_len spare.old + 1 }
+    ensures capacity { vec_capacity spare.new ≡ vec_capacity spare.old }
+    ensures not_lower { max left.1 right.1 ≤ result.1 }
+    ensures at_most_one_higher { result.1 ≤ max left.1 right.1 + 1 }
+{
+    if right.height() == 0 {
+        spare.push_reserved(cell);
+        return left;
+    }
+    let (key, value) = right.take_first(spare);
+    match mem::replace(
+        &mut *cell,
+        Some(Node {
+            left,
+            key,
+            value,
+            right,
+        }),
+    ) {
+        None => {}
+        Some(_) => unreachable!(),
+    }
+    let height = settle(&mut *cell);
+    Tree {
+        root: Some(cell),
+        height,
+    }
+}

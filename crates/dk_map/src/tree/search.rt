@@ -1,0 +1,67 @@
+// What a tree is asked.
+ghost use Rattle.std.specs.Prelude.{◌≡◌, ◌+◌, ◌≤◌, ◌++◌, map, length, None, Some, vec_len, vec_capacity};
+ghost use Rattle.std.specs.Option.{option_map, option_copied, option_or};
+ghost use Rattle.dk_map.specs.Entries.{find, IsOrdered, first_entry, first_above};
+
+use super::Tree;
+use std::cmp::Ordering;
+
+impl<K: Ord, V> Tree<K, V> {
+    pub(crate) fn get(&self, key: &K) -> Option<&V>
+        requires { IsOrdered K.cmp self.now.0 }
+        ensures { option_copied result ≡ find K.cmp key.now self.now.0 }
+    {
+        let Some(node) = self.node() else {
+            return None;
+        };
+        match key.cmp(&node.key) {
+            Ordering::Less => node.left.get(key),
+            Ordering::Equal => Some(&node.value),
+            Ordering::Greater => node.right.get(key),
+        }
+    }
+
+    pub(crate) fn above(&self, key: &K) -> Option<(&K, &V)>
+        requires { IsOrdered K.cmp self.now.0 }
+        ensures { option_map (λ e. (e.0.now, e.1.now)) result ≡ first_above K.cmp key.now self.now.0 }
+    {
+        let Some(node) = self.node() else {
+            return None;
+        };
+        if let Ordering::Less = key.cmp(&node.key) {
+            let Some(entry) = node.left.above(key) else {
+                return Some((&node.key, &node.value));
+            };
+            return Some(entry);
+        }
+        node.right.above(key)
+    }
+}
+
+impl<K, V> Tree<K, V> {
+    pub(crate) fn first(&self) -> Option<(&K, &V)>
+        ensures { option_map (λ e. (e.0.now, e.1.now)) result ≡ first_entry self.now.0 }
+    {
+        let Some(node) = self.node() else {
+            return None;
+        };
+        let Some(entry) = node.left.first() else {
+            return Some((&node.key, &node.value));
+        };
+        Some(entry)
+    }
+    /// Puts references to the entries at the end of a list, in order.
+    pub(crate) fn list_into<'a>(&'a self, out: &mut Vec<(&'a K, &'a V)>)
+        requires { vec_len out.old + length self.now.0 ≤ vec_capacity out.old }
+        ensures items { map (λ e. (e.0.now, e.1.now)) out.new.items ≡ map (λ e. (e.0.now, e.1.now)) out.old.items ++ self.now.0 }
+        ensures len { vec_len out.new ≡ vec_len out.old + length self.now.0 }
+        ensures capacity { vec_capacity out.new ≡ vec_capacity out.old }
+    {
+        let Some(node) = self.node() else {
+            return;
+        };
+        node.left.list_into(out);
+        out.push_reserved((&node.key, &node.value));
+        node.right.list_into(out);
+    }
+}
