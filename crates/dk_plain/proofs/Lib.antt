@@ -4,3 +4,4 @@ pub mod Calls
 pub mod Lists
 pub mod Platform
 pub mod JobParts
+pub mod Sendings

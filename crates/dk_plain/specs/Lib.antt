@@ -2,3 +2,4 @@ pub mod Writes
 pub mod Plains
 pub mod Recording
 pub mod PlainJobs
+pub mod Sendings

@@ -7,3 +7,5 @@
 pub use play::{Played, play_session};
 
 pub mod play;
+pub mod serve;
+pub mod visitor;

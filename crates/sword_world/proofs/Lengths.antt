@@ -3,8 +3,7 @@ use Rattle.std.proofs.Common.{◌≡◌, ℕ, ◌+◌, ◌<◌, ◌≤◌, Bool,
 use Rattle.std.proofs.lemmas.Bool.Decides.{nat_tests}
 use Rattle.std.specs.List.{flat_map}
 use Rattle.dk_types.specs.declared.number.ObjectId.{ObjectId}
-use Rattle.dk_wire.specs.Fields.{id_spelling, u32_spelling}
-use Rattle.dk_wire.proofs.LengthLaws.{length-id}
+use Rattle.dk_wire.specs.Fields.{id_spelling, u32_spelling, u64_spelling}
 use Rattle.dk_model.specs.Runs.{is_too_long}
 use Rattle.dk_model.specs.Spellings.{list_spelling}
 use Rattle.sword_world.specs.declared.things.Room.{Room}
@@ -12,8 +11,9 @@ use Rattle.sword_world.specs.Things.{room_bytes}
 
 -- each id takes bytes
 length-ids : (ids : List ObjectId) → length ids ≤ length (flat_map id_spelling ids)
+unfolding id_spelling u64_spelling u32_spelling
 length-ids [] = omega arith
-length-ids (id ∷ ids) = omega (arith, length-ids ids, length-append (id_spelling id) (flat_map id_spelling ids), length-id id)
+length-ids (id ∷ ids) = omega (arith, length-ids ids, length-append (id_spelling id) (flat_map id_spelling ids))
 
 length-list : (ids : List ObjectId) → length ids ≤ length (list_spelling id_spelling ids)
 length-list ids = omega (arith, length-ids ids, length-append (u32_spelling (length ids)) (flat_map id_spelling ids))

@@ -1,3 +1,4 @@
 pub mod ListSteps
 pub mod LabelParts
 pub mod Lengths
+pub mod SwordSends

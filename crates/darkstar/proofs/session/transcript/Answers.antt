@@ -6,6 +6,7 @@ use Rattle.dk_model.specs.Worlds.{fresh_world}
 use Rattle.dk_model.specs.Phases.{phases_of}
 use Rattle.dk_model.specs.Transcripts.{IsPlayed, transcript_text}
 use Rattle.sword_world.specs.Rules.{sword_rules}
+use Rattle.sword_world.proofs.SwordSends.{sword-is_terse}
 use Rattle.darkstar.specs.Headline.{IsToldPlay}
 use Rattle.darkstar.proofs.PlayOrder.{IsTranscript-IsPlayed}
 use Rattle.darkstar.proofs.session.transcript.Goals as goal
@@ -21,3 +22,6 @@ pub returns : goal.returns
 returns c =
     let p = c.in_ok-played.played in
     told c.transcript_of.result c.args.lines.items c.as_slice.result.now p.events.items c.as_slice-2.result.now p.marks.items p.commits p.tasks c.as_slice.ensures.value c.as_slice-2.ensures.value c.in_ok-played.ensures.played c.transcript_of.ensures
+
+pub play_session-requires-clause-terse : goal.play_session-requires-clause-terse
+play_session-requires-clause-terse c = sword-is_terse

@@ -1,6 +1,6 @@
-use Rattle.std.proofs.Common.{◌≡◌, ◌++◌, ◌∷◌, [], ◌∙◌, sym, ap, append_assoc, List, ℕ, Option, rules}
+use Rattle.std.proofs.Common.{◌≡◌, ◌++◌, ◌∷◌, [], ◌∙◌, sym, ap, append_assoc, List, ℕ, Option}
 use Rattle.dk_types.specs.declared.number.ObjectId.{ObjectId}
-use Rattle.dk_wire.specs.Fields.{u8_spelling, id_spelling}
+use Rattle.dk_wire.specs.Fields.{id_spelling, u8_spelling}
 use Rattle.sword_world.specs.Carried.{carried_bytes}
 use Rattle.sword_world.proofs.things.put_carried.Goals as goal
 
@@ -12,4 +12,4 @@ returns-in_ok-put_id-in-Some c =
 
 pub returns-in-None : goal.returns-in-None
 unfolding u8_spelling
-returns-in-None c = search rules
+returns-in-None c = rw c.in-None.is c.put_u8.ensures.ok

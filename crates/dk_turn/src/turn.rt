@@ -1,0 +1,200 @@
+//! The lock.
+ghost use Rattle.std.specs.Prelude.{◌≡◌, ◌<◌, ◌≤◌, List, [], IfOk, IfErr, vec_capacity};
+ghost use Rattle.std.specs.List.{All};
+ghost use Rattle.dk_turn.specs.Fronts.{Continues, ContinuesAll, Called, IsDealt};
+ghost use Rattle.dk_turn.specs.Rule.{dealer};
+
+use crate::blank::Blank;
+use crate::book::{Book, Step};
+use crate::desk::Desk;
+use crate::naming::Naming;
+use crate::pass::Pass;
+use crate::rule::{Deals, Ordered, Place, View, Words};
+use atomic_table::Table;
+use std::alloc::Global;
+use std::marker::PhantomData;
+use std::sync::atomic::AtomicU64;
+use std::sync::atomic::Ordering::SeqCst;
+use std::sync::{Mutex, Wait};
+
+/// There was no memory. The book comes back.
+#[derive(Drop)]
+pub struct TurnRefused<O> {
+    pub book: O,
+}
+
+/// A lock whose value stands for a history. Those who call it have passes.
+#[derive(Drop)]
+pub struct Turn<O: Book, J: Naming> {
+    table: Table<O, View<O::Entry>, (), Ordered, Global>,
+    desk: Mutex<Desk<O, J>>,
+    // How many threads are in `wait`.
+    waiting: AtomicU64,
+    ghost words: { table.shared.table_id.words ≡ 1 },
+    ghost slots: { table.shared.table_id.slots ≡ 0 },
+    ghost table_is: { table.shared.table_id ≡ J.name.table },
+}
+
+impl<O: Book, J: Naming> Turn<O, J> {
+    /// The lock, and its passes, with the numbers from 0 on.
+    pub fn new(
+        alloc: Global,
+        blank: Blank<O>,
+        book: O,
+    ) -> Result<(Turn<O, J>, Vec<Pass<O, J>>), TurnRefused<O>>
+        requires name { blank ≡ J.name }
+        requires empty { O.history book ≡ [] }
+        ensures ok { IfOk result (λ r. IsDealt J.name.passes r.1.items) }
+        ensures err { IfErr result (λ r. r.book ≡ book) }
+    {
+        let Blank {
+            table,
+            mut seat,
+            passes,
+        } = blank;
+        let Ok(room) = Vec::with_capacity(alloc, passes as usize) else {
+            table.close().free();
+            return Err(TurnRefused { book });
+        };
+        let given = deal(&table.shared, &mut seat, passes, room);
+        let desk = Desk {
+            book,
+            seat,
+            of: PhantomData,
+        };
+        let turn = Turn {
+            table,
+            desk: Mutex::new(desk),
+            waiting: AtomicU64::new(0),
+        };
+        Ok((turn, given))
+    }
+
+    /// Applies the step at one point of the history. The new front begins with the old one, and ends with what the step added.
+    pub fn with<R: Wait, E: Step<O>>(&self, rt: &R, pass: &mut Pass<O, J>, step: E) -> E::Reply
+        requires { (book : O)
+            → Continues O.number pass.old.number pass.old.front (O.history book)
+            → E.may step pass.old.number (O.history book) }
+        ensures number { pass.new.number ≡ pass.old.number }
+        ensures called { Called O.number pass.old.number
+            (λ before added. E.gives step pass.old.number before result added)
+            pass.old.front pass.new.front }
+        ensures named { All (λ e. O.number e < J.name.passes) pass.new.front }
+    {
+        let mut desk = self.desk.lock(rt);
+        let reply = desk.enter(&self.table.shared, pass, step);
+        drop(desk);
+        self.wake(E::wakes(&reply));
+        reply
+    }
+
+    /// Both passes see the history as it is.
+    pub fn meet<R: Wait>(&self, rt: &R, one: &mut Pass<O, J>, other: &mut Pass<O, J>)
+        ensures numbers { (one.new.number ≡ one.old.number) × (other.new.number ≡ other.old.number) }
+        ensures same { one.new.front ≡ other.new.front }
+        ensures one { Continues O.number one.old.number one.old.front one.new.front }
+        ensures other { Continues O.number other.old.number other.old.front other.new.front }
+        ensures named { All (λ e. O.number e < J.name.passes) one.new.front }
+    {
+        let mut desk = self.desk.lock(rt);
+        desk.see(&self.table.shared, one);
+        desk.see(&self.table.shared, other);
+    }
+
+    /// `with` on `pass`, and under the same lock `other` sees what `pass` sees.
+    pub fn with_both<R: Wait, E: Step<O>>(
+        &self,
+        rt: &R,
+        pass: &mut Pass<O, J>,
+        other: &mut Pass<O, J>,
+        step: E,
+    ) -> E::Reply
+        requires { (book : O)
+            → Continues O.number pass.old.number pass.old.front (O.history book)
+            → Continues O.number other.old.number other.old.front (O.history book)
+            → E.may step pass.old.number (O.history book) }
+        ensures numbers { (pass.new.number ≡ pass.old.number) × (other.new.number ≡ other.old.number) }
+        ensures same { other.new.front ≡ pass.new.front }
+        ensures called { Called O.number pass.old.number
+            (λ before added. Continues O.number other.old.number other.old.front before
+            × E.gives step pass.old.number before result added)
+            pass.old.front pass.new.front }
+        ensures named { All (λ e. O.number e < J.name.passes) pass.new.front }
+    {
+        let mut desk = self.desk.lock(rt);
+        let reply = desk.enter_both(&self.table.shared, pass, other, step);
+        drop(desk);
+        self.wake(E::wakes(&reply));
+        reply
+    }
+
+    /// Sleeps until a step whose reply `wakes` was applied after the last call of this pass. Which it was is for the next call to see.
+    pub fn wait<R: Wait>(&self, rt: &R, pass: &Pass<O, J>) {
+        let words = &self.table.shared;
+        self.waiting.fetch_add(1, SeqCst);
+        for _ in rt.forever() {
+            if words.peek(0) != pass.woken {
+                break;
+            }
+            words.park(rt, 0, (pass.woken & 0xffff_ffff) as u32);
+        }
+        self.waiting.fetch_sub(1, SeqCst);
+    }
+
+    // Those who wait count themselves before they look at the word, and it was raised before this.
+    fn wake(&self, wakes: bool) {
+        if wakes && self.waiting.load(SeqCst) != 0 {
+            self.table.shared.wake_all(0);
+        }
+    }
+
+    /// The book. Its history begins with the front of each pass handed in, and has no entry of such a pass beyond it.
+    pub fn close(self, mut passes: Vec<Pass<O, J>>) -> O
+        ensures fronts { ContinuesAll O.number passes.items (O.history result) }
+        ensures named { All (λ e. O.number e < J.name.passes) (O.history result) }
+    {
+        let Turn {
+            table,
+            desk,
+            waiting: _,
+        } = self;
+        let mut desk = desk.into_inner();
+        while let Some(mut pass) = passes.pop() {
+            desk.see(&table.shared, &mut pass);
+        }
+        table.close().free();
+        let Desk {
+            book,
+            seat: _,
+            of: _,
+        } = desk;
+        book
+    }
+}
+
+// Makes the passes, for which there is room.
+fn deal<O: Book, J: Naming>(
+    words: &Words<O>,
+    seat: &mut Place<O>,
+    passes: u32,
+    mut given: Vec<Pass<O, J>>,
+) -> Vec<Pass<O, J>>
+    requires words { (words.now.table_id ≡ J.name.table) × (0 < words.now.table_id.words) }
+    requires table { seat.old.table_id ≡ J.name.table }
+    requires first { seat.old.me.0 ≡ dealer 0 }
+    requires count { passes ≡ J.name.passes }
+    requires room { (given.items ≡ []) × (passes ≤ vec_capacity given) }
+    ensures seat { (seat.new.table_id ≡ J.name.table) × (seat.new.me.0 ≡ dealer J.name.passes) }
+    ensures given { IsDealt J.name.passes result.items }
+{
+    for number in 0..passes {
+        let place = words.split_seat::<Deals>(seat);
+        given.push_reserved(Pass {
+            number,
+            seat: place,
+            woken: 0,
+            of: PhantomData,
+        });
+    }
+    given
+}
