@@ -6,3 +6,4 @@ pub mod Serving
 pub mod Enterings
 pub mod Handing
 pub mod Phasing
+pub mod Runs

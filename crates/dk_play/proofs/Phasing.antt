@@ -14,7 +14,7 @@ use Rattle.dk_model.specs.Keys.{key_cmp}
 use Rattle.dk_model.specs.DurableWorlds.{DurableWorld, Task, empty_world}
 use Rattle.dk_model.specs.Worlds.{fresh_world}
 use Rattle.dk_model.specs.Events.{Meaning}
-use Rattle.dk_model.specs.Scripts.{IsSendOf}
+use Rattle.dk_model.specs.Scripts.{IsSendOf, IsOneSession}
 use Rattle.dk_model.specs.Phases.{IsSmall, AreSmall, phases_of}
 use Rattle.dk_model.specs.Transcripts.{Hands, Follows, IsQuiet, Plays, playing, IsPlayed}
 use Rattle.dk_play.specs.declared.visitor.Visitor.{Visitor}
@@ -87,6 +87,22 @@ visits-session rules d d' n name sends v0 v events few all conn0 same0 conn s qu
       durable = refl;
       small = subst (AllByRecursion IsSmall) (sym whole) (all-append IsSmall lines (s.served ++ hand_of v ∷ []) (tt, small-posts first sends) (all-append IsSmall s.served (hand_of v ∷ []) s.small (tt, tt)));
     }
+
+-- the same, for lines that begin with the login
+pub visits-lines : (rules : Meaning) (d d' : DurableWorld) (n : ℕ) (lines sends : List Line) (first : Line) (name : List ℕ) (v0 v : Visitor) (begun served events : List Event)
+    → lines ≡ first ∷ sends → first ≡ line.Login name → IsOneSession lines
+    → v0.conn ≡ record { 0 = 1 } → connection_of v0 ≡ entered (record { 0 = 1 }) name sends → v.conn ≡ v0.conn
+    → begun ≡ connect_of (record { 0 = 1 }) name ∷ map (post_of (record { 0 = 1 })) sends
+    → Serves rules (unclaimed d 2 (single v0.conn (connection_of v0))) begun served (unclaimed d' n (single v.conn (connection_of v)))
+    → IsQuiet (unclaimed d' n (single v.conn (connection_of v))) → events ≡ served ++ hand_of v ∷ []
+    → VisitsAll rules d lines events d'
+visits-lines rules d d' n lines sends first name v0 v begun served events parted is session conn0 same0 conn begun_is s quiet told =
+    let whole : lines ≡ line.Login name ∷ sends = parted ∙ ap (λ (f : Line). f ∷ sends) is in
+    let one : IsOneSession (line.Login name ∷ sends) = subst IsOneSession whole session in
+    let s' : Serves rules (unclaimed d 2 (single v0.conn (connection_of v0))) (connect_of (record { 0 = 1 }) name ∷ map (post_of (record { 0 = 1 })) sends) served (unclaimed d' n (single v.conn (connection_of v))) =
+      subst (λ es. Serves rules (unclaimed d 2 (single v0.conn (connection_of v0))) es served (unclaimed d' n (single v.conn (connection_of v)))) begun_is s in
+    subst (λ ls. VisitsAll rules d ls events d') (sym whole)
+      (subst (λ es. VisitsAll rules d (line.Login name ∷ sends) es d') (sym told) (visits-session rules d d' n name sends v0 v served one.1 one.2 conn0 same0 conn s' quiet))
 
 -- the places of the two phases cut the events into them
 phases-two : (events later : List Event) → phases_of (events ++ later) (0 ∷ length events ∷ []) ≡ events ∷ later ∷ []

@@ -56,7 +56,8 @@ is_eq-nat_cmp a b =
 pub same_number : (a b : ConnNo) → nat_eq a.0 b.0 ≡ true → a ≡ b
 same_number a b e = ap (λ (n : ℕ). record { 0 = n }) (eqb-true a.0 b.0 e)
 
-no_length : {A : Type 0} (es : List A) → length es ≡ 0 → es ≡ []
+-- a list of no length has no elements
+pub no_length : {A : Type 0} (es : List A) → length es ≡ 0 → es ≡ []
 no_length [] e = refl
 no_length (x ∷ es) e = absurd (omega arith)
 

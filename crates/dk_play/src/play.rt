@@ -34,7 +34,8 @@ fn begin<G: PlainGame>(
     game: &G,
     events: &mut Vec<Event>,
 ) -> Result<PlainWorld, NoMemory>
-    requires { events.old.items ≡ [] }
+    requires terse { IsTerse (G.rules game.now) }
+    requires start { events.old.items ≡ [] }
     ensures { IfOk result (λ w. Begins (G.rules game.now) events.new.items (durable_of w)) }
 {
     let mut world = PlainWorld::new(alloc);

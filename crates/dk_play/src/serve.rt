@@ -81,6 +81,7 @@ impl Play {
         requires fit { IsFit self.old }
         ensures serves { IfOk result (λ _. Serves (G.rules game.now) (world_of self.old) events.old.items events.new.items (world_of self.new)) }
         ensures quiet { IfOk result (λ _. IsQuiet (world_of self.new)) }
+        ensures fit { IfOk result (λ _. IsFit self.new) }
         ensures conn { self.new.visitor.conn ≡ self.old.visitor.conn }
     {
         'inputs: while self.serve_next(alloc, game, events)? {}

@@ -1,12 +1,13 @@
 -- The lines of a text, cut at its first byte 0A.
-use Rattle.std.proofs.Common.{◌≡◌, ℕ, suc, ◌+◌, ◌-◌, ◌<◌, ◌≤◌, Bool, true, false, cond, not, eqb, ltb, Option, Some, None, List, [], ◌∷◌, length, take, drop, refl, sym, ap, ◌∙◌, subst, arith, add-one}
+use Rattle.std.proofs.Common.{◌≡◌, ℕ, suc, ◌+◌, ◌-◌, ◌<◌, ◌≤◌, Bool, true, false, cond, not, eqb, Some, None, List, [], ◌∷◌, length, take, drop, refl, sym, ap, ◌∙◌, subst, arith, add-one}
 use Rattle.std.proofs.Math.Numerals.{one-add}
 use Rattle.std.proofs.Math.Seq.{take-length}
 use Rattle.std.proofs.Math.ListN.{length-drop}
 use Rattle.std.proofs.lemmas.Bool.Decides.{nat_tests}
-use Rattle.std.specs.List.{position, position_or_len, prefix_len, onto_first}
+use Rattle.std.specs.List.{position, position_or_len, onto_first}
 use Rattle.dk_model.specs.Lines.{lines_of}
 
+-- the byte that ends a line
 abbrev pub is_end : ℕ → Bool
 is_end b = eqb b 10
 
@@ -20,6 +21,7 @@ pub lines_of-cut : (bs : List ℕ) → position_or_len is_end bs < length bs →
 lines_of-cut [] h = absurd (omega arith)
 lines_of-cut (b ∷ bs) h = cut-cons b bs (eqb b 10) (position_or_len is_end bs) (lines_of-cut bs) h
 
+-- a byte before a text with no 0A belongs to its one line
 whole-cons : (b : ℕ) (bs : List ℕ) (t : Bool) (n : ℕ) → (0 < length bs → length bs ≤ n → lines_of bs ≡ bs ∷ []) → suc (length bs) ≤ cond (not t) (1 + n) 0 → cond t ([] ∷ lines_of bs) (onto_first b (lines_of bs)) ≡ (b ∷ bs) ∷ []
 whole-cons b bs true n rest h = absurd (omega arith)
 whole-cons b [] false n rest h = refl
@@ -30,10 +32,12 @@ pub lines_of-whole : (bs : List ℕ) → 0 < length bs → length bs ≤ positio
 lines_of-whole [] some h = absurd (omega arith)
 lines_of-whole (b ∷ bs) some h = whole-cons b bs (eqb b 10) (position_or_len is_end bs) (lines_of-whole bs) h
 
+-- what a position that was found says of its test
 found-at : (t : Bool) (m n : ℕ) → Some n ≡ cond t (Some m) None → (t ≡ true) × (n ≡ m)
 found-at true m n e = (refl, cc)
 found-at false m n e = absurd cc
 
+-- what a position that was not found says of it
 found-nowhere : (t : Bool) (m : ℕ) → None ≡ cond t (Some m) None → t ≡ false
 found-nowhere true m e = absurd cc
 found-nowhere false m e = refl

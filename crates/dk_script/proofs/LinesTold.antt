@@ -1,5 +1,5 @@
 -- The lines of events: none has a byte 0A, and none begins a phase.
-use Rattle.std.proofs.Common.{◌≡◌, ℕ, ◌<◌, Bool, true, false, List, [], ◌∷◌, ◌++◌, map, codes, refl, ap, ◌∙◌, arith}
+use Rattle.std.proofs.Common.{◌≡◌, ℕ, true, false, List, [], ◌∷◌, ◌++◌, map, codes, refl, arith}
 use Rattle.std.specs.Fmt.{decimal}
 use Rattle.std.specs.List.{AllByRecursion}
 use Rattle.dk_types.specs.declared.number.ConnNo.{ConnNo}
@@ -28,6 +28,7 @@ pub record IsWithin (line : List ℕ) : Type 0 where
   pub ended : lacks 10 line ≡ true
   pub inner : is_phase_line line ≡ false
 
+-- a number has no byte 0A
 lacks-number : (n : ℕ) → lacks 10 (decimal n) ≡ true
 lacks-number n = lacks-decimal 10 n (omega arith)
 
@@ -35,6 +36,7 @@ lacks-number n = lacks-decimal 10 n (omega arith)
 number-first : (n : ℕ) (rest : List ℕ) → lacks 10 rest ≡ true → lacks 10 (decimal n ++ 32 ∷ rest) ≡ true
 number-first n rest h = lacks-append 10 (decimal n) (32 ∷ rest) (lacks-number n) h
 
+-- nor has a job's text
 lacks-job : (j : Job) → lacks 10 (job_text j) ≡ true
 lacks-job job.Initialize = refl
 lacks-job (job.Login conn name) = lacks-escaped name
@@ -44,12 +46,14 @@ lacks-job (job.Disconnect conn name graceful) = lacks-escaped name
 lacks-job (job.Task key due period kind arg) =
     lacks-append 10 (decimal key.run.0) (46 ∷ decimal key.k) (lacks-number key.run.0) (lacks-number key.k)
 
+-- nor an outcome's
 lacks-outcome : (o : Outcome) → lacks 10 (outcome_text o) ≡ true
 lacks-outcome outcome.Ok = refl
 lacks-outcome (outcome.Fail (fault.Refused n)) = lacks-number n
 lacks-outcome (outcome.Fail (fault.Game n)) = lacks-number n
 lacks-outcome (outcome.Fail fault.TooLarge) = refl
 
+-- nor a message's
 lacks-out : (o : Out) → lacks 10 (out_text o) ≡ true
 lacks-out out.Accepted = refl
 lacks-out out.Refused = refl
@@ -57,15 +61,18 @@ lacks-out (out.Message body) = lacks-escaped body
 lacks-out (out.Channel channel body) = lacks-append 10 (escaped channel) (32 ∷ escaped body) (lacks-escaped channel) (lacks-escaped body)
 lacks-out out.Close = refl
 
+-- the lines of a Connect
 connect-within : (name : List ℕ) (reply : ConnectReply) → AllByRecursion IsWithin (connect_lines name reply)
 connect-within name (connected.Number conn) = (record { ended = number-first conn.0 (escaped name) (lacks-escaped name); inner = refl }, tt)
 connect-within name (connected.Exhausted next) = tt
 
+-- the lines of a Post
 post-within : (name : List ℕ) (conn : ConnNo) (reply : PostReply) → AllByRecursion IsWithin (post_lines name conn reply)
 post-within name conn posted.Taken = tt
 post-within name conn posted.Closed = (record { ended = number-first conn.0 (escaped name) (lacks-escaped name); inner = refl }, tt)
 post-within name conn (posted.QueueFull waiting) = (record { ended = number-first conn.0 (escaped name) (lacks-escaped name); inner = refl }, tt)
 
+-- the lines of a Claim
 claim-within : (reply : ClaimReply) → AllByRecursion IsWithin (claim_lines reply)
 claim-within (claimed.Granted run at j) =
     let run_at = lacks-append 10 (decimal run.0) (codes " at ") (lacks-number run.0) refl in
@@ -75,6 +82,7 @@ claim-within claimed.Nothing = tt
 claim-within (claimed.Spent granted) = tt
 claim-within (claimed.Exhausted next) = tt
 
+-- the lines of a Hand
 to-within : (conn : ConnNo) (name : List ℕ) (outs : List Out) → AllByRecursion IsWithin (map (to_line conn name) outs)
 to-within conn name [] = tt
 to-within conn name (o ∷ outs) =
@@ -94,6 +102,7 @@ event_lines-within known (event.Commit pass run seq outcome) =
 event_lines-within known (event.Hand pass conn most outs end) = to-within conn (name_at known conn) outs
 event_lines-within known (event.Tick pass moment) = (record { ended = lacks-number _; inner = refl }, tt)
 
+-- what holds of each of two lists holds of each of both
 pub AllByRecursion-append : {A : Type 0} (P : A → Type 0) (xs ys : List A) → AllByRecursion P xs → AllByRecursion P ys → AllByRecursion P (xs ++ ys)
 AllByRecursion-append P [] ys h k = k
 AllByRecursion-append P (x ∷ xs) ys h k = (h.0, AllByRecursion-append P xs ys h.1 k)

@@ -1,5 +1,5 @@
 -- The names that the printer knows, as a finite map.
-use Rattle.std.proofs.Common.{◌≡◌, ℕ, Option, Some, None, cond, List, [], ◌∷◌, map, refl, sym, ap, ◌∙◌}
+use Rattle.std.proofs.Common.{◌≡◌, ℕ, Some, cond, List, [], ◌∷◌, map, refl, sym, ap, ◌∙◌}
 use Rattle.std.specs.FinMap as maps
 use Rattle.std.specs.FinMap.{find, IsAntisymmetric, same_map, get-from_entries, get-insert, nat_cmp-IsAntisymmetric}
 use Rattle.std.specs.Cmp.{IsTotalOrder, nat_cmp_total, eq_by_cmp_equiv}
@@ -10,6 +10,7 @@ use Rattle.dk_types.specs.declared.number.ConnNo.{ConnNo}
 use Rattle.dk_model.specs.Keys.{conn_cmp}
 use Rattle.dk_script.specs.Knowledge.{names_of}
 
+-- connections are ordered as their numbers are
 pub conn_cmp_total : IsTotalOrder conn_cmp
 conn_cmp_total = record {
   antisymm = λ x y. nat_cmp_total.antisymm x.0 y.0;
@@ -17,6 +18,7 @@ conn_cmp_total = record {
   congr = λ x y z. nat_cmp_total.congr x.0 y.0 z.0;
 }
 
+-- only equal connections tie
 pub conn_cmp-IsAntisymmetric : IsAntisymmetric conn_cmp
 conn_cmp-IsAntisymmetric a b e = ap (λ (n : ℕ). record { 0 = n }) (nat_cmp-IsAntisymmetric a.0 b.0 e)
 

@@ -1,5 +1,5 @@
 -- The order of a history is read back from its transcript.
-use Rattle.std.proofs.Common.{◌≡◌, ℕ, suc, ◌+◌, ◌^◌, ◌<◌, Bool, true, false, cond, not, ◌&&◌, eqb, Option, Some, None, List, [], ◌∷◌, ◌++◌, map, codes, refl, sym, ap, ◌∙◌, subst, arith, append_assoc}
+use Rattle.std.proofs.Common.{◌≡◌, ℕ, ◌+◌, ◌^◌, ◌<◌, Bool, true, false, cond, not, ◌&&◌, eqb, Option, Some, None, List, [], ◌∷◌, ◌++◌, map, codes, refl, ap, ◌∙◌, arith, append_assoc}
 use Rattle.std.specs.Fmt.{decimal}
 use Rattle.std.specs.Str.Parse.{digits_value}
 use Rattle.std.specs.List.{AllByRecursion, cons_option, filter_map, onto_first}
@@ -17,13 +17,14 @@ use Rattle.dk_types.specs.declared.event.ClaimReply.TheVariants as claimed
 use Rattle.dk_types.specs.declared.number.ConnNo.{ConnNo}
 use Rattle.dk_types.specs.declared.job.Out.{Out}
 use Rattle.dk_model.specs.Lines.{lines_of, text_of, first_word, after_word}
-use Rattle.dk_model.specs.Orders.{OrderItem, Claimed, Committed, job_text, outcome_text, claim_of, commit_of, item_of_line, is_phase_line, parted, order_of, item_of_claim, item_of}
+use Rattle.dk_model.specs.Orders.{OrderItem, Claimed, Committed, job_text, outcome_text, claim_of, commit_of, item_of_line, parted, order_of, item_of_claim, item_of}
 use Rattle.dk_model.specs.Phases.{IsSmallClaim, IsSmall, AreSmall}
 use Rattle.dk_model.specs.Transcripts.{Known, name_at, nothing_known, to_line, connect_lines, post_lines, claim_lines, event_lines, lines_of_events, known_after, knowing, lines_of_phases, done_line, transcript_text}
 use Rattle.dk_script.proofs.Lacking.{lacks, lacks-append, lacks-decimal}
 use Rattle.dk_script.proofs.FirstWords.{first_word-space, after_word-space}
 use Rattle.dk_script.proofs.LinesTold.{IsWithin, AllByRecursion-append, lines_of_events-within}
 
+-- one byte more before a line that ends
 lines_of-cons : (b : ℕ) (t : Bool) (line rest : List ℕ) (others : Bool) → (not t && others) ≡ true → (others ≡ true → lines_of (line ++ 10 ∷ rest) ≡ line ∷ lines_of rest) → cond t ([] ∷ lines_of (line ++ 10 ∷ rest)) (onto_first b (lines_of (line ++ 10 ∷ rest))) ≡ (b ∷ line) ∷ lines_of rest
 lines_of-cons b true line rest others h behind = absurd cc
 lines_of-cons b false line rest others h behind = ap (onto_first b) (behind h)
@@ -56,6 +57,7 @@ claim_of-words run at job small soon =
     ∙ ap (λ (n : ℕ). Claimed n (digits_value 10 (decimal at)) job) (decimal_is_IsNumeral run small).1
     ∙ ap (λ (n : ℕ). Claimed run n job) (decimal_is_IsNumeral at soon).1
 
+-- the words of a commit, one by one
 commit_of-parts : (words behind run outcome : List ℕ) → after_word words ≡ behind → first_word (after_word behind) ≡ run → after_word (after_word behind) ≡ outcome → commit_of words ≡ Committed (digits_value 10 run) outcome
 commit_of-parts words behind run outcome b r o =
     let item : List ℕ → OrderItem = λ y. Committed (digits_value 10 (first_word (after_word y))) (after_word (after_word y)) in
@@ -74,21 +76,25 @@ commit_of-words seq run outcome small =
 abbrev told : List (List ℕ) → List OrderItem
 told = filter_map item_of_line
 
+-- a Connect tells no item
 told-connect : (name : List ℕ) (reply : ConnectReply) → told (connect_lines name reply) ≡ []
 told-connect name (connected.Number conn) = refl
 told-connect name (connected.Exhausted next) = refl
 
+-- a Post tells none
 told-post : (name : List ℕ) (conn : ConnNo) (reply : PostReply) → told (post_lines name conn reply) ≡ []
 told-post name conn posted.Taken = refl
 told-post name conn posted.Closed = refl
 told-post name conn (posted.QueueFull waiting) = refl
 
+-- a granted claim tells itself
 told-claim : (reply : ClaimReply) → IsSmallClaim reply → told (claim_lines reply) ≡ cons_option (item_of_claim reply) []
 told-claim (claimed.Granted run at job) small = ap (λ (i : OrderItem). i ∷ []) (claim_of-words run.0 at (job_text job) small.0 small.1)
 told-claim claimed.Nothing small = refl
 told-claim (claimed.Spent granted) small = refl
 told-claim (claimed.Exhausted next) small = refl
 
+-- a Hand tells none
 told-hand : (conn : ConnNo) (name : List ℕ) (outs : List Out) → told (map (to_line conn name) outs) ≡ []
 told-hand conn name [] = refl
 told-hand conn name (o ∷ outs) = told-hand conn name outs
@@ -103,10 +109,12 @@ told-event known (event.Commit pass run seq outcome) small = ap (λ (i : OrderIt
 told-event known (event.Hand pass conn most outs end) small = told-hand conn (name_at known conn) outs
 told-event known (event.Tick pass moment) small = refl
 
+-- an item that may be there, before others
 cons_option-append : {A : Type 0} (o : Option A) (xs : List A) → cons_option o [] ++ xs ≡ cons_option o xs
 cons_option-append None xs = refl
 cons_option-append (Some x) xs = refl
 
+-- the lines of events tell their items
 told-events : (known : Known) (events : List Event) → AllByRecursion IsSmall events → told (lines_of_events known events) ≡ filter_map item_of events
 told-events known [] small = refl
 told-events known (e ∷ events) small =
@@ -133,15 +141,18 @@ told-phases number known (events ∷ phases) commits tasks small =
     let first = filter_map-append item_of_line lines p.0 ∙ ap (λ (items : List OrderItem). told lines ++ items) rest.0 ∙ append-nil (told lines) ∙ told-events known events small.0 in
     (refl, ap (λ (q : List (List ℕ) × List (List (List ℕ))). told q.0 ∷ map told q.1) parts ∙ ap (λ (items : List OrderItem). items ∷ map told p.1) first ∙ ap (λ (order : List (List OrderItem)). filter_map item_of events ∷ order) rest.1)
 
+-- lines within a phase have no byte 0A
 ended-within : (lines : List (List ℕ)) → AllByRecursion IsWithin lines → AllByRecursion (λ line. lacks 10 line ≡ true) lines
 ended-within [] within = tt
 ended-within (line ∷ lines) within = (within.0.ended, ended-within lines within.1)
 
+-- nor have the lines of phases
 ended-phases : (number : ℕ) (known : Known) (phases : List (List Event)) → AllByRecursion (λ line. lacks 10 line ≡ true) (lines_of_phases number known phases)
 ended-phases number known [] = tt
 ended-phases number known (events ∷ phases) =
     (lacks-decimal 10 number (omega arith), AllByRecursion-append (λ line. lacks 10 line ≡ true) (lines_of_events known events) _ (ended-within _ (lines_of_events-within known events)) (ended-phases (number + 1) (known_after known events) phases))
 
+-- nor has the last line
 ended-done : (commits tasks : ℕ) → lacks 10 (done_line commits tasks) ≡ true
 ended-done commits tasks =
     lacks-append 10 (decimal commits ++ codes " tasks ") (decimal tasks) (lacks-append 10 (decimal commits) (codes " tasks ") (lacks-decimal 10 commits (omega arith)) refl) (lacks-decimal 10 tasks (omega arith))

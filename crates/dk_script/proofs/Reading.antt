@@ -1,5 +1,5 @@
 -- A script of one session, read line by line.
-use Rattle.std.proofs.Common.{◌≡◌, ℕ, suc, ◌+◌, ◌<◌, ◌≤◌, false, List, [], ◌∷◌, ◌++◌, length, map, codes, refl, sym, ap, ◌∙◌, subst, arith, append_assoc, length-append}
+use Rattle.std.proofs.Common.{◌≡◌, ℕ, suc, ◌<◌, ◌≤◌, false, List, [], ◌∷◌, ◌++◌, length, map, codes, refl, sym, ap, ◌∙◌, subst, arith, append_assoc, length-append}
 use Rattle.std.specs.List.{AllByRecursion}
 use Rattle.std.proofs.lemmas.List.{append-nil, map-append, length-map}
 use Rattle.dk_types.specs.declared.limits.TheConstants.{SCRIPT_MOST_BYTES, INPUTS_MOST_COUNT}
@@ -28,6 +28,7 @@ IsReading-login bytes name first after cut is named = record {
   spelled = cut ∙ ap (λ (line : List ℕ). line ∷ lines_of after) is;
 }
 
+-- what holds of each, and of one more, holds of each
 AllByRecursion-push : {A : Type 0} (P : A → Type 0) (xs : List A) (y : A) → AllByRecursion P xs → P y → AllByRecursion P (xs ++ y ∷ [])
 AllByRecursion-push P [] y h p = (p, tt)
 AllByRecursion-push P (x ∷ xs) y h p = (h.0, AllByRecursion-push P xs y h.1 p)
@@ -43,6 +44,7 @@ IsReading-send {bytes} {name} {rest} {lines} line text after r cut few is sendab
   spelled = r.spelled ∙ ap (λ (ls : List (List ℕ)). map line_text lines ++ ls) (cut ∙ ap (λ (l : List ℕ). l ∷ lines_of after) is) ∙ sym (append_assoc (map line_text lines) (line_text (Send name text) ∷ []) (lines_of after)) ∙ ap (λ (ls : List (List ℕ)). ls ++ lines_of after) (sym (map-append line_text lines (Send name text ∷ [])));
 }
 
+-- no bytes have no lines
 lines_of-nothing : (rest : List ℕ) → length rest ≡ 0 → lines_of rest ≡ []
 lines_of-nothing [] none = refl
 lines_of-nothing (b ∷ rest) none = absurd (omega arith)
@@ -71,11 +73,13 @@ spelled-at : {bytes name rest : List ℕ} {lines : List Line} (line : List ℕ) 
 spelled-at {name = name} {rest = rest} line behind r cut =
     r.spelled ∙ ap (λ (ls : List Line). map line_text ls ++ lines_of rest) r.all ∙ ap (λ (ls : List (List ℕ)). (codes "login " ++ name) ∷ (map line_text r.sends ++ ls)) cut
 
+-- a line that tells no send is no send's line
 is-not-send : (n name line : List ℕ) (x : Line) → n ≡ name → IsSendOf n x → line_text x ≡ line → ((text : List ℕ) → line ≡ codes "send " ++ name ++ 32 ∷ text → IsText text → is_left_out text ≡ false → ⊥) → ⊥
 is-not-send n name line (Login m) same send is none = send
 is-not-send n name line (Send m text) same send is none =
     none text (sym is ∙ ap (λ (k : List ℕ). codes "send " ++ k ++ 32 ∷ text) (send.0 ∙ same)) send.1 send.2
 
+-- no session has a line that tells no send behind its login
 not-by-line : (name line : List ℕ) (sent behind : List (List ℕ)) (others : List Line) → map line_text others ≡ (codes "login " ++ name) ∷ (sent ++ line ∷ behind) → IsOneSession others → ((text : List ℕ) → line ≡ codes "send " ++ name ++ 32 ∷ text → IsText text → is_left_out text ≡ false → ⊥) → ⊥
 not-by-line name line sent behind [] e session none = cc
 not-by-line name line sent behind (Login n ∷ others) e session none =
@@ -88,6 +92,7 @@ pub not-first-by-line : {bytes name rest : List ℕ} {lines : List Line} (line a
 not-first-by-line {name = name} line after r cut none others script =
     not-by-line name line (map line_text r.sends) (lines_of after) others (sym script.spelled ∙ spelled-at line (lines_of after) r cut) script.session none
 
+-- no session has more lines than its limit
 not-by-count : (login line : List ℕ) (sent behind : List (List ℕ)) (others : List Line) → map line_text others ≡ login ∷ (sent ++ line ∷ behind) → IsOneSession others → INPUTS_MOST_COUNT ≤ suc (length sent) → ⊥
 not-by-count login line sent behind [] e session many = cc
 not-by-count login line sent behind (Login n ∷ others) e session many =
@@ -99,6 +104,7 @@ pub not-first-by-count : {bytes name rest : List ℕ} {lines : List Line} (line 
 not-first-by-count {name = name} line after r cut many others script =
     not-by-count _ line (map line_text r.sends) (lines_of after) others (sym script.spelled ∙ spelled-at line (lines_of after) r cut) script.session (omega (arith, many, ap length r.all, length-map r.sends line_text))
 
+-- no session begins with a line that tells no login
 not-by-login : (first : List ℕ) (behind : List (List ℕ)) (others : List Line) → map line_text others ≡ first ∷ behind → IsOneSession others → ((name : List ℕ) → first ≡ codes "login " ++ name → IsLoginName name → ⊥) → ⊥
 not-by-login first behind [] e session none = cc
 not-by-login first behind (Login name ∷ others) e session none = none name (cc) session.0

@@ -1,5 +1,5 @@
 -- Texts that are written piece by piece.
-use Rattle.std.proofs.Common.{◌≡◌, ℕ, ◌+◌, ◌<◌, ◌≤◌, List, [], ◌∷◌, ◌++◌, length, get_or, drop, map, codes, slice_range, refl, sym, ap, ◌∙◌, inl, inr, append_assoc, arith}
+use Rattle.std.proofs.Common.{◌≡◌, ℕ, ◌+◌, ◌<◌, ◌≤◌, List, [], ◌∷◌, ◌++◌, length, get_or, drop, map, codes, slice_range, sym, ap, ◌∙◌, inl, inr, append_assoc, arith}
 use Rattle.std.proofs.lemmas.List.{append-nil, at_drop_more, at_drop_all}
 use Rattle.std.proofs.lemmas.Bool.{cases_lt}
 use Rattle.std.proofs.lemmas.List.Concat.{flat_map-append}
@@ -30,6 +30,7 @@ lines_of_events-drop_more known after events i e begun all now within is before 
     let split = at_drop_more (λ es. text_of (lines_of_events known es)) events i e within ∙ ap (λ x. text_of (lines_of_events known (x ∷ drop (i + 1) events))) (sym is) ∙ flat_map-append (λ line. line ++ 10 ∷ []) (event_lines known e) (lines_of_events (knowing known e) (drop (i + 1) events)) in
     ap (λ k. now ++ text_of (lines_of_events k (drop (i + 1) events))) learnt ∙ ap (λ (t : List ℕ). t ++ rest) pushed ∙ append_assoc begun (text_of (event_lines known e)) rest ∙ ap (λ (t : List ℕ). begun ++ t) (sym split) ∙ before
 
+-- where no event is left, all is written
 pub lines_of_events-drop_all : (known : Known) (events : List Event) (i : ℕ) (begun all : List ℕ) → length events ≤ i → begun ++ text_of (lines_of_events known (drop i events)) ≡ all → begun ≡ all
 lines_of_events-drop_all known events i begun all past written =
     sym (append-nil begun) ∙ ap (λ (t : List ℕ). begun ++ t) (sym (at_drop_all (λ es. text_of (lines_of_events known es)) events i past)) ∙ written
@@ -39,6 +40,7 @@ pub known_after-drop_more : (known after all : Known) (events : List Event) (i :
 known_after-drop_more known after all events i e within is before learnt =
     ap (λ k. known_after k (drop (i + 1) events)) learnt ∙ ap (λ x. known_after known (x ∷ drop (i + 1) events)) is ∙ sym (at_drop_more (known_after known) events i e within) ∙ before
 
+-- where no event is left, all is known
 pub known_after-drop_all : (known all : Known) (events : List Event) (i : ℕ) → length events ≤ i → known_after known (drop i events) ≡ all → known ≡ all
 known_after-drop_all known all events i past before = sym (at_drop_all (known_after known) events i past) ∙ before
 
@@ -53,6 +55,7 @@ phase_end-bounds events marks i ordered within here = elim (cases_lt (i + 1) (le
       rw e (within i 0 here, omega arith)
 ]
 
+-- four pieces, joined from the right
 regroup : (a b c d : List ℕ) → ((a ++ b) ++ c) ++ d ≡ a ++ (b ++ (c ++ d))
 regroup a b c d = simp append_assoc
 
@@ -67,6 +70,7 @@ lines_of_phases-drop_more known after events marks i mark begun all titled now w
     let split = at_drop_more (λ ms. text_of (lines_of_phases i known (phases_of events ms))) marks i mark within ∙ ap (λ m. text_of (lines_of_phases i known (phases_of events (m ∷ later)))) (sym is) ∙ ap (λ (t : List ℕ). head ++ t) (flat_map-append (λ line. line ++ 10 ∷ []) (lines_of_events known here) (lines_of_phases (i + 1) (known_after known here) (phases_of events later))) in
     ap (λ k. now ++ text_of (lines_of_phases (i + 1) k (phases_of events later))) learnt ∙ ap (λ (t : List ℕ). t ++ rest) (pushed ∙ ap (λ (t : List ℕ). t ++ told) title) ∙ regroup begun head told rest ∙ ap (λ (t : List ℕ). begun ++ t) (sym split) ∙ before
 
+-- where no phase is left, all is written
 pub lines_of_phases-drop_all : (known : Known) (events : List Event) (marks : List ℕ) (i : ℕ) (begun all : List ℕ) → length marks ≤ i → begun ++ text_of (lines_of_phases i known (phases_of events (drop i marks))) ≡ all → begun ≡ all
 lines_of_phases-drop_all known events marks i begun all past written =
     sym (append-nil begun) ∙ ap (λ (t : List ℕ). begun ++ t) (sym (at_drop_all (λ ms. text_of (lines_of_phases i known (phases_of events ms))) marks i past)) ∙ written

@@ -1,5 +1,4 @@
 use Rattle.std.proofs.Common.{arith}
-use Rattle.dk_types.specs.NameFaults.{IsNameFault}
 use Rattle.dk_script.proofs.NameBytes.{utf8_valid_len-name_bytes}
 use Rattle.dk_script.proofs.script.copied_name.Goals as goal
 

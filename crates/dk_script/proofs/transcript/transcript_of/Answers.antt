@@ -1,4 +1,4 @@
-use Rattle.std.proofs.Common.{ℕ, List, ◌∷◌, ◌++◌, [], Vec, sym, ap, ◌∙◌}
+use Rattle.std.proofs.Common.{ℕ, List, ◌∷◌, ◌++◌, [], sym, ap, ◌∙◌}
 use Rattle.dk_model.specs.Lines.{text_of}
 use Rattle.dk_model.specs.Phases.{phases_of}
 use Rattle.dk_model.specs.Transcripts.{transcript_text, lines_of_phases, done_line, nothing_known}
