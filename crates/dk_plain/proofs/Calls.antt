@@ -48,8 +48,8 @@ module _ (a : PlainRun) where
   unfolding act.create
   create_made kind bytes id free short few is adds made =
       does_to adds (rw (free, short, le_false 65536 a.objects_made few)
-        (ap (λ (i : ObjectId). (Ok i, act.with_object (record (run_of a) { objects_made = a.objects_made + 1 }) i (Some (record { kind = kind; bytes = bytes })))) (sym is)
-        ∙ ap (λ (s : Run). (Ok id, s)) (sym made)))
+      (ap (λ (i : ObjectId). (Ok i, act.with_object (record (run_of a) { objects_made = a.objects_made + 1 }) i (Some (record { kind = kind; bytes = bytes })))) (sym is)
+      ∙ ap (λ (s : Run). (Ok id, s)) (sym made)))
 
   pub save_long : (id : ObjectId) (bytes : List ℕ) → act.is_too_long bytes ≡ true → Does a a (act.save id bytes) (Err (halt.Fault (Refused 4)))
   unfolding act.save

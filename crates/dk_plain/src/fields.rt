@@ -57,10 +57,7 @@ fn read_many<T: Field>(
 
 /// A count, and so many values.
 #[tactic(auto, unfolding(dk_model::specs::Spellings::next_list))]
-pub fn read_list<T: Field>(
-    alloc: Global,
-    reader: &mut Reader<'_>,
-) -> Result<Vec<T>, PayloadRefused>
+pub fn read_list<T: Field>(alloc: Global, reader: &mut Reader<'_>) -> Result<Vec<T>, PayloadRefused>
     ensures { GivesBy (λ v. v.items) (next_list T.next) reader.old result reader.new }
 {
     let count = reader.next_u32()?;

@@ -19,7 +19,12 @@ pub trait PlainGame: Rules {
 }
 
 /// The game's part, in the game's mode.
-fn game_part<G: PlainGame>(alloc: Global, game: &G, job: &Job, run: &mut PlainRun) -> Result<(), Halt>
+fn game_part<G: PlainGame>(
+    alloc: Global,
+    game: &G,
+    job: &Job,
+    run: &mut PlainRun,
+) -> Result<(), Halt>
     ensures { Does run.old run.new (within mode.Game (G.rules game.now job.now)) result }
 {
     let before = run.mode;

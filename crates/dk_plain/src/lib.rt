@@ -6,13 +6,11 @@
 #![tactic(auto)]
 
 pub use halt::Halt;
-pub use run::PlainRun;
 pub use jobs::PlainGame;
+pub use run::PlainRun;
 pub use stored::Stored;
 pub use world::{PlainWorld, Stepped};
 pub use writes::Write;
-
-
 
 pub mod fields;
 pub mod halt;
@@ -22,5 +20,4 @@ pub mod run;
 pub mod sessions;
 pub mod stored;
 pub mod world;
-
 pub mod writes;

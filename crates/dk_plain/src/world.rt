@@ -112,11 +112,11 @@ impl PlainWorld {
     fn undo(&mut self, run: PlainRun, objects: usize, names: usize)
         requires { self.old.commits + 1 < 2 ^ 64 }
         ensures { durable_of self.new ≡ record {
-            objects = objects_of (take objects run.objects.items);
-            names = names_of (take names run.names.items);
-            tasks = map.empty;
-            commits = self.old.commits + 1;
-            last = greater_last self.old.last run.number;
+          objects = objects_of (take objects run.objects.items);
+          names = names_of (take names run.names.items);
+          tasks = map.empty;
+          commits = self.old.commits + 1;
+          last = greater_last self.old.last run.number;
         } }
     {
         self.objects = run.objects;

@@ -47,7 +47,7 @@ module _ (rules : Meaning) (d : DurableWorld) (n : ℕ) (conn : ConnNo) (name : 
       let c = open_with name turn q in
       let next = open_with name turn (q ++ waits.Input (input.Message text) ∷ []) in
       let conns : without_done (change_connection conn (put_last (waits.Input (input.Message text))) (single conn c)) ≡ single conn next =
-        ap without_done (change-here conn (put_last (waits.Input (input.Message text))) c) ∙ settled conn next refl in
+      ap without_done (change-here conn (put_last (waits.Input (input.Message text))) c) ∙ settled conn next refl in
       λ i. unclaimed d n ((sym conns) i)
 
   -- sends of the session are entered one after another
@@ -58,22 +58,22 @@ module _ (rules : Meaning) (d : DurableWorld) (n : ℕ) (conn : ConnNo) (name : 
   enters-sends (line.Send m text ∷ lines) q room all =
       let c = open_with name turn q in
       let here = get-here conn_total conn_same conn c in
-      let free : nat_le 1024 (waiting_at (maps.get (single conn c) conn)) && true ≡ false = ap (λ o. nat_le 1024 (waiting_at o) && true) here ∙ ap (λ b. b && true) (no_more (length q) (omega (arith, room))) in
-      ( visited d n conn name (open_with name turn (q ++ waits.Input (input.Message text) ∷ []))
-      , (0, conn, posted.Taken, meant m all.0.0, refl, (ap is_open_at here, free, put_so q text), refl, refl)
-      , subst (λ l. EntersAll rules (visited d n conn name (open_with name turn (q ++ waits.Input (input.Message text) ∷ []))) lines (map (post_of conn) lines) (visited d n conn name (open_with name turn l)))
-          (append_assoc q (waits.Input (input.Message text) ∷ []) (map waiting_sent lines))
-          (enters-sends lines (q ++ waits.Input (input.Message text) ∷ []) (omega (arith, room, length_push q (waits.Input (input.Message text)))) all.1)
+      let free : nat_le 1024 (waiting_at (maps.get (single conn c) conn)) && true ≡ false = ap (λ o. nat_le 1024 (waiting_at o) && true) here ∙ ap (λ b. b && true) (no_more (length q) (omega (arith, room))) in (
+        visited d n conn name (open_with name turn (q ++ waits.Input (input.Message text) ∷ [])),
+        (0, conn, posted.Taken, meant m all.0.0, refl, (ap is_open_at here, free, put_so q text), refl, refl),
+        subst (λ l. EntersAll rules (visited d n conn name (open_with name turn (q ++ waits.Input (input.Message text) ∷ []))) lines (map (post_of conn) lines) (visited d n conn name (open_with name turn l)))
+            (append_assoc q (waits.Input (input.Message text) ∷ []) (map waiting_sent lines))
+            (enters-sends lines (q ++ waits.Input (input.Message text) ∷ []) (omega (arith, room, length_push q (waits.Input (input.Message text)))) all.1),
       )
 
 -- a login and its sends are entered in a world with no connection
 pub enters-session : (rules : Meaning) (d : DurableWorld) (n : ℕ) (name : List ℕ) (sends : List Line) → n < NUMBERS_END → length sends < INPUTS_MOST_COUNT → AllByRecursion (IsSendOf name) sends
     → EntersAll rules (unvisited (unclaimed d n maps.empty)) (line.Login name ∷ sends) (connect_of (record { 0 = n }) name ∷ map (post_of (record { 0 = n })) sends)
-        (visited d (n + 1) (record { 0 = n }) name (entered (record { 0 = n }) name sends))
+    (visited d (n + 1) (record { 0 = n }) name (entered (record { 0 = n }) name sends))
 enters-session rules d n name sends lt few all =
     let conn : ConnNo = record { 0 = n } in
-    let c = open_with name n (waits.Login ∷ []) in
-    ( visited d (n + 1) conn name c
-    , (0, conn, refl, (lt, refl, λ i. unclaimed d (n + 1) ((sym (settled conn c refl)) i)), refl, refl)
-    , enters-sends rules d (n + 1) conn name n sends (waits.Login ∷ []) (omega (arith, few)) all
+    let c = open_with name n (waits.Login ∷ []) in (
+      visited d (n + 1) conn name c,
+      (0, conn, refl, (lt, refl, λ i. unclaimed d (n + 1) ((sym (settled conn c refl)) i)), refl, refl),
+      enters-sends rules d (n + 1) conn name n sends (waits.Login ∷ []) (omega (arith, few)) all,
     )

@@ -40,9 +40,9 @@ hands-all rules d n v =
     let waiting : v.outs.items ≡ outbox_at (get (single v.conn (connection_of v)) v.conn) = sym (ap outbox_at here) in
     let left : Connection = record (connection_of v) { outbox = drop most v.outs.items } in
     let ends : v.closed ≡ is_none (get (without_done (change_connection v.conn (λ c. record c { outbox = drop most c.outbox }) (single v.conn (connection_of v)))) v.conn) =
-      sym (
-        ap (λ all. is_none (get (without_done all) v.conn)) (change-here v.conn (λ c. record c { outbox = drop most c.outbox }) (connection_of v))
-        ∙ gone-single v.conn left
-        ∙ ap (λ l. v.closed && (length l == 0)) (drop-length v.outs.items)
-        ∙ and_true v.closed) in
+    sym (
+    ap (λ all. is_none (get (without_done all) v.conn)) (change-here v.conn (λ c. record c { outbox = drop most c.outbox }) (connection_of v))
+    ∙ gone-single v.conn left
+    ∙ ap (λ l. v.closed && (length l == 0)) (drop-length v.outs.items)
+    ∙ and_true v.closed) in
     (handed d n v, 0, most, v.closed, ap (λ o. event.Hand 0 v.conn most o v.closed) waiting, (sym (take-length v.outs.items) ∙ ap (take most) waiting, ends, refl), refl)

@@ -62,7 +62,7 @@ closed_by-single conn (o ∷ outs) c x =
     ap (λ b. with_closed (cond b (o.0 ∷ closed_by outs (change_connection o.0 (with_out o.1) (single conn c))) (closed_by outs (change_connection o.0 (with_out o.1) (single conn c)))) (single conn x)) (taken conn o c)
     ∙ ap (λ all. with_closed (cond (closing conn o c) (o.0 ∷ closed_by outs all) (closed_by outs all)) (single conn x)) (change-heard conn o c)
     ∙ closed_at (closing conn o c) (closes conn outs (heard conn o c)) conn o.0 (closed_by outs (single conn (heard conn o c))) x
-        (λ e. same_number o.0 conn (front (is_at conn o) (is_close o.1) (not (c.cut || c.over || is_full c)) e)) (closed_by-single conn outs (heard conn o c))
+    (λ e. same_number o.0 conn (front (is_at conn o) (is_close o.1) (not (c.cut || c.over || is_full c)) e)) (closed_by-single conn outs (heard conn o c))
 
 -- all that the messages of a run do
 pub delivered-single : (conn : ConnNo) (outs : List (ConnNo × Out)) (c : Connection)

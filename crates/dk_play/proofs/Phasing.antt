@@ -100,20 +100,21 @@ visits-lines rules d d' n lines sends first name v0 v begun served events parted
     let whole : lines ≡ line.Login name ∷ sends = parted ∙ ap (λ (f : Line). f ∷ sends) is in
     let one : IsOneSession (line.Login name ∷ sends) = subst IsOneSession whole session in
     let s' : Serves rules (unclaimed d 2 (single v0.conn (connection_of v0))) (connect_of (record { 0 = 1 }) name ∷ map (post_of (record { 0 = 1 })) sends) served (unclaimed d' n (single v.conn (connection_of v))) =
-      subst (λ es. Serves rules (unclaimed d 2 (single v0.conn (connection_of v0))) es served (unclaimed d' n (single v.conn (connection_of v)))) begun_is s in
+    subst (λ es. Serves rules (unclaimed d 2 (single v0.conn (connection_of v0))) es served (unclaimed d' n (single v.conn (connection_of v)))) begun_is s in
     subst (λ ls. VisitsAll rules d ls events d') (sym whole)
-      (subst (λ es. VisitsAll rules d (line.Login name ∷ sends) es d') (sym told) (visits-session rules d d' n name sends v0 v served one.1 one.2 conn0 same0 conn s' quiet))
+    (subst (λ es. VisitsAll rules d (line.Login name ∷ sends) es d') (sym told) (visits-session rules d d' n name sends v0 v served one.1 one.2 conn0 same0 conn s' quiet))
 
 -- the places of the two phases cut the events into them
 phases-two : (events later : List Event) → phases_of (events ++ later) (0 ∷ length events ∷ []) ≡ events ∷ later ∷ []
 phases-two events later =
     λ i. (ap (λ k. take k (events ++ later)) none ∙ take-append_seam events later) i ∷ rest i ∷ [] where
-  none : length events - 0 ≡ length events
-  none = omega arith
-  rest : slice_range (events ++ later) (length events) (length (events ++ later)) ≡ later
-  rest =
-      take_all (length (events ++ later) - length events) (drop (length events) (events ++ later)) (omega (arith, length-append events later, ap length (drop-append_seam events later)))
-      ∙ drop-append_seam events later
+      none : length events - 0 ≡ length events
+      none = omega arith
+
+      rest : slice_range (events ++ later) (length events) (length (events ++ later)) ≡ later
+      rest =
+          take_all (length (events ++ later) - length events) (drop (length events) (events ++ later)) (omega (arith, length-append events later, ap length (drop-append_seam events later)))
+          ∙ drop-append_seam events later
 
 -- both phases are a play of the script
 pub played-all : (rules : Meaning) (d d' : DurableWorld) (lines : List Line) (events later all : List Event) (marks : List ℕ) (commits : ℕ)
@@ -125,8 +126,9 @@ played-all rules d d' lines events later all marks commits b v joined places cou
     record {
       order = b.serves.items ∷ v.items ∷ [];
       end = v.end;
-      plays = subst (λ ps. Plays rules (playing (fresh_world None)) ([] ∷ lines ∷ []) (b.serves.items ∷ v.items ∷ []) ps v.end) (sym cut)
-        (unvisited (unclaimed d 1 maps.empty), record {
+      plays = subst (λ ps. Plays rules (playing (fresh_world None)) ([] ∷ lines ∷ []) (b.serves.items ∷ v.items ∷ []) ps v.end) (sym cut) (
+        unvisited (unclaimed d 1 maps.empty),
+        record {
           entered = [];
           followed = b.serves.served;
           handed = [];
@@ -139,7 +141,9 @@ played-all rules d d' lines events later all marks commits b v joined places cou
           hands = refl;
           same_means = refl;
           same_opened = refl;
-        }, (v.end, v.plays, refl));
+        },
+        (v.end, v.plays, refl),
+      );
       commits_are = counted ∙ sym (ap (λ (w : DurableWorld). w.commits) v.durable);
       tasks_are = sym (ap (λ (w : DurableWorld). maps.len w.tasks) v.durable ∙ ap (maps.len {R = key_cmp}) tasks ∙ len-empty key_cmp Task);
       small = subst AreSmall (sym cut) small;

@@ -73,17 +73,17 @@ module _ (rules : Meaning) (p0 p2 : Play) (popped : List Pending) (x : Pending) 
       let conn = p0.visitor.conn in
       let c = connection_of p0.visitor in
       let ran_so : stepped_of p2.world r ≡ step rules (job_of conn c.name (waiting_of x)) (record { 0 = p0.next }) 0 (durable_of p0.world) =
-        ran ∙ ap (λ (k : Job). step rules k (record { 0 = p0.next }) 0 (durable_of p0.world)) job_is in
+      ran ∙ ap (λ (k : Job). step rules k (record { 0 = p0.next }) 0 (durable_of p0.world)) job_is in
       let heard_so : after_outs conn (step rules (job_of conn c.name (waiting_of x)) (record { 0 = p0.next }) 0 (durable_of p0.world)).outs (record c { queue = map waiting_of popped; turn = p0.next }) ≡ connection_of p2.visitor =
-        sym (after ∙ (λ i. after_outs (conn1 i) ((ran_so i).outs) (same1 i))) in
+      sym (after ∙ (λ i. after_outs (conn1 i) ((ran_so i).outs) (same1 i))) in
       let s = serves-input rules (durable_of p0.world) p0.next before conn c (connection_of p2.visitor) x popped fit.first refl (omega (arith, fit.numbers)) (ap (map waiting_of) queue)
-        (not_done p0.visitor fit.present) (not_done p2.visitor present) heard_so in
+      (not_done p0.visitor fit.present) (not_done p2.visitor present) heard_so in
       let told : before ++ claim_of (record { 0 = p0.next }) (job_of conn c.name (waiting_of x)) ∷ commit_of (record { 0 = p0.next }) (p0.world.commits + 1) (step rules (job_of conn c.name (waiting_of x)) (record { 0 = p0.next }) 0 (durable_of p0.world)).outcome ∷ [] ≡ events =
-        sym (pushed ∙ (λ i. before ++ claim_of (record { 0 = p0.next }) (job_is i) ∷ commit_of (record { 0 = p0.next }) (p0.world.commits + 1) (ran_so i).outcome ∷ [])) in
+      sym (pushed ∙ (λ i. before ++ claim_of (record { 0 = p0.next }) (job_is i) ∷ commit_of (record { 0 = p0.next }) (p0.world.commits + 1) (ran_so i).outcome ∷ [])) in
       let ends : unclaimed (step rules (job_of conn c.name (waiting_of x)) (record { 0 = p0.next }) 0 (durable_of p0.world)).world (p0.next + 1) (single conn (connection_of p2.visitor)) ≡ world_of p2 =
-        λ i. unclaimed ((sym ran_so i).world) ((sym next) i) (single ((sym (conn2 ∙ conn1)) i) (connection_of p2.visitor)) in
+      λ i. unclaimed ((sym ran_so i).world) ((sym next) i) (single ((sym (conn2 ∙ conn1)) i) (connection_of p2.visitor)) in
       subst (λ w. Serves rules (world_of p0) before events w) ends
-        (subst (λ es. Serves rules (world_of p0) before es (unclaimed (step rules (job_of conn c.name (waiting_of x)) (record { 0 = p0.next }) 0 (durable_of p0.world)).world (p0.next + 1) (single conn (connection_of p2.visitor)))) told s)
+      (subst (λ es. Serves rules (world_of p0) before es (unclaimed (step rules (job_of conn c.name (waiting_of x)) (record { 0 = p0.next }) 0 (durable_of p0.world)).world (p0.next + 1) (single conn (connection_of p2.visitor)))) told s)
 
   -- it sends at most two messages, and commits once
   pub sends-input : IsTerse rules → j ≡ job_of p0.visitor.conn p0.visitor.name (waiting_of x) → stepped_of p2.world r ≡ step rules j (record { 0 = p0.next }) 0 (durable_of p0.world) → length r.outs.items ≤ 2
@@ -103,10 +103,10 @@ begins rules w0 w r events terse fresh ran pushed =
     let ran_so : stepped_of w r ≡ step rules job.Initialize (record { 0 = 0 }) 0 empty_world = ran ∙ ap (λ d. step rules job.Initialize (record { 0 = 0 }) 0 d) fresh in
     let one : w.commits ≡ 1 = ap (λ (s : model.Stepped). s.world.commits) ran_so ∙ step-counts rules job.Initialize (record { 0 = 0 }) 0 empty_world terse tt in
     let told : claim_of (record { 0 = 0 }) job.Initialize ∷ commit_of (record { 0 = 0 }) 1 (step rules job.Initialize (record { 0 = 0 }) 0 empty_world).outcome ∷ [] ≡ events =
-      sym (pushed ∙ (λ i. claim_of (record { 0 = 0 }) job.Initialize ∷ commit_of (record { 0 = 0 }) 1 (ran_so i).outcome ∷ [])) in
+    sym (pushed ∙ (λ i. claim_of (record { 0 = 0 }) job.Initialize ∷ commit_of (record { 0 = 0 }) 1 (ran_so i).outcome ∷ [])) in
     record {
       serves = subst (λ es. Serves rules (unclaimed empty_world 0 maps.empty) [] es (unclaimed (durable_of w) 1 maps.empty)) told
-        (subst (λ d. Serves rules (unclaimed empty_world 0 maps.empty) [] (claim_of (record { 0 = 0 }) job.Initialize ∷ commit_of (record { 0 = 0 }) 1 (step rules job.Initialize (record { 0 = 0 }) 0 empty_world).outcome ∷ []) (unclaimed d 1 maps.empty))
+          (subst (λ d. Serves rules (unclaimed empty_world 0 maps.empty) [] (claim_of (record { 0 = 0 }) job.Initialize ∷ commit_of (record { 0 = 0 }) 1 (step rules job.Initialize (record { 0 = 0 }) 0 empty_world).outcome ∷ []) (unclaimed d 1 maps.empty))
           (sym (ap (λ (s : model.Stepped). s.world) ran_so)) (serves-first rules pick-first));
       quiet = quiet-alone (durable_of w) 1 (omega (arith, one)) refl;
       commits = one;

@@ -44,8 +44,8 @@ not_done v h =
       | true ↦ λ e. left_over (length v.outs.items) (h e)
       | false ↦ λ e. refl
     ] refl where
-  left_over : (n : ℕ) → 0 < n → (n == 0) ≡ false
-  left_over n h = search (arith, h)
+      left_over : (n : ℕ) → 0 < n → (n == 0) ≡ false
+      left_over n h = search (arith, h)
 
 module _ (rules : Meaning) (d : DurableWorld) (n : ℕ) (all : Connections) (j : Job) where
   run_at : RunNo
@@ -66,15 +66,15 @@ module _ (rules : Meaning) (d : DurableWorld) (n : ℕ) (all : Connections) (j :
       let claim : Claim = record { pass = 0; job = j; at = 0 } in
       let mid : World = swept (with_claim (unclaimed d n all) 0 j) in
       let committed_so : unclaimed stepped.world (n + 1) left ≡ swept (committed mid run_at j stepped) =
-        λ i. record {
-          durable = stepped.world;
-          moment = 0;
-          next = n + 1;
-          budget = None;
-          after_task = (sym no_task) i;
-          claims = (sym (remove-single run_total run_same run_at claim)) i;
-          connections = (sym is) i;
-        } in
+      λ i. record {
+        durable = stepped.world;
+        moment = 0;
+        next = n + 1;
+        budget = None;
+        after_task = (sym no_task) i;
+        claims = (sym (remove-single run_total run_same run_at claim)) i;
+        connections = (sym is) i;
+      } in
       record {
         served = claim_of run_at j ∷ commit_of run_at (d.commits + 1) stepped.outcome ∷ [];
         items = Claimed n 0 (job_text j) ∷ Committed n (outcome_text stepped.outcome) ∷ [];
@@ -112,18 +112,18 @@ pub serves-input : (rules : Meaning) (d : DurableWorld) (n : ℕ) (before : List
     → 1 ≤ d.commits → d.tasks ≡ maps.empty → n < NUMBERS_END → c.queue ≡ map waiting_of (p ∷ rest) → is_done (Some c) ≡ false → is_done (Some after) ≡ false
     → after_outs conn (step rules (job_of conn c.name (waiting_of p)) (record { 0 = n }) 0 d).outs (record c { queue = map waiting_of rest; turn = n }) ≡ after
     → Serves rules (unclaimed d n (single conn c)) before
-        (before ++ claim_of (record { 0 = n }) (job_of conn c.name (waiting_of p)) ∷ commit_of (record { 0 = n }) (d.commits + 1) (step rules (job_of conn c.name (waiting_of p)) (record { 0 = n }) 0 d).outcome ∷ [])
-        (unclaimed (step rules (job_of conn c.name (waiting_of p)) (record { 0 = n }) 0 d).world (n + 1) (single conn after))
+    (before ++ claim_of (record { 0 = n }) (job_of conn c.name (waiting_of p)) ∷ commit_of (record { 0 = n }) (d.commits + 1) (step rules (job_of conn c.name (waiting_of p)) (record { 0 = n }) 0 d).outcome ∷ [])
+    (unclaimed (step rules (job_of conn c.name (waiting_of p)) (record { 0 = n }) 0 d).world (n + 1) (single conn after))
 serves-input rules d n before conn c after p rest first tasks lt queue stays stays_after is =
     serves-run rules d n (single conn c) (job_of conn c.name (waiting_of p)) before
-      (pick-waiting d n conn c (waiting_of p) (map waiting_of rest) first tasks queue) lt (no_task p conn c.name) (single conn after)
-      (left-input p conn c.name n _ c after stays stays_after (ap (λ q. after_outs conn (step rules (job_of conn c.name (waiting_of p)) (record { 0 = n }) 0 d).outs (record c { queue = drop 1 q; turn = n })) queue ∙ is))
+    (pick-waiting d n conn c (waiting_of p) (map waiting_of rest) first tasks queue) lt (no_task p conn c.name) (single conn after)
+    (left-input p conn c.name n _ c after stays stays_after (ap (λ q. after_outs conn (step rules (job_of conn c.name (waiting_of p)) (record { 0 = n }) 0 d).outs (record c { queue = drop 1 q; turn = n })) queue ∙ is))
 
 -- the first run, in a world with no connection
 pub serves-first : (rules : Meaning) → pick (unclaimed empty_world 0 maps.empty) ≡ Some job.Initialize
     → Serves rules (unclaimed empty_world 0 maps.empty) [] (claim_of (record { 0 = 0 }) job.Initialize ∷ commit_of (record { 0 = 0 }) 1 (step rules job.Initialize (record { 0 = 0 }) 0 empty_world).outcome ∷ [])
-        (unclaimed (step rules job.Initialize (record { 0 = 0 }) 0 empty_world).world 1 maps.empty)
+    (unclaimed (step rules job.Initialize (record { 0 = 0 }) 0 empty_world).world 1 maps.empty)
 serves-first rules picked =
     serves-run rules empty_world 0 maps.empty job.Initialize [] picked (omega arith) refl maps.empty
-      (ap (λ all. without_done (delivered job.Initialize (step rules job.Initialize (record { 0 = 0 }) 0 empty_world).outs all)) settled-empty
-      ∙ ap without_done (delivered-empty (step rules job.Initialize (record { 0 = 0 }) 0 empty_world).outs) ∙ settled-empty)
+    (ap (λ all. without_done (delivered job.Initialize (step rules job.Initialize (record { 0 = 0 }) 0 empty_world).outs all)) settled-empty
+    ∙ ap without_done (delivered-empty (step rules job.Initialize (record { 0 = 0 }) 0 empty_world).outs) ∙ settled-empty)

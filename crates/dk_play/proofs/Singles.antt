@@ -46,11 +46,11 @@ is_eq-nat_cmp a b =
       | Equal ↦ λ p. sym (equal a b (ranked a b Equal p))
       | Greater ↦ λ p. sym (unequal a b (λ e. omega (arith, e, ranked a b Greater p)))
     ] refl where
-  equal : (a b : ℕ) → a ≡ b → nat_eq a b ≡ true
-  equal a b h = elim (eqb_tells a b) [
-    | inl w ↦ w.0
-    | inr w ↦ absurd (w.1 h)
-  ]
+      equal : (a b : ℕ) → a ≡ b → nat_eq a b ≡ true
+      equal a b h = elim (eqb_tells a b) [
+        | inl w ↦ w.0
+        | inr w ↦ absurd (w.1 h)
+      ]
 
 -- connections with equal numbers are equal
 pub same_number : (a b : ConnNo) → nat_eq a.0 b.0 ≡ true → a ≡ b

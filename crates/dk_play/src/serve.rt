@@ -2,7 +2,6 @@
 ghost use Rattle.std.specs.Prelude.{◌≡◌, ◌≤◌, ◌<◌, ◌∷◌, ◌++◌, ◌^◌, [], true, length, IfOk};
 ghost use Rattle.dk_plain.specs.Sendings.{IsTerse};
 ghost use Rattle.dk_play.specs.Visits.{world_of, hand_of, claim_of, commit_of, IsFit, Serves, ServesNext};
-
 ghost use Rattle.dk_model.specs.Transcripts.{IsQuiet};
 
 use crate::visitor::Visitor;
@@ -25,7 +24,6 @@ pub fn push_run(
     seq: u64,
     outcome: Outcome,
 ) -> Result<(), NoMemory>
-
     ensures { IfOk result (λ _. events.new.items ≡ events.old.items ++ claim_of run job ∷ commit_of run seq outcome ∷ []) }
 {
     events.push(Event::Claim {

@@ -8,7 +8,9 @@ ghost use Rattle.dk_model.specs.Picks.{job_of};
 ghost use Rattle.dk_model.specs.Deliveries.{is_close as closes_session};
 
 use dk_model::Line;
-use dk_types::{Blob, ConnNo, ConnectReply, Event, Input, Job, Listed, Name, NoMemory, Out, PostReply};
+use dk_types::{
+    Blob, ConnNo, ConnectReply, Event, Input, Job, Listed, Name, NoMemory, Out, PostReply,
+};
 use std::alloc::Global;
 use std::collections::VecDeque;
 use std::mem;

@@ -7,4 +7,3 @@ use Rattle.dk_wire.specs.Fields.{id_spelling}
 abbrev pub carried_bytes : Option ObjectId → List ℕ
 carried_bytes None = 0 ∷ []
 carried_bytes (Some id) = 1 ∷ id_spelling id
-

@@ -11,4 +11,3 @@ labels_from kind read label so_far (id ∷ ids) = and_then (get_as kind read id)
 
 unfoldable pub labels : {A : Type 0} → ℕ → (List ℕ → Option A) → (A → List ℕ) → List ObjectId → Act (List (List ℕ))
 labels kind read label ids = labels_from kind read label [] ids
-

@@ -92,7 +92,12 @@ fn new_player(alloc: Global, name: &Name, key: &Name, run: &mut PlainRun) -> Res
     Ok(id)
 }
 
-fn known_player(alloc: Global, name: &Name, key: &Name, run: &mut PlainRun) -> Result<ObjectId, Halt>
+fn known_player(
+    alloc: Global,
+    name: &Name,
+    key: &Name,
+    run: &mut PlainRun,
+) -> Result<ObjectId, Halt>
     requires { key.now ≡ rules.player_name name.now }
     ensures { Does run.old run.new (rules.known_player name.now) result }
 {
@@ -167,7 +172,12 @@ fn others_of(alloc: Global, me: ObjectId, players: &[ObjectId]) -> Result<Vec<Ob
 }
 
 /// The names of the other players in the room, in the order of entering.
-fn names_of_others(alloc: Global, me: ObjectId, room: &Room, run: &PlainRun) -> Result<Listed<Name>, Halt>
+fn names_of_others(
+    alloc: Global,
+    me: ObjectId,
+    room: &Room,
+    run: &PlainRun,
+) -> Result<Listed<Name>, Halt>
     ensures { Does run.now run.now (rules.names_of_others me room.now) result }
 {
     let others = others_of(alloc, me, room.players.as_slice())?;
@@ -181,7 +191,13 @@ fn things_in(alloc: Global, room: &Room, run: &PlainRun) -> Result<Listed<Name>,
     labels_of::<Thing>(alloc, run, room.items.as_slice())
 }
 
-fn tell(alloc: Global, conn: ConnNo, me: ObjectId, room: &Room, run: &mut PlainRun) -> Result<(), Halt>
+fn tell(
+    alloc: Global,
+    conn: ConnNo,
+    me: ObjectId,
+    room: &Room,
+    run: &mut PlainRun,
+) -> Result<(), Halt>
     ensures { Does run.old run.new (rules.tell conn me room.now) result }
 {
     let names = names_of_others(alloc, me, room, run)?;
@@ -222,7 +238,13 @@ fn is_look(body: &Blob) -> bool
     body.as_slice().eq_ignore_ascii_case(b"look")
 }
 
-fn message(alloc: Global, conn: ConnNo, name: &Name, body: &Blob, run: &mut PlainRun) -> Result<(), Halt>
+fn message(
+    alloc: Global,
+    conn: ConnNo,
+    name: &Name,
+    body: &Blob,
+    run: &mut PlainRun,
+) -> Result<(), Halt>
     ensures { Does run.old run.new (rules.message conn name.now body.now) result }
 {
     if is_look(body) {

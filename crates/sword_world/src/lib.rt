@@ -4,7 +4,6 @@
 //! the room, and the message `look` tells what is in it. Taking and dropping things come later.
 #![tactic(auto)]
 
-
 pub use game::SwordWorld;
 pub use things::{Player, Room, Thing};
 

@@ -46,7 +46,11 @@ fn push_list(text: &mut Vec<u8>, front: &[u8], names: &[Name]) -> Result<(), NoM
 }
 
 /// What is seen in the room: the other players, and what lies on the floor.
-pub fn look_body(alloc: Global, others: &Listed<Name>, things: &Listed<Name>) -> Result<Blob, NoMemory>
+pub fn look_body(
+    alloc: Global,
+    others: &Listed<Name>,
+    things: &Listed<Name>,
+) -> Result<Blob, NoMemory>
     ensures { IfOk result (λ body. body ≡ look_text others.now things.now) }
 {
     let mut text = Vec::new(alloc);

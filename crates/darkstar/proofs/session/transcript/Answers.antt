@@ -18,6 +18,10 @@ told (Ok text) lines events items marks places commits tasks same_events same_ma
     (is ∙ ap (λ (es : List Event). transcript_text (phases_of es marks) commits tasks) same_events ∙ ap (λ (ms : List ℕ). transcript_text (phases_of items ms) commits tasks) same_marks)
 told (Err e) lines events items marks places commits tasks same_events same_marks played is = tt
 
+-- SwordWorld sends at most one message in each job
+pub play_session-requires-clause-terse : goal.play_session-requires-clause-terse
+play_session-requires-clause-terse c = sword-is_terse
+
 pub returns : goal.returns
 returns c =
     let p = c.in_ok-played.played in

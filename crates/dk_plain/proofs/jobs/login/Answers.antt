@@ -17,7 +17,7 @@ returns-in_err-open_record-in-None g c =
 pub returns-in_err-send-in-None : goal.returns-in_err-send-in-None
 returns-in_err-send-in-None g c =
     login_new _ _ (sym c.in-None.is ∙ c.in_ok-recorded.ensures)
-      (then_does _ c.in_ok-open_record-in-None.ensures (halts _ c.in_err-send-in-None.ensures c.from_residual-in_err-send-in-None.ensures.1))
+    (then_does _ c.in_ok-open_record-in-None.ensures (halts _ c.in_err-send-in-None.ensures c.from_residual-in_err-send-in-None.ensures.1))
 
 pub returns-in_ok-send-in-Some : goal.returns-in_ok-send-in-Some
 returns-in_ok-send-in-Some g c =

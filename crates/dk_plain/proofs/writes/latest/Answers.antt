@@ -12,9 +12,9 @@ loop-write-preserved g c =
     let tied = sym (g.met.K.Ord.matches_eq c.args.key.now c.write-item.result.key) ∙ sym c.eq.ensures in
     elim c.if-eq.branch [
       | then-eq w ↦
-        ap option_copied w.found-is ∙ w.as_ref-found.ensures.value
-        ∙ sym (replayed_here g.met.K.Ord.total c.args.writes.now c.loop-write.write-index c.write-item.result c.args.key.now map.empty c.write-item.is c.loop-write-test.true (tied ∙ w.if-eq.true))
+          ap option_copied w.found-is ∙ w.as_ref-found.ensures.value
+          ∙ sym (replayed_here g.met.K.Ord.total c.args.writes.now c.loop-write.write-index c.write-item.result c.args.key.now map.empty c.write-item.is c.loop-write-test.true (tied ∙ w.if-eq.true))
       | else-eq w ↦
-        ap option_copied w.found-is ∙ c.loop-write.invariant
-        ∙ sym (replayed_elsewhere g.met.K.Ord.total c.args.writes.now c.loop-write.write-index c.write-item.result c.args.key.now map.empty c.write-item.is c.loop-write-test.true (tied ∙ w.if-eq.false))
+          ap option_copied w.found-is ∙ c.loop-write.invariant
+          ∙ sym (replayed_elsewhere g.met.K.Ord.total c.args.writes.now c.loop-write.write-index c.write-item.result c.args.key.now map.empty c.write-item.is c.loop-write-test.true (tied ∙ w.if-eq.false))
     ]

@@ -10,7 +10,7 @@ returns-clause-played g c =
     let before = durable_of c.in_ok-world.world in
     let after = durable_of c.in_ok-world-2.world in
     played-all rules before after c.args.lines.items c.begin.new.events.items c.visit.new.events.items c.append.new.self.items c.push-2.new.self.items c.in_ok-world-2.world.commits
-      c.in_ok-world.ensures (subst (λ ls. VisitsAll rules before ls c.visit.new.events.items after) c.as_slice.ensures.value c.in_ok-world-2.ensures)
-      c.in_ok-append.ensures.items
-      (c.in_ok-push-2.ensures.items ∙ (λ i. (c.in_ok-push.ensures.items ∙ ap (λ l. l ++ 0 ∷ []) c.new-marks.ensures.items) i ++ (ap length c.as_slice-2.ensures.value) i ∷ []))
-      refl refl
+    c.in_ok-world.ensures (subst (λ ls. VisitsAll rules before ls c.visit.new.events.items after) c.as_slice.ensures.value c.in_ok-world-2.ensures)
+    c.in_ok-append.ensures.items
+    (c.in_ok-push-2.ensures.items ∙ (λ i. (c.in_ok-push.ensures.items ∙ ap (λ l. l ++ 0 ∷ []) c.new-marks.ensures.items) i ++ (ap length c.as_slice-2.ensures.value) i ∷ []))
+    refl refl

@@ -13,11 +13,11 @@ returns-then-is_too_long c =
 pub returns-then-self-ge-OBJECTS_MOST_COUNT : goal.returns-then-self-ge-OBJECTS_MOST_COUNT
 returns-then-self-ge-OBJECTS_MOST_COUNT c =
     create_many c.args.self.now c.args.kind c.args.bytes (sym c.is_reserved_kind.ensures ∙ c.if-is_reserved_kind.false) (sym c.is_too_long.ensures ∙ c.if-is_too_long.false)
-      c.if-self-ge-OBJECTS_MOST_COUNT.true
+    c.if-self-ge-OBJECTS_MOST_COUNT.true
 
 pub returns : goal.returns
 returns c =
     let adds = c.write_object.ensures.adds in
     create_made c.args.self.now {b = c.write_object.new.self} c.args.kind c.args.bytes _ (sym c.is_reserved_kind.ensures ∙ c.if-is_reserved_kind.false) (sym c.is_too_long.ensures ∙ c.if-is_too_long.false)
-      c.if-self-ge-OBJECTS_MOST_COUNT.false refl
-      (record { more_objects = adds.more_objects; objects = adds.objects; more_names = adds.more_names; names = adds.names }) c.in_ok-write_object.ensures.written
+    c.if-self-ge-OBJECTS_MOST_COUNT.false refl
+    (record { more_objects = adds.more_objects; objects = adds.objects; more_names = adds.more_names; names = adds.names }) c.in_ok-write_object.ensures.written

@@ -12,4 +12,4 @@ pub returns-in_ok-clone-in-Some : goal.returns-in_ok-clone-in-Some
 returns-in_ok-clone-in-Some c =
     let copied = c.in_ok-clone-in-Some.ensures.cases in
     get_some c.args.self.now c.args.id c.in_ok-clone-in-Some.field-0
-      (ap Some (same_object c.in_ok-clone-in-Some.field-0 c.in-Some.object.now copied.0 copied.1) ∙ rw c.as_slice.ensures.value at c.in-Some.ensures)
+    (ap Some (same_object c.in_ok-clone-in-Some.field-0 c.in-Some.object.now copied.0 copied.1) ∙ rw c.as_slice.ensures.value at c.in-Some.ensures)

@@ -15,9 +15,9 @@ returns-then-object-KIND g c =
 pub returns-in-None : goal.returns-in-None
 returns-in-None g c =
     get_as_bad c.args.self.now c.args.id c.in_ok-object.object g.T.Stored.KIND g.T.Stored.of c.in_ok-object.ensures (c.if-object-KIND.false ∙ c.KIND.ensures)
-      (sym c.in-None.is ∙ c.in_ok-read.ensures ∙ ap g.T.Stored.of c.as_slice.ensures)
+    (sym c.in-None.is ∙ c.in_ok-read.ensures ∙ ap g.T.Stored.of c.as_slice.ensures)
 
 pub returns : goal.returns
 returns g c =
     get_as_good c.args.self.now c.args.id c.in_ok-object.object g.T.Stored.KIND g.T.Stored.of c.in-Some.value c.in_ok-object.ensures (c.if-object-KIND.false ∙ c.KIND.ensures)
-      (sym c.in-Some.is ∙ c.in_ok-read.ensures ∙ ap g.T.Stored.of c.as_slice.ensures)
+    (sym c.in-Some.is ∙ c.in_ok-read.ensures ∙ ap g.T.Stored.of c.as_slice.ensures)

@@ -11,9 +11,9 @@ returns-in-None c = save_none c.args.self.now c.args.id c.args.bytes (sym c.is_t
 pub returns-then-is_reserved_kind : goal.returns-then-is_reserved_kind
 returns-then-is_reserved_kind c =
     save_reserved c.args.self.now c.args.id c.args.bytes c.in-Some.object.now (sym c.is_too_long.ensures ∙ c.if-is_too_long.false) (rw c.as_slice.ensures.value at c.in-Some.ensures)
-      (sym c.is_reserved_kind.ensures ∙ c.if-is_reserved_kind.true)
+    (sym c.is_reserved_kind.ensures ∙ c.if-is_reserved_kind.true)
 
 pub returns : goal.returns
 returns c =
     save_made c.args.self.now c.args.id c.args.bytes c.in-Some.object.now (sym c.is_too_long.ensures ∙ c.if-is_too_long.false) (rw c.as_slice.ensures.value at c.in-Some.ensures)
-      (sym c.is_reserved_kind.ensures ∙ c.if-is_reserved_kind.false) c.write_object.ensures.adds c.in_ok-write_object.ensures.written
+    (sym c.is_reserved_kind.ensures ∙ c.if-is_reserved_kind.false) c.write_object.ensures.adds c.in_ok-write_object.ensures.written

@@ -18,5 +18,5 @@ returns-in_err-push c =
 pub returns : goal.returns
 returns c =
     send_made c.args.self.now c.args.to c.args.out (omega (arith, c.body_len.ensures)) (omega (arith, c.len.ensures))
-      (record { more_objects = []; objects = sym (append-nil _); more_names = []; names = sym (append-nil _) })
-      (λ i. record (run_of c.args.self.now) { outs = c.in_ok-push.ensures.items i })
+    (record { more_objects = []; objects = sym (append-nil _); more_names = []; names = sym (append-nil _) })
+    (λ i. record (run_of c.args.self.now) { outs = c.in_ok-push.ensures.items i })

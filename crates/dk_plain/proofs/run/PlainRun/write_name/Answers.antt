@@ -26,6 +26,6 @@ returns-clause-adds c = record { more_objects = []; objects = sym (append-nil _)
 pub returns-clause-written : goal.returns-clause-written
 returns-clause-written c =
     with_name_is (run_of c.args.self.now) (names_of c.push-2.new.self.items) c.push.new.self.items c.args.name.now c.args.id
-      (ap names_of c.in_ok-push-2.ensures.items ∙ replayed-push c.args.self.now.names.items _ map.empty
-      ∙ ap (λ (k : List ℕ). map.insert (names_of c.args.self.now.names.items) k c.args.id) c.in_ok-clone-2.ensures.cases)
-      (c.in_ok-push.ensures.items ∙ ap (λ (k : List ℕ). c.args.self.now.touched.items ++ ask.Bound k ∷ []) c.in_ok-clone.ensures.cases)
+    (ap names_of c.in_ok-push-2.ensures.items ∙ replayed-push c.args.self.now.names.items _ map.empty
+    ∙ ap (λ (k : List ℕ). map.insert (names_of c.args.self.now.names.items) k c.args.id) c.in_ok-clone-2.ensures.cases)
+    (c.in_ok-push.ensures.items ∙ ap (λ (k : List ℕ). c.args.self.now.touched.items ++ ask.Bound k ∷ []) c.in_ok-clone.ensures.cases)

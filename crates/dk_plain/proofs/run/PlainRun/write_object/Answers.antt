@@ -15,5 +15,5 @@ returns-in_err-push-2-clause-adds c =
 pub returns-clause-written : goal.returns-clause-written
 returns-clause-written c =
     with_object_is (run_of c.args.self.now) (objects_of c.push-2.new.self.items) c.push.new.self.items c.args.id c.args.object
-      (ap objects_of c.in_ok-push-2.ensures.items ∙ replayed-push c.args.self.now.objects.items _ map.empty)
-      c.in_ok-push.ensures.items
+    (ap objects_of c.in_ok-push-2.ensures.items ∙ replayed-push c.args.self.now.objects.items _ map.empty)
+    c.in_ok-push.ensures.items

@@ -7,9 +7,9 @@ pub inputs-init : goal.inputs-init
 inputs-init g c = (c.requires.fit, serves-none (g.G.Rules.rules c.args.game.now) (world_of c.args.self.now) c.args.events.now.items, refl)
 
 pub inputs-preserved : goal.inputs-preserved
-inputs-preserved g c =
-    ( c.in_ok-serve_next.ensures.fit
-    , serves-on (g.G.Rules.rules c.args.game.now) (world_of c.args.self.now) (world_of c.inputs.self) (world_of c.serve_next.new.self) c.args.events.now.items c.inputs.events.items c.serve_next.new.events.items
-        c.inputs.invariant.1 (rw c.if-branch.true at c.in_ok-serve_next.ensures.serves)
-    , c.serve_next.ensures.conn ∙ c.inputs.invariant.2
-    )
+inputs-preserved g c = (
+  c.in_ok-serve_next.ensures.fit,
+  serves-on (g.G.Rules.rules c.args.game.now) (world_of c.args.self.now) (world_of c.inputs.self) (world_of c.serve_next.new.self) c.args.events.now.items c.inputs.events.items c.serve_next.new.events.items
+      c.inputs.invariant.1 (rw c.if-branch.true at c.in_ok-serve_next.ensures.serves),
+  c.serve_next.ensures.conn ∙ c.inputs.invariant.2,
+)

@@ -13,10 +13,10 @@ pub returns-in_default-clause-serves : goal.returns-in_default-clause-serves
 returns-in_default-clause-serves g c =
     let none : c.args.self.now.visitor.queue.items ≡ [] = search rules in
     let left : c.pop_front.new.self.items ≡ [] = search rules in
-    let v = c.args.self.now.visitor in
-    ( refl
-    , ap (λ (q : List Pending). unclaimed (durable_of c.args.self.now.world) c.args.self.now.next (single v.conn (record (connection_of v) { queue = map waiting_of q }))) (left ∙ sym none)
-    , quiet-waiting (durable_of c.args.self.now.world) c.args.self.now.next c.args.self.now.visitor.conn (connection_of c.args.self.now.visitor) c.requires.fit.first refl (ap (map waiting_of) none)
+    let v = c.args.self.now.visitor in (
+      refl,
+      ap (λ (q : List Pending). unclaimed (durable_of c.args.self.now.world) c.args.self.now.next (single v.conn (record (connection_of v) { queue = map waiting_of q }))) (left ∙ sym none),
+      quiet-waiting (durable_of c.args.self.now.world) c.args.self.now.next c.args.self.now.visitor.conn (connection_of c.args.self.now.visitor) c.requires.fit.first refl (ap (map waiting_of) none),
     )
 
 pub deliver-requires-clause-room : goal.deliver-requires-clause-room
@@ -34,8 +34,8 @@ returns-clause-serves g c =
     let v1 : Visitor = record { conn = p0.visitor.conn; name = p0.visitor.name; queue = c.pop_front.new.self; outs = p0.visitor.outs; turn = p0.next; closed = p0.visitor.closed } in
     let job_is : c.job-job.result ≡ job_of p0.visitor.conn p0.visitor.name (waiting_of c.in-Some.pending) = c.job-job.ensures ∙ ap (λ n. job_of p0.visitor.conn n (waiting_of c.in-Some.pending)) c.in_ok-clone.ensures.cases in
     runs-input (g.G.Rules.rules c.args.game.now) p0 p2 c.pop_front.new.self.items c.in-Some.pending c.job-job.result c.in_ok-stepped.stepped
-      c.args.events.now.items c.push_run.new.events.items v1 c.requires.fit c.in_ok-deliver.ensures.present c.in-Some.ensures.items job_is c.in_ok-stepped.ensures c.in_ok-push_run.ensures refl refl
-      (c.in_ok-deliver.ensures.after ∙ ap (λ outs. after_outs p0.visitor.conn outs (connection_of v1)) c.as_slice.ensures.value) c.in_ok-deliver.ensures.conn refl
+    c.args.events.now.items c.push_run.new.events.items v1 c.requires.fit c.in_ok-deliver.ensures.present c.in-Some.ensures.items job_is c.in_ok-stepped.ensures c.in_ok-push_run.ensures refl refl
+    (c.in_ok-deliver.ensures.after ∙ ap (λ outs. after_outs p0.visitor.conn outs (connection_of v1)) c.as_slice.ensures.value) c.in_ok-deliver.ensures.conn refl
 
 pub returns-clause-fit : goal.returns-clause-fit
 returns-clause-fit g c =
