@@ -26,6 +26,3 @@ pub returns : goal.returns
 returns c =
     let p = c.in_ok-played.played in
     told c.transcript_of.result c.args.lines.items c.as_slice.result.now p.events.items c.as_slice-2.result.now p.marks.items p.commits p.tasks c.as_slice.ensures.value c.as_slice-2.ensures.value c.in_ok-played.ensures.played c.transcript_of.ensures
-
-pub play_session-requires-clause-terse : goal.play_session-requires-clause-terse
-play_session-requires-clause-terse c = sword-is_terse
