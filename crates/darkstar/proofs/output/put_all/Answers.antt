@@ -1,4 +1,4 @@
-use Rattle.std.proofs.Common.{rules, arith, refl, take}
+use Rattle.std.proofs.Common.{rules, arith, refl}
 use Rattle.darkstar.proofs.SinkPieces.{put_more, put_part, puts_part}
 use Rattle.darkstar.proofs.output.put_all.Goals as goal
 
