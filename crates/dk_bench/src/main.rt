@@ -1,32 +1,71 @@
-//! Larger runs of the server's parts, for `bench/run` to time. Each subcommand is a figure.
+//! Larger runs of the server's parts, for `bench/run` to time. Each subcommand is what one figure
+//! times; the number behind it says how many times.
 #![tactic(auto)]
 
 mod first_path;
 
+use dk_turn_uses::{empty_turns_anew, locked_adds, tally_in_threads};
 use first_path::first_path;
 use std::env;
 use std::process::ExitCode;
 use std::rt::Env;
+use std::sync::Wait;
+use std::thread::Threads;
+
+/// What is run.
+#[derive(Clone, Copy)]
+enum Subcommand {
+    /// A play of so many long sends. The transcript's bytes are told.
+    FirstPath,
+    /// So many locks and unlocks of a mutex, each with one atomic addition.
+    LockedAdds,
+    /// So many turns of a step that does nothing.
+    EmptyTurns,
+    /// So many turns of each of two threads at one tally. The tally is told.
+    Tally,
+}
 
 fn main(rt: HostRuntime) -> ExitCode {
-    let Some(sends) = sends(&rt) else {
-        let _ = rt.eprintln("dk_bench: first-path SENDS");
+    let Some((subcommand, times)) = asked(&rt) else {
+        let _ = rt.eprintln("dk_bench: first-path|locked-adds|empty-turns|tally TIMES");
         return ExitCode::from(2);
     };
-    match first_path(rt.alloc(), sends) {
-        Some(bytes) => {
-            let _ = println!(rt; "transcript bytes {bytes}");
+    match run(&rt, subcommand, times) {
+        Some(told) => {
+            let _ = println!(rt; "{told}");
             ExitCode::from(0)
         }
         None => ExitCode::from(1),
     }
 }
 
-/// The number behind the word `first-path`.
-fn sends<R: Env + AllocGlobal>(rt: &R) -> Option<u32> {
+/// The subcommand and its number, if the words are such.
+fn asked<R: Env + AllocGlobal>(rt: &R) -> Option<(Subcommand, u32)> {
     let mut args = env::args(rt).ok()?.skip(1);
-    if args.next()?.as_str() != "first-path" {
-        return None;
+    let subcommand = named(args.next()?.as_str())?;
+    let times = args.next()?.as_str().parse().ok()?;
+    Some((subcommand, times))
+}
+
+fn named(word: &str) -> Option<Subcommand> {
+    match word {
+        "first-path" => Some(Subcommand::FirstPath),
+        "locked-adds" => Some(Subcommand::LockedAdds),
+        "empty-turns" => Some(Subcommand::EmptyTurns),
+        "tally" => Some(Subcommand::Tally),
+        _ => None,
     }
-    args.next()?.as_str().parse().ok()
+}
+
+fn run<R: AllocGlobal + Threads + Wait + Sync>(
+    rt: &R,
+    subcommand: Subcommand,
+    times: u32,
+) -> Option<u64> {
+    match subcommand {
+        Subcommand::FirstPath => first_path(rt.alloc(), times).map(|bytes| bytes as u64),
+        Subcommand::LockedAdds => Some(locked_adds(rt, times as u64)),
+        Subcommand::EmptyTurns => empty_turns_anew(rt, rt.alloc(), times as u64),
+        Subcommand::Tally => tally_in_threads(rt, rt.alloc(), times as u64),
+    }
 }
