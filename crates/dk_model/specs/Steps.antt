@@ -1,5 +1,5 @@
 -- What a job does alone on a world: the platform's part and the game's, and what a failed run leaves.
-use Rattle.std.specs.Prelude.{ℕ, ◌+◌, ◌-◌, ◌*◌, ◌/◌, ◌==◌, Bool, true, false, Option, Some, None, List, [], ◌∷◌, if◌then◌else◌, Result, Ok, Err}
+use Rattle.std.specs.Prelude.{ℕ, ◌+◌, ◌-◌, ◌*◌, ◌/◌, ◌==◌, Bool, true, false, Option, Some, None, List, [], ◌∷◌, nat_lt, if◌then◌else◌, Result, Ok, Err}
 use Rattle.std.specs.FinMap as maps
 use Rattle.dk_types.specs.declared.number.RunNo.{RunNo}
 use Rattle.dk_types.specs.declared.number.ConnNo.{ConnNo}
@@ -12,10 +12,13 @@ use Rattle.dk_types.specs.declared.job.Job.TheVariants as job
 use Rattle.dk_types.specs.declared.job.Out.{Out}
 use Rattle.dk_types.specs.declared.job.Out.TheVariants as out
 use Rattle.dk_types.specs.declared.fault.AppFault.{AppFault}
+use Rattle.dk_types.specs.declared.fault.AppFault.TheVariants.{TooLarge}
 use Rattle.dk_types.specs.declared.fault.Outcome.{Outcome}
 use Rattle.dk_types.specs.declared.fault.Outcome.TheVariants as outcome
 use Rattle.dk_model.specs.declared.mode.Mode.TheVariants.{Game}
+use Rattle.dk_types.specs.declared.limits.TheConstants.{EFFECTS_MOST_BYTES}
 use Rattle.dk_model.specs.DurableWorlds.{DurableWorld, Task}
+use Rattle.dk_model.specs.Effects.{effects, effects_length}
 use Rattle.dk_model.specs.Runs.{Run, Act, begun, give, and_then, within, send, with_task}
 use Rattle.dk_model.specs.declared.records.ChannelRecord.{ChannelRecord}
 use Rattle.dk_model.specs.Records.{session_name, channel_name, CHANNEL_KIND, channel_of}
@@ -111,10 +114,16 @@ abbrev pub failed : Job → Run → AppFault → Stepped
 failed job start fault =
     record { outcome = outcome.Fail fault; world = (kept_by job start).world; touched = (kept_by job start).touched; outs = failed_outs job }
 
-abbrev pub ended : Job → Run → Result (Unit {0}) AppFault × Run → Stepped
-ended job start (Ok x, s) = record { outcome = outcome.Ok; world = s.world; touched = s.touched; outs = s.outs }
-ended job start (Err fault, s) = failed job start fault
+-- whether the effects between two worlds are more than may be written
+unfoldable pub is_too_large : DurableWorld → DurableWorld → Bool
+is_too_large before after = nat_lt EFFECTS_MOST_BYTES (effects_length (effects before after))
+
+-- a run that comes to its end fails all the same where its effects are too large
+abbrev pub ended : Job → DurableWorld → Run → Result (Unit {0}) AppFault × Run → Stepped
+ended job before start (Ok x, s) =
+    if is_too_large before s.world then failed job start TooLarge else record { outcome = outcome.Ok; world = s.world; touched = s.touched; outs = s.outs }
+ended job before start (Err fault, s) = failed job start fault
 
 -- what the job does alone on the world, for a game that means this
 abbrev pub step : (Job → Act (Unit {0})) → Job → RunNo → ℕ → DurableWorld → Stepped
-step rules job run at d = ended job (begun run at d) (work job (within Game (rules job)) (begun run at d))
+step rules job run at d = ended job d (begun run at d) (work job (within Game (rules job)) (begun run at d))
