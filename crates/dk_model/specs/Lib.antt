@@ -7,11 +7,17 @@ pub mod Spellings
 pub mod Records
 pub mod Platforms
 pub mod Steps
+pub mod Lawful
 pub mod Worlds
 pub mod Picks
 pub mod Deliveries
 pub mod Events
 pub mod Histories
+pub mod Successors
+pub mod Openings
+pub mod Messages
+pub mod Sights
+pub mod Finishes
 pub mod Scripts
 pub mod Lines
 pub mod Orders

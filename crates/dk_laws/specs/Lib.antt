@@ -1,0 +1,4 @@
+pub mod EffectsLaw
+pub mod MessagesLaw
+pub mod HistoryLaws
+pub mod SightsLaw

@@ -1,0 +1,17 @@
+-- What was handed and what waits is what was committed to a connection.
+use Rattle.std.specs.Prelude.{◌≡◌, ℕ, Option, List, ◌++◌}
+use Rattle.dk_types.specs.declared.number.ConnNo.{ConnNo}
+use Rattle.dk_types.specs.declared.event.Event.{Event}
+use Rattle.dk_model.specs.DurableWorlds.{DurableWorld}
+use Rattle.dk_model.specs.Validity.{IsValid}
+use Rattle.dk_model.specs.Worlds.{World}
+use Rattle.dk_model.specs.Events.{Meaning, outbox}
+use Rattle.dk_model.specs.Histories.{Leads}
+use Rattle.dk_model.specs.Openings.{opening}
+use Rattle.dk_model.specs.Messages.{messages, handed}
+
+-- an absent connection's outbox counts as empty
+abbrev pub MessagesAreHanded : Type 0
+MessagesAreHanded =
+    (rules : Meaning) (d : DurableWorld) (budget : Option ℕ) (events : List Event) (w : World) → IsValid d → Leads rules (opening d budget) events w
+    → (conn : ConnNo) → messages rules (opening d budget) events conn ≡ handed events conn ++ outbox w conn

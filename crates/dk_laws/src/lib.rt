@@ -1,0 +1,15 @@
+//! The laws of the model: theorems about the definitions of `dk_model`, each the contract of a
+//! function that does nothing.
+//!
+//! The layers above cite the lemmas that stand in `proofs/`. Nothing here runs.
+#![tactic(auto)]
+
+pub use effects::effects_lead_there;
+pub use histories::{each_commit_was_claimed_once, events_lead_to_one_world, keys_do_not_return, numbers_are_new, worlds_stay_valid};
+pub use messages::messages_are_handed;
+pub use sights::sights_tell;
+
+mod effects;
+mod histories;
+mod messages;
+mod sights;

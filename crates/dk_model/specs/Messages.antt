@@ -1,0 +1,55 @@
+-- What a history sent to a connection, and what it handed to it.
+use Rattle.std.specs.Prelude.{◌&&◌, Bool, Option, Some, None, List, [], ◌∷◌, ◌++◌, nat_eq, if◌then◌else◌}
+use Rattle.std.specs.FinMap.{get}
+use Rattle.dk_types.specs.declared.number.ConnNo.{ConnNo}
+use Rattle.dk_types.specs.declared.number.RunNo.{RunNo}
+use Rattle.dk_types.specs.declared.job.Out.{Out}
+use Rattle.dk_types.specs.declared.event.Event.{Event}
+use Rattle.dk_types.specs.declared.event.Event.TheVariants as event
+use Rattle.dk_model.specs.Worlds.{World, Claim}
+use Rattle.dk_model.specs.Deliveries.{Connections, change_connection, with_out, takes, conn_of, for_conn, input_left}
+use Rattle.dk_model.specs.Events.{Meaning, step_of}
+use Rattle.dk_model.specs.Successors.{after_event}
+
+abbrev pub same_conn : ConnNo → ConnNo → Bool
+same_conn a b = nat_eq a.0 b.0
+
+-- which of the messages are appended to this connection's outbox
+abbrev pub appended : ConnNo → List (ConnNo × Out) → Connections → List Out
+appended conn [] all = []
+appended conn (o ∷ outs) all =
+    let later = appended conn outs (change_connection o.0 (with_out o.1) all) in
+    if same_conn o.0 conn && takes (get all o.0) then o.1 ∷ later else later
+
+abbrev pub appended_at : Meaning → World → ConnNo → RunNo → Option Claim → List Out
+appended_at rules w conn run None = []
+appended_at rules w conn run (Some claim) = appended conn (step_of rules w run claim).outs (for_conn (conn_of claim.job) input_left w.connections)
+
+-- the messages that an event appends to the connection's outbox, which a commit alone does
+abbrev pub appended_by : Meaning → World → ConnNo → Event → List Out
+appended_by rules w conn (event.Commit pass run seq outcome) = appended_at rules w conn run (get w.claims run)
+appended_by rules w conn (event.Connect pass name reply) = []
+appended_by rules w conn (event.Post pass to input reply) = []
+appended_by rules w conn (event.Claim pass reply) = []
+appended_by rules w conn (event.Release pass run) = []
+appended_by rules w conn (event.Hand pass to most outs end) = []
+appended_by rules w conn (event.Tick pass moment) = []
+
+-- the messages that the commits appended to the connection's outbox, in order
+abbrev pub messages : Meaning → World → List Event → ConnNo → List Out
+messages rules w [] conn = []
+messages rules w (e ∷ events) conn = appended_by rules w conn e ++ messages rules (after_event rules w e) events conn
+
+abbrev pub handed_by : ConnNo → Event → List Out
+handed_by conn (event.Hand pass to most outs end) = if same_conn to conn then outs else []
+handed_by conn (event.Connect pass name reply) = []
+handed_by conn (event.Post pass to input reply) = []
+handed_by conn (event.Claim pass reply) = []
+handed_by conn (event.Release pass run) = []
+handed_by conn (event.Commit pass run seq outcome) = []
+handed_by conn (event.Tick pass moment) = []
+
+-- all that was handed to the connection
+abbrev pub handed : List Event → ConnNo → List Out
+handed [] conn = []
+handed (e ∷ events) conn = handed_by conn e ++ handed events conn
