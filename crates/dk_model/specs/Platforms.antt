@@ -10,7 +10,8 @@ use Rattle.dk_types.specs.declared.job.Session.{Session}
 use Rattle.dk_types.specs.declared.job.Out.{Out}
 use Rattle.dk_types.specs.declared.job.Out.TheVariants as out
 use Rattle.dk_types.specs.declared.limits.TheConstants.{MESSAGES_MOST_COUNT}
-use Rattle.dk_model.specs.Runs.{Run, Act, give, and_then, found, refuse, get, create, save, remove, bound, bind, unbind, send, is_too_long, NAME_NOT_BOUND, WRONG_KIND, TOO_LONG, TOO_MANY, NAME_EXISTS, BAD_BYTES}
+use Rattle.dk_model.specs.Runs.{Run, Act, give, and_then, within, found, refuse, get, create, save, remove, bound, bind, unbind, send, is_too_long, NAME_NOT_BOUND, WRONG_KIND, TOO_LONG, TOO_MANY, NAME_EXISTS, BAD_BYTES}
+use Rattle.dk_model.specs.declared.mode.Mode.TheVariants.{Platform}
 use Rattle.dk_model.specs.declared.records.SessionRecord.{SessionRecord}
 use Rattle.dk_model.specs.declared.records.ChannelRecord.{ChannelRecord}
 use Rattle.dk_model.specs.declared.records.Delivery.{Delivery}
@@ -67,22 +68,30 @@ unfoldable pub session_send : Session → List ℕ → Act (Unit {0})
 session_send session body = and_then (is_connected session) (λ connected. if connected then send session.conn (out.Message body) else refuse NAME_NOT_BOUND)
 
 -- a new session's record, bound under its platform name
-unfoldable pub open_record : Session → Act (Unit {0})
-open_record session s =
+unfoldable pub new_record : Session → Act (Unit {0})
+new_record session s =
     if is_name_too_long (session_name session.name) then refuse TOO_LONG s
     else if is_some (platform_bound s (session_name session.name)) then refuse NAME_EXISTS s
     else and_then (create SESSION_KIND (session_bytes (record { conn = session.conn; channels = [] }))) (λ id. bind (session_name session.name) id) s
 
+-- the same on the platform's behalf, whoever calls
+unfoldable pub open_record : Session → Act (Unit {0})
+open_record session = within Platform (new_record session)
+
 -- the record of a session that ends is unbound and removed
 unfoldable pub close_record : Session → Act (Unit {0})
-close_record session = and_then (own_record session) (λ r. and_then (unbind (session_name session.name)) (λ _. remove r.0))
+close_record session = within Platform (and_then (own_record session) (λ r. and_then (unbind (session_name session.name)) (λ _. remove r.0)))
 
--- a new channel with no member
-unfoldable pub create_channel : List ℕ → Bool → Delivery → Act (Unit {0})
-create_channel name listener delivery s =
+-- a new channel with no member, bound under its platform name
+unfoldable pub new_channel : List ℕ → Bool → Delivery → Act (Unit {0})
+new_channel name listener delivery s =
     if is_name_too_long (channel_name name) then refuse TOO_LONG s
     else if is_some (platform_bound s (channel_name name)) then refuse NAME_EXISTS s
     else and_then (create CHANNEL_KIND (channel_bytes (record { listener = listener; delivery = delivery; members = [] }))) (λ id. bind (channel_name name) id) s
+
+-- the same on the platform's behalf, whoever calls
+unfoldable pub create_channel : List ℕ → Bool → Delivery → Act (Unit {0})
+create_channel name listener delivery = within Platform (new_channel name listener delivery)
 
 -- a channel that is bound
 unfoldable pub get_channel : List ℕ → Act (Unit {0})
@@ -110,7 +119,7 @@ join_records name session c r =
 
 -- the session is put last among the members, and the channel last in the session's record; a second join changes nothing
 unfoldable pub join : List ℕ → Session → Act (Unit {0})
-join name session = and_then (channel_under name) (λ c. and_then (own_record session) (λ r. join_records name session c r))
+join name session = within Platform (and_then (channel_under name) (λ c. and_then (own_record session) (λ r. join_records name session c r)))
 
 abbrev pub leave_records : List ℕ → Session → ObjectId × ChannelRecord → ObjectId × SessionRecord → Act (Unit {0})
 leave_records name session c r =
@@ -120,7 +129,7 @@ leave_records name session c r =
 
 -- both entries are taken away; a leave of one who is no member changes nothing
 unfoldable pub leave : List ℕ → Session → Act (Unit {0})
-leave name session = and_then (channel_under name) (λ c. and_then (own_record session) (λ r. leave_records name session c r))
+leave name session = within Platform (and_then (channel_under name) (λ c. and_then (own_record session) (λ r. leave_records name session c r)))
 
 -- a member whose session is not recorded with its number loses its place among the members alone
 abbrev pub leave_member : List ℕ → Session → Act (Unit {0})
@@ -135,7 +144,7 @@ leave_each name (m ∷ members) = and_then (leave_member name m) (λ _. leave_ea
 
 -- each member leaves, in joining order
 unfoldable pub leave_all : List ℕ → Act (Unit {0})
-leave_all name = and_then (channel_under name) (λ c. leave_each name c.1.members)
+leave_all name = within Platform (and_then (channel_under name) (λ c. leave_each name c.1.members))
 
 -- the members, in joining order
 unfoldable pub members : List ℕ → Act (List Session)

@@ -11,11 +11,11 @@ use Rattle.dk_types.specs.declared.number.RunNo.{RunNo}
 use Rattle.dk_types.specs.declared.job.Job.{Job}
 use Rattle.dk_types.specs.declared.job.Job.TheVariants as jobs
 use Rattle.dk_types.specs.declared.fault.Outcome.TheVariants as outcome
-use Rattle.dk_model.specs.declared.mode.Mode.TheVariants.{Game}
+use Rattle.dk_model.specs.declared.mode.Mode.TheVariants.{Game, Platform}
 use Rattle.dk_model.specs.DurableWorlds.{DurableWorld}
 use Rattle.dk_model.specs.Runs.{Run, Act, and_then, within, send, begun}
 use Rattle.dk_model.specs.Records.{session_name}
-use Rattle.dk_model.specs.Platforms.{platform_bound, open_record}
+use Rattle.dk_model.specs.Platforms.{platform_bound, new_record, open_record}
 use Rattle.dk_model.specs.Steps.{login, login_found, work, step, ended, failed, failed_outs}
 use Rattle.dk_plain.specs.declared.halt.Halt.TheVariants as halt
 use Rattle.dk_plain.specs.PlainJobs.{IsPlain}
@@ -31,6 +31,11 @@ within_done {a = a} mode f p = record {
   does = λ s t. ap (λ o. (o.0, record (o.1) { mode = a.mode })) (p.does s t);
   adds = record { more_objects = p.adds.more_objects; objects = p.adds.objects; more_names = p.adds.more_names; names = p.adds.names };
 }
+
+-- a session's record is opened on the platform's behalf
+pub opened : {a b : PlainRun} {r : Result (Unit {0}) Halt} (session : Session) → Does (record a { mode = Platform }) b (new_record session) r → Does a (record b { mode = a.mode }) (open_record session) r
+unfolding open_record
+opened session p = within_done Platform (new_record session) p
 
 module _ {a b : PlainRun} {r : Result (Unit {0}) Halt} (session : Session) (game : Act (Unit {0})) where
   -- a login of a name that is recorded

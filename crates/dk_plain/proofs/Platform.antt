@@ -10,7 +10,7 @@ use Rattle.dk_model.specs.declared.records.SessionRecord.{SessionRecord}
 use Rattle.dk_model.specs.Runs as act
 use Rattle.dk_model.specs.Runs.{Run, Act, and_then, give, found, refuse}
 use Rattle.dk_model.specs.Records.{SESSION_KIND, session_of, session_bytes, session_name, is_name_too_long}
-use Rattle.dk_model.specs.Platforms.{get_as, is_connected, open_record, platform_bound, numbered}
+use Rattle.dk_model.specs.Platforms.{get_as, is_connected, new_record, platform_bound, numbered}
 use Rattle.dk_plain.specs.declared.halt.Halt.{Halt}
 use Rattle.dk_plain.specs.declared.halt.Halt.TheVariants as halt
 use Rattle.dk_plain.specs.declared.run.PlainRun.{PlainRun}
@@ -56,19 +56,19 @@ module _ (a : PlainRun) (session : Session) where
       → answer ≡ nat_eq r.conn.0 session.conn.0 → Does a a (is_connected session) (Ok answer)
   recorded_tells id r answer there p is = does_as _ (recorded id there) (then_does _ p (subst (λ (b : Bool). Does a a (give (Ok (nat_eq r.conn.0 session.conn.0))) (Ok b)) (sym is) give_does))
 
-  pub open_long : is_name_too_long (session_name session.name) ≡ true → Does a a (open_record session) (Err (halt.Fault (Refused 4)))
-  unfolding open_record
+  pub open_long : is_name_too_long (session_name session.name) ≡ true → Does a a (new_record session) (Err (halt.Fault (Refused 4)))
+  unfolding new_record
   open_long long = refused_here (rw long refl)
 
   pub open_exists : (id : ObjectId) → is_name_too_long (session_name session.name) ≡ false → Some id ≡ map.get (names_of a.names.items) (session_name session.name)
-      → Does a a (open_record session) (Err (halt.Fault (Refused 9)))
-  unfolding open_record
+      → Does a a (new_record session) (Err (halt.Fault (Refused 9)))
+  unfolding new_record
   open_exists id short there = refused_here (rw (short, sym there) refl)
 
   -- the record is made where there is none
   pub open_made : {b : PlainRun} {r : Result (Unit {0}) Halt} (key : List ℕ) → key ≡ session_name session.name → is_name_too_long (session_name session.name) ≡ false
-      → None ≡ map.get (names_of a.names.items) key → Does a b (recording key session.conn) r → Does a b (open_record session) r
-  unfolding open_record
+      → None ≡ map.get (names_of a.names.items) key → Does a b (recording key session.conn) r → Does a b (new_record session) r
+  unfolding new_record
   open_made {b = b} {r = r} key is short none p =
       let here : None ≡ map.get (names_of a.names.items) (session_name session.name) = none ∙ ap (map.get (names_of a.names.items)) is in
       let q : Does a b (recording (session_name session.name) session.conn) r = subst (λ (k : List ℕ). Does a b (recording k session.conn) r) is p in

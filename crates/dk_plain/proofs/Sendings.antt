@@ -13,12 +13,12 @@ use Rattle.dk_types.specs.declared.job.Out.{Out}
 use Rattle.dk_types.specs.declared.job.Out.TheVariants as out
 use Rattle.dk_types.specs.declared.limits.TheConstants.{OBJECTS_MOST_COUNT, MESSAGES_MOST_COUNT}
 use Rattle.dk_model.specs.declared.mode.Mode.{Mode}
-use Rattle.dk_model.specs.declared.mode.Mode.TheVariants.{Game}
+use Rattle.dk_model.specs.declared.mode.Mode.TheVariants.{Game, Platform}
 use Rattle.dk_model.specs.DurableWorlds.{DurableWorld}
 use Rattle.dk_model.specs.Runs as act
 use Rattle.dk_model.specs.Runs.{Run, Act, give, and_then, carry_on, within, refuse, begun, send}
 use Rattle.dk_model.specs.Records.{SESSION_KIND, session_of, session_name, is_name_too_long}
-use Rattle.dk_model.specs.Platforms.{platform_bound, get_as, found_as, record_under, session_under, numbered, is_connected, open_record}
+use Rattle.dk_model.specs.Platforms.{platform_bound, get_as, found_as, record_under, session_under, numbered, is_connected, new_record, open_record}
 use Rattle.dk_model.specs.Steps.{of_session, login_found, login, for_session, work, step, ended, kept_by, failed_outs}
 use Rattle.dk_plain.specs.PlainJobs.{IsPlain}
 use Rattle.dk_plain.specs.Sendings.{SendsAtMost, IsTerse}
@@ -155,11 +155,16 @@ unfolding is_connected
 is_connected_sends session = each_few (λ s. numbered_few (platform_bound s (session_name session.name)) session.conn s)
 
 -- a session's record is made and bound, and nothing sent
-pub open_record_sends : (session : Session) → SendsAtMost 0 (open_record session)
-unfolding open_record
-open_record_sends session =
+pub new_record_sends : (session : Session) → SendsAtMost 0 (new_record session)
+unfolding new_record
+new_record_sends session =
     each_few (λ s. either_few (is_name_too_long (session_name session.name)) (none s refl refl)
     (either_few (is_some (platform_bound s (session_name session.name))) (none s refl refl) (few_sends s (then_sends (create_sends SESSION_KIND _) (λ id. bind_sends _ id)))))
+
+-- on the platform's behalf too
+pub open_record_sends : (session : Session) → SendsAtMost 0 (open_record session)
+unfolding open_record
+open_record_sends session = within_sends Platform (new_record_sends session)
 
 -- a login sends two, the game's one among them
 found_sends : (o : Option ObjectId) (session : Session) {game : Act (Unit {0})} → SendsAtMost 1 game → SendsAtMost 2 (login_found o session game)

@@ -6,7 +6,7 @@ use crate::halt::Halt;
 use crate::records::new_session_bytes;
 use crate::run::PlainRun;
 use crate::writes::latest;
-use dk_model::SessionRecord;
+use dk_model::{Mode, SessionRecord};
 use dk_types::{AppFault, ConnNo, Name, NoMemory, ObjectId, Session};
 use std::alloc::Global;
 
@@ -45,9 +45,19 @@ impl PlainRun {
         }
     }
 
-    /// Records a session that has begun.
+    /// Records a session that has begun, on the platform's behalf.
     pub fn open_record(&mut self, alloc: Global, session: &Session) -> Result<(), Halt>
         ensures { Does self.old self.new (platform.open_record session.now) result }
+    {
+        let before = self.mode;
+        self.mode = Mode::Platform;
+        let end = self.new_record(alloc, session);
+        self.mode = before;
+        end
+    }
+
+    fn new_record(&mut self, alloc: Global, session: &Session) -> Result<(), Halt>
+        ensures { Does self.old self.new (platform.new_record session.now) result }
     {
         let key = match key_of(alloc, &session.name)? {
             None => return Err(Halt::Fault(AppFault::Refused(4))),
