@@ -3,7 +3,6 @@ pub mod DurableWorlds
 pub mod Validity
 pub mod Effects
 pub mod Runs
-pub mod Spellings
 pub mod Records
 pub mod Platforms
 pub mod Steps

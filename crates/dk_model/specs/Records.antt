@@ -7,11 +7,16 @@ use Rattle.dk_model.specs.declared.records.ChannelRecord.{ChannelRecord}
 use Rattle.dk_model.specs.declared.records.Delivery.{Delivery}
 use Rattle.dk_model.specs.declared.records.Delivery.TheVariants.{Reliable, UnorderedReliable, OrderedUnreliable, Unreliable}
 use Rattle.std.specs.Prelude.{Result, Ok, Err}
+use Rattle.std.specs.Result.{result_ok}
 use Rattle.dk_wire.specs.Rest.{Rest}
-use Rattle.dk_wire.specs.Fields.{u64_spelling, name_spelling}
+use Rattle.dk_wire.specs.Fields.{u8_spelling, u64_spelling, name_spelling}
 use Rattle.dk_wire.specs.Reading.{◌>>=◌}
-use Rattle.dk_wire.specs.Payload.{next_u8, next_u64, next_name, checked}
-use Rattle.dk_model.specs.Spellings.{list_spelling, next_list, value_of}
+use Rattle.dk_wire.specs.Payload.{next_u8, next_u64, next_name, checked, whole}
+use Rattle.dk_wire.specs.Lists.{list_spelling, list_at}
+
+-- the value, where its spelling is all of the bytes
+abbrev pub value_of : {A : Type 0} → (Rest → Result (A × Rest) ℕ) → List ℕ → Option A
+value_of next bytes = result_ok (whole next bytes)
 
 abbrev pub SESSION_KIND : ℕ
 SESSION_KIND = 65281
@@ -22,7 +27,7 @@ session_bytes r = u64_spelling r.conn.0 ++ list_spelling name_spelling r.channel
 unfoldable pub next_session : Rest → Result (SessionRecord × Rest) ℕ
 next_session r = do
   conn ← next_u64 r
-  channels ← next_list next_name conn.1
+  channels ← list_at (λ _. next_name) conn.1
   Ok (record { conn = record { 0 = conn.0 }; channels = channels.0 }, channels.1)
 
 -- the record that these bytes are, where they are one
@@ -50,15 +55,16 @@ delivery_number Unreliable = 3
 abbrev pub delivery_of : ℕ → Delivery
 delivery_of n = if n == 0 then Reliable else if n == 1 then UnorderedReliable else if n == 2 then OrderedUnreliable else Unreliable
 
-abbrev pub flag_bytes : Bool → List ℕ
-flag_bytes false = 0 ∷ []
-flag_bytes true = 1 ∷ []
+-- whether a game listens, as 0 or 1
+abbrev pub flag : Bool → ℕ
+flag false = 0
+flag true = 1
 
 abbrev pub member_bytes : Session → List ℕ
 member_bytes m = name_spelling m.name ++ u64_spelling m.conn.0
 
 abbrev pub channel_bytes : ChannelRecord → List ℕ
-channel_bytes r = flag_bytes r.listener ++ delivery_number r.delivery ∷ list_spelling member_bytes r.members
+channel_bytes r = u8_spelling (flag r.listener) ++ (u8_spelling (delivery_number r.delivery) ++ list_spelling member_bytes r.members)
 
 unfoldable pub next_member : Rest → Result (Session × Rest) ℕ
 next_member r = do
@@ -70,7 +76,7 @@ unfoldable pub next_channel : Rest → Result (ChannelRecord × Rest) ℕ
 next_channel r = do
   listener ← checked (λ b. nat_lt b 2) next_u8 r
   delivery ← checked (λ b. nat_lt b 4) next_u8 listener.1
-  members ← next_list next_member delivery.1
+  members ← list_at (λ _. next_member) delivery.1
   Ok (record { listener = listener.0 == 1; delivery = delivery_of delivery.0; members = members.0 }, members.1)
 
 -- the record that these bytes are, where they are one

@@ -1,0 +1,141 @@
+//! The record of a channel as bytes.
+ghost use Rattle.std.specs.Prelude.{◌≡◌, IfOk, nat_lt};
+ghost use Rattle.dk_wire.specs.Payload.{Decodes, Gives, next_u8, checked};
+ghost use Rattle.dk_model.specs.Records.{channel_bytes, next_channel, flag, delivery_number, delivery_of};
+ghost use Rattle.dk_records.specs.RecordLaws.{IsChannelRecord};
+
+use dk_model::{ChannelRecord, Delivery};
+use dk_types::{Blob, ConnNo, NoMemory, Session};
+use dk_wire::{Form, PayloadRefused, Reader, Writer, decode, encode, put_list, take_list};
+use std::alloc::Global;
+
+/// A member: its login name, and its connection's number.
+pub struct MemberForm;
+
+impl Form<Session> for MemberForm {
+    ghost use Rattle.dk_model.specs.Records.{member_bytes, next_member};
+    ghost use Rattle.dk_records.specs.RecordLaws.{IsMember, each_member_exact};
+
+    ghost fits = { λ _. IsMember };
+
+    ghost spelling = { member_bytes };
+
+    ghost reading = { λ _. next_member };
+
+    ghost exact = { each_member_exact };
+
+    fn put(writer: &mut Writer, member: &Session) -> Result<(), NoMemory> {
+        writer.put_name(&member.name)?;
+        writer.put_u64(member.conn.0)?;
+        Ok(())
+    }
+
+    #[tactic(auto, unfolding(dk_model::specs::Records::next_member))]
+    fn take(
+        alloc: Global,
+        reader: &mut Reader<'_>,
+        _: Option<&Session>,
+    ) -> Result<Session, PayloadRefused> {
+        let name = reader.next_name(alloc)?;
+        let conn = reader.next_u64()?;
+        Ok(Session {
+            name,
+            conn: ConnNo(conn),
+        })
+    }
+}
+
+/// Whether a game listens, the delivery, and the members.
+pub struct ChannelForm;
+
+impl Form<ChannelRecord> for ChannelForm {
+    ghost use Rattle.dk_model.specs.Records.{channel_bytes, next_channel};
+    ghost use Rattle.dk_records.specs.RecordLaws.{IsChannelRecord, each_channel_exact};
+
+    ghost fits = { λ _. IsChannelRecord };
+
+    ghost spelling = { channel_bytes };
+
+    ghost reading = { λ _. next_channel };
+
+    ghost exact = { each_channel_exact };
+
+    fn put(writer: &mut Writer, channel: &ChannelRecord) -> Result<(), NoMemory> {
+        writer.put_u8(flag_of(channel.listener))?;
+        writer.put_u8(number_of(channel.delivery))?;
+        put_list::<Session, MemberForm>(writer, channel.members.as_slice())?;
+        Ok(())
+    }
+
+    #[tactic(auto, unfolding(dk_model::specs::Records::next_channel))]
+    fn take(
+        alloc: Global,
+        reader: &mut Reader<'_>,
+        _: Option<&ChannelRecord>,
+    ) -> Result<ChannelRecord, PayloadRefused> {
+        let listener = next_below(reader, 2)?;
+        let delivery = next_below(reader, 4)?;
+        let members = take_list::<Session, MemberForm>(alloc, reader)?;
+        Ok(ChannelRecord {
+            listener: listener == 1,
+            delivery: delivery_from(delivery),
+            members,
+        })
+    }
+}
+
+/// A byte below an end; the fault of another is at its own place.
+fn next_below(reader: &mut Reader<'_>, end: u8) -> Result<u8, PayloadRefused>
+    ensures { Gives (checked (λ b. nat_lt b end) next_u8) reader.old result reader.new }
+{
+    let at = reader.at();
+    let byte = reader.next_u8()?;
+    if byte < end {
+        Ok(byte)
+    } else {
+        Err(PayloadRefused::NotInGrammar { at })
+    }
+}
+
+fn flag_of(listener: bool) -> u8
+    ensures { result ≡ flag listener }
+{
+    if listener { 1 } else { 0 }
+}
+
+fn number_of(delivery: Delivery) -> u8
+    ensures { result ≡ delivery_number delivery }
+{
+    match delivery {
+        Delivery::Reliable => 0,
+        Delivery::UnorderedReliable => 1,
+        Delivery::OrderedUnreliable => 2,
+        Delivery::Unreliable => 3,
+    }
+}
+
+fn delivery_from(number: u8) -> Delivery
+    ensures { result ≡ delivery_of number }
+{
+    match number {
+        0 => Delivery::Reliable,
+        1 => Delivery::UnorderedReliable,
+        2 => Delivery::OrderedUnreliable,
+        _ => Delivery::Unreliable,
+    }
+}
+
+/// The bytes of a channel's record.
+pub fn encode_channel(alloc: Global, channel: &ChannelRecord) -> Result<Blob, NoMemory>
+    requires { IsChannelRecord channel.now }
+    ensures { IfOk result (λ bytes. bytes ≡ channel_bytes channel.now) }
+{
+    encode::<ChannelRecord, ChannelForm>(alloc, channel)
+}
+
+/// The channel's record that the bytes are.
+pub fn decode_channel(alloc: Global, bytes: &[u8]) -> Result<ChannelRecord, PayloadRefused>
+    ensures { Decodes IsChannelRecord channel_bytes next_channel bytes.now result }
+{
+    decode::<ChannelRecord, ChannelForm>(alloc, bytes)
+}
