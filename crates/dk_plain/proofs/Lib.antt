@@ -1,7 +1,6 @@
 pub mod WritesLemmas
 pub mod Parts
 pub mod Calls
-pub mod Lists
 pub mod Platform
 pub mod JobParts
 pub mod Sendings

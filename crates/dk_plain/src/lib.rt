@@ -12,7 +12,6 @@ pub use stored::Stored;
 pub use world::{PlainWorld, Stepped};
 pub use writes::Write;
 
-pub mod fields;
 pub mod halt;
 pub mod jobs;
 pub mod records;

@@ -5,7 +5,7 @@ use Rattle.std.specs.List.{flat_map}
 use Rattle.dk_types.specs.declared.number.ObjectId.{ObjectId}
 use Rattle.dk_wire.specs.Fields.{id_spelling, u32_spelling, u64_spelling}
 use Rattle.dk_model.specs.Runs.{is_too_long}
-use Rattle.dk_model.specs.Spellings.{list_spelling}
+use Rattle.dk_wire.specs.Lists.{list_spelling}
 use Rattle.sword_world.specs.declared.things.Room.{Room}
 use Rattle.sword_world.specs.Things.{room_bytes}
 
@@ -16,6 +16,7 @@ length-ids [] = omega arith
 length-ids (id ∷ ids) = omega (arith, length-ids ids, length-append (id_spelling id) (flat_map id_spelling ids))
 
 length-list : (ids : List ObjectId) → length ids ≤ length (list_spelling id_spelling ids)
+unfolding list_spelling
 length-list ids = omega (arith, length-ids ids, length-append (u32_spelling (length ids)) (flat_map id_spelling ids))
 
 long : (bytes : List ℕ) → 65535 < length bytes → is_too_long bytes ≡ true

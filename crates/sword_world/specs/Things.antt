@@ -5,7 +5,8 @@ use Rattle.dk_wire.specs.Rest.{Rest}
 use Rattle.dk_wire.specs.Fields.{name_spelling, id_spelling}
 use Rattle.dk_wire.specs.Reading.{◌>>=◌}
 use Rattle.dk_wire.specs.Payload.{next_u8, next_name, next_id, checked}
-use Rattle.dk_model.specs.Spellings.{list_spelling, next_list, value_of}
+use Rattle.dk_wire.specs.Lists.{list_spelling, list_at}
+use Rattle.dk_model.specs.Records.{value_of}
 use Rattle.sword_world.specs.Carried.{carried_bytes}
 use Rattle.sword_world.specs.declared.things.Room.{Room}
 use Rattle.sword_world.specs.declared.things.Thing.{Thing}
@@ -25,8 +26,8 @@ room_bytes r = list_spelling id_spelling r.players ++ list_spelling id_spelling 
 
 unfoldable pub next_room : Rest → Result (Room × Rest) ℕ
 next_room rest = do
-  players ← next_list next_id rest
-  items ← next_list next_id players.1
+  players ← list_at (λ _. next_id) rest
+  items ← list_at (λ _. next_id) players.1
   Ok (record { players = players.0; items = items.0 }, items.1)
 
 -- the room that these bytes are, where they are one

@@ -4,21 +4,18 @@ ghost use Rattle.dk_wire.specs.Payload.{Gives, Misses, whole};
 ghost use Rattle.sword_world.specs.Things.{next_room, next_thing, next_player, next_carried, room_of, thing_of, player_of};
 
 use crate::things::{Player, Room, Thing};
-use dk_plain::fields::read_list;
-use dk_types::{Listed, Name, NoMemory, ObjectId};
-use dk_wire::{PayloadRefused, Reader};
+use dk_records::IdForm;
+use dk_types::{Name, NoMemory, ObjectId};
+use dk_wire::{PayloadRefused, Reader, take_list};
 use std::alloc::Global;
 
 #[tactic(auto, unfolding(crate::specs::Things::next_room))]
 fn next_room_of(alloc: Global, reader: &mut Reader<'_>) -> Result<Room, PayloadRefused>
     ensures { Gives next_room reader.old result reader.new }
 {
-    let players = read_list(alloc, reader)?;
-    let items = read_list(alloc, reader)?;
-    Ok(Room {
-        players: Listed::from_vec(players),
-        items: Listed::from_vec(items),
-    })
+    let players = take_list::<ObjectId, IdForm>(alloc, reader)?;
+    let items = take_list::<ObjectId, IdForm>(alloc, reader)?;
+    Ok(Room { players, items })
 }
 
 #[tactic(auto, unfolding(crate::specs::Things::next_thing))]

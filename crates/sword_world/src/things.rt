@@ -2,7 +2,7 @@
 ghost use Rattle.std.specs.Prelude.{◌≡◌, ◌≤◌, ◌++◌, length, IfOk, OnOk};
 ghost use Rattle.std.specs.List.{flat_map};
 ghost use Rattle.dk_wire.specs.Fields.{id_spelling};
-ghost use Rattle.dk_model.specs.Spellings.{list_spelling};
+ghost use Rattle.dk_wire.specs.Lists.{list_spelling};
 ghost use Rattle.sword_world.specs.Carried.{carried_bytes};
 
 use dk_types::{Blob, Listed, Name, NoMemory, ObjectId};
@@ -38,6 +38,7 @@ fn put_each(writer: &mut Writer, ids: &[ObjectId]) -> Result<(), NoMemory>
     Ok(())
 }
 
+#[tactic(auto, unfolding(dk_wire::specs::Lists::list_spelling))]
 fn put_ids(writer: &mut Writer, ids: &[ObjectId]) -> Result<(), NoMemory>
     requires { length ids.now ≤ 65535 }
     ensures { OnOk result (writer.new ≡ writer.old ++ list_spelling id_spelling ids.now) }
