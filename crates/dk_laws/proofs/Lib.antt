@@ -1,0 +1,4 @@
+pub mod NumberedMaps
+pub mod OneWorld
+pub mod Numbers
+pub mod ClaimedOnce
