@@ -2,3 +2,4 @@ pub mod NumberedMaps
 pub mod OneWorld
 pub mod Numbers
 pub mod ClaimedOnce
+pub mod EffectsMade
