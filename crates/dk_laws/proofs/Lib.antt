@@ -3,3 +3,4 @@ pub mod OneWorld
 pub mod Numbers
 pub mod ClaimedOnce
 pub mod EffectsMade
+pub mod Handed
