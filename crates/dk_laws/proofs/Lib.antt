@@ -4,3 +4,4 @@ pub mod Numbers
 pub mod ClaimedOnce
 pub mod EffectsMade
 pub mod Handed
+pub mod Stamps
