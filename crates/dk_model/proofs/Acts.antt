@@ -1,5 +1,5 @@
 -- Lawful acts, and how they compose. A game's rules are shown lawful by the lemmas here and in `Operations`, one for each step, in the shape that the rules have.
-use Rattle.std.proofs.Common.{◌≡◌, ℕ, Bool, true, false, cond, if◌then◌else◌, Option, Some, None, List, Result, Ok, Err, refl, sym, ap, subst, ◌∙◌}
+use Rattle.std.proofs.Common.{◌≡◌, ℕ, ◌<◌, List, All, Bool, true, false, cond, if◌then◌else◌, Option, Some, None, Result, Ok, Err, refl, sym, ap, subst, ◌∙◌}
 use Rattle.dk_types.specs.declared.fault.AppFault.{AppFault}
 use Rattle.dk_types.specs.declared.fault.AppFault.TheVariants.{Refused}
 use Rattle.dk_types.specs.declared.number.ObjectId.{ObjectId}
@@ -15,6 +15,10 @@ use Rattle.dk_model.proofs.Fits.{fit_with, leaves_all, leaves_then}
 -- nothing is said of an answer
 abbrev pub Anything : {A : Type 0} → A → Type 0
 Anything x = Unit {0}
+
+-- bytes, each below 256
+abbrev pub AreBytes : List ℕ → Type 0
+AreBytes bytes = All (λ b. b < 256) bytes
 
 -- the id has a run's number and a place
 abbrev pub IsId : ObjectId → Type 0
@@ -142,5 +146,3 @@ lawful_looks look go Says h p = record {
         has = λ n f. q.has (n, h s f) f;
       };
 }
-
--- the rules of a game whose every job is lawful, where the job's fields are within their limits

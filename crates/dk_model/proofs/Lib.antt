@@ -3,3 +3,7 @@ pub mod Goings
 pub mod Fits
 pub mod Acts
 pub mod Operations
+pub mod Bytes
+pub mod Readings
+pub mod RecordFacts
+pub mod PlatformActs

@@ -20,11 +20,7 @@ use Rattle.dk_model.specs.Lawful.{IsFit, LeavesTasks}
 use Rattle.dk_model.proofs.Maps.{names_total, keys_total, exact_keys, get-with_value_cases, not_both, some_is}
 use Rattle.dk_model.proofs.Goings.{goes_sending, goes_object, goes_name, goes_task}
 use Rattle.dk_model.proofs.Fits.{fit_with, IsPlaced, fit_object, fit_name, IsPlacedTask, fit_task}
-use Rattle.dk_model.proofs.Acts.{Anything, IsId, IsKey, HasIfOk, LawfulAt, IsLawful, stays, refused, at_if, lawful_looks, lawful_needs, lawful_refuse, lawful_if_at}
-
--- bytes, each below 256
-abbrev pub AreBytes : List ℕ → Type 0
-AreBytes bytes = All (λ b. b < 256) bytes
+use Rattle.dk_model.proofs.Acts.{Anything, AreBytes, IsId, IsKey, HasIfOk, LawfulAt, IsLawful, stays, refused, at_if, lawful_looks, lawful_needs, lawful_refuse, lawful_if_at}
 
 same_left : {X : Type 0} (o : Option X) (x y : X) → o ≡ Some x → o ≡ Some y → y ≡ x
 same_left o x y e g = some_is y x (sym g ∙ e)
