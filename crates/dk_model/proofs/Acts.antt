@@ -1,10 +1,9 @@
 -- Lawful acts, and how they compose. A game's rules are shown lawful by the lemmas here and in `Operations`, one for each step, in the shape that the rules have.
-use Rattle.std.proofs.Common.{◌≡◌, ℕ, ◌<◌, List, All, Bool, true, false, cond, if◌then◌else◌, Option, Some, None, Result, Ok, Err, refl, sym, ap, subst, ◌∙◌}
+use Rattle.std.proofs.Common.{◌≡◌, ℕ, ◌<◌, List, All, Bool, true, false, if◌then◌else◌, Result, Ok, Err, refl}
 use Rattle.dk_types.specs.declared.fault.AppFault.{AppFault}
 use Rattle.dk_types.specs.declared.fault.AppFault.TheVariants.{Refused}
 use Rattle.dk_types.specs.declared.number.ObjectId.{ObjectId}
 use Rattle.dk_types.specs.declared.number.TaskKey.{TaskKey}
-use Rattle.dk_types.specs.Names.{IsName}
 use Rattle.dk_model.specs.declared.mode.Mode.{Mode}
 use Rattle.dk_model.specs.Validity.{IsNumbered}
 use Rattle.dk_model.specs.Runs.{Run, Act, give, and_then, within, carry_on, refuse}

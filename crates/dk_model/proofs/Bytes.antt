@@ -1,6 +1,6 @@
 -- What is spelled is bytes, and a name's bytes are.
-use Rattle.std.proofs.Common.{◌≡◌, ℕ, zero, suc, ◌+◌, ◌/◌, ◌%◌, ◌^◌, ◌<◌, ◌≤◌, Bool, true, false, cond, ◌&&◌, nat_lt, All, List, [], ◌∷◌, ◌++◌, length, take, flat_map, IsUtf8, IsAscii, refl, sym, ap, subst, ◌∙◌, arith, length-append, take_all, ltb-true, ltb-false, inl, inr}
-use lib.Utf8.{scalar, scalars, encode, encodes, scalar_fits, scalar_cases}
+use Rattle.std.proofs.Common.{◌≡◌, ℕ, zero, suc, ◌+◌, ◌/◌, ◌%◌, ◌^◌, ◌<◌, ◌≤◌, Bool, true, false, cond, ◌&&◌, nat_lt, All, List, [], ◌∷◌, ◌++◌, length, take, flat_map, IsUtf8, refl, subst, arith, length-append, take_all, ltb-true, ltb-false, inl, inr}
+use lib.Utf8.{scalar, scalars, encode, encodes, scalar_cases}
 use Rattle.std.specs.Str.{is_utf8}
 use Rattle.std.specs.Str.Lossy.{valid_len_up_to, utf8_valid_len}
 use Rattle.std.specs.Int.{byte_at, bytes_high_first}

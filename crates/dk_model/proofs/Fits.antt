@@ -1,7 +1,6 @@
 -- A fit run stays fit where one thing of it is written within the limits.
-use Rattle.std.proofs.Common.{◌≡◌, ℕ, ◌+◌, ◌<◌, ◌≤◌, Option, Some, None, List, refl, sym, ap, subst, ◌∙◌, inl, inr, arith}
+use Rattle.std.proofs.Common.{◌≡◌, ℕ, ◌<◌, ◌≤◌, Option, Some, None, List, refl, sym, subst, ◌∙◌, inl, inr, arith}
 use Rattle.std.specs.FinMap.{get}
-use Rattle.dk_types.specs.declared.number.RunNo.{RunNo}
 use Rattle.dk_types.specs.declared.number.ConnNo.{ConnNo}
 use Rattle.dk_types.specs.declared.number.ObjectId.{ObjectId}
 use Rattle.dk_types.specs.declared.number.TaskKey.{TaskKey}
@@ -10,8 +9,8 @@ use Rattle.dk_types.specs.declared.job.Out.{Out}
 use Rattle.dk_types.specs.declared.limits.TheConstants.{OBJECTS_MOST_COUNT, TASKS_MOST_COUNT}
 use Rattle.dk_types.specs.Names.{IsName}
 use Rattle.dk_model.specs.declared.mode.Mode.{Mode}
-use Rattle.dk_model.specs.DurableWorlds.{DurableWorld, Task, with_value}
-use Rattle.dk_model.specs.Validity.{IsValid, IsCommitted, IsNumbered, IsObject, IsTask}
+use Rattle.dk_model.specs.DurableWorlds.{Task, with_value}
+use Rattle.dk_model.specs.Validity.{IsCommitted, IsNumbered, IsObject, IsTask}
 use Rattle.dk_model.specs.Runs.{Run, with_object, with_name, with_task}
 use Rattle.dk_model.specs.Lawful.{IsMade, GoesOn, IsFit, LeavesTasks}
 use Rattle.dk_model.proofs.Maps.{ids_total, exact_ids, names_total, exact_names, keys_total, exact_keys, get-with_value_cases, some_is}

@@ -7,3 +7,6 @@ pub mod Bytes
 pub mod Readings
 pub mod RecordFacts
 pub mod PlatformActs
+pub mod Works
+pub mod StepLaws
+pub mod StepValid

@@ -1,26 +1,24 @@
 -- Each operation on objects, names, tasks and messages is lawful.
-use Rattle.std.proofs.Common.{◌≡◌, ℕ, zero, suc, ◌+◌, ◌^◌, ◌<◌, ◌≤◌, Bool, true, false, cond, nat_le, nat_lt, ◌||◌, ◌==◌, All, Option, Some, None, List, [], ◌∷◌, length, Result, Ok, Err, refl, sym, ap, subst, ◌∙◌, arith, inl, inr, le_refl, ltb-false, leb-false, is_eq}
+use Rattle.std.proofs.Common.{◌≡◌, ℕ, ◌+◌, ◌^◌, ◌<◌, ◌≤◌, Bool, true, false, cond, nat_le, nat_lt, ◌||◌, ◌==◌, Option, Some, None, List, [], ◌∷◌, length, Ok, refl, sym, ap, subst, ◌∙◌, arith, inl, inr, le_refl, ltb-false, leb-false, is_eq}
 use Rattle.std.specs.declared.cmp.Ordering.{Ordering}
 use Rattle.std.specs.Cmp.{IsTotalOrder, tied_itself}
 use Rattle.std.specs.FinMap as map
-use Rattle.dk_types.specs.declared.fault.AppFault.{AppFault}
-use Rattle.dk_types.specs.declared.fault.AppFault.TheVariants.{Refused}
 use Rattle.dk_types.specs.declared.number.ConnNo.{ConnNo}
 use Rattle.dk_types.specs.declared.number.ObjectId.{ObjectId}
 use Rattle.dk_types.specs.declared.number.TaskKey.{TaskKey}
 use Rattle.dk_types.specs.declared.object.Object.{Object}
 use Rattle.dk_types.specs.declared.job.Out.{Out}
-use Rattle.dk_types.specs.declared.limits.TheConstants.{BODY_MOST_BYTES, OBJECTS_MOST_COUNT, TASKS_MOST_COUNT, MESSAGES_MOST_COUNT, DELAY_MOST_MS, PERIOD_MOST_MS}
+use Rattle.dk_types.specs.declared.limits.TheConstants.{OBJECTS_MOST_COUNT, TASKS_MOST_COUNT, MESSAGES_MOST_COUNT, DELAY_MOST_MS, PERIOD_MOST_MS}
 use Rattle.dk_types.specs.Names.{IsName, bytes_cmp}
 use Rattle.dk_model.specs.DurableWorlds.{Task, is_above, first_key, next_name}
-use Rattle.dk_model.specs.Validity.{IsValid, IsNumbered, IsObject, IsTask, IsBody}
+use Rattle.dk_model.specs.Validity.{IsObject, IsTask, IsBody}
 use Rattle.dk_model.specs.Runs as act
 use Rattle.dk_model.specs.Runs.{Run, Act, found, refuse, with_object, with_name, with_task}
-use Rattle.dk_model.specs.Lawful.{IsFit, LeavesTasks}
+use Rattle.dk_model.specs.Lawful.{IsFit}
 use Rattle.dk_model.proofs.Maps.{names_total, keys_total, exact_keys, get-with_value_cases, not_both, some_is}
 use Rattle.dk_model.proofs.Goings.{goes_sending, goes_object, goes_name, goes_task}
-use Rattle.dk_model.proofs.Fits.{fit_with, IsPlaced, fit_object, fit_name, IsPlacedTask, fit_task}
-use Rattle.dk_model.proofs.Acts.{Anything, AreBytes, IsId, IsKey, HasIfOk, LawfulAt, IsLawful, stays, refused, at_if, lawful_looks, lawful_needs, lawful_refuse, lawful_if_at}
+use Rattle.dk_model.proofs.Fits.{fit_with, fit_object, fit_name, fit_task}
+use Rattle.dk_model.proofs.Acts.{Anything, AreBytes, IsId, IsKey, HasIfOk, LawfulAt, IsLawful, stays, refused, at_if, lawful_refuse, lawful_if_at}
 
 same_left : {X : Type 0} (o : Option X) (x y : X) → o ≡ Some x → o ≡ Some y → y ≡ x
 same_left o x y e g = some_is y x (sym g ∙ e)

@@ -1,5 +1,5 @@
 -- Each of the platform's calls on sessions and channels is lawful.
-use Rattle.std.proofs.Common.{◌≡◌, ℕ, ◌+◌, ◌<◌, ◌^◌, arith, Bool, true, false, cond, if◌then◌else◌, All, not, ◌||◌, ◌==◌, nat_eq, nat_lt, is_some, map, filter, Option, Some, None, List, [], ◌∷◌, ◌++◌, length, Result, Ok, Err, refl, sym, ap, subst, ◌∙◌}
+use Rattle.std.proofs.Common.{◌≡◌, ℕ, ◌+◌, ◌<◌, ◌^◌, arith, Bool, true, false, cond, if◌then◌else◌, All, not, ◌||◌, ◌==◌, nat_eq, nat_lt, is_some, Option, Some, None, List, [], ◌∷◌, ◌++◌, length, refl}
 use Rattle.std.specs.FinMap as maps
 use Rattle.std.proofs.lemmas.List.Elements.{All-nil, All-push, All-filter}
 use Rattle.dk_types.specs.declared.number.ObjectId.{ObjectId}
@@ -9,8 +9,7 @@ use Rattle.dk_types.specs.declared.job.Out.{Out}
 use Rattle.dk_types.specs.declared.job.Out.TheVariants as out
 use Rattle.dk_types.specs.declared.limits.TheConstants.{MESSAGES_MOST_COUNT}
 use Rattle.dk_types.specs.Names.{IsName}
-use Rattle.dk_model.specs.Validity.{IsObject}
-use Rattle.dk_model.specs.Runs.{Run, Act, give, and_then, found, refuse, create, save, remove, bound, bind, unbind, send, is_too_long, NAME_NOT_BOUND, WRONG_KIND, TOO_LONG, NAME_EXISTS, BAD_BYTES}
+use Rattle.dk_model.specs.Runs.{Run, and_then, found, refuse, create, bind, is_too_long, NAME_NOT_BOUND, TOO_LONG, NAME_EXISTS, BAD_BYTES}
 use Rattle.dk_model.specs.Lawful.{IsFit}
 use Rattle.dk_model.specs.declared.records.SessionRecord.{SessionRecord}
 use Rattle.dk_model.specs.declared.records.ChannelRecord.{ChannelRecord}
@@ -18,7 +17,7 @@ use Rattle.dk_model.specs.declared.records.Delivery.{Delivery}
 use Rattle.dk_model.specs.Records.{SESSION_KIND, CHANNEL_KIND, session_bytes, session_of, channel_bytes, channel_of, session_name, channel_name, is_name_too_long}
 use Rattle.dk_model.specs.Platforms as does
 use Rattle.dk_model.specs.Platforms.{platform_bound, found_as, is_member, without_member, without_channel, same_session, same_name, is_sender, numbered}
-use Rattle.dk_model.proofs.Acts.{Anything, AreBytes, IsId, HasIfOk, IsLawful, stays, refused, at_if, lawful_then, lawful_give, lawful_done, lawful_refuse, lawful_needs, lawful_if, lawful_if_at, lawful_looks}
+use Rattle.dk_model.proofs.Acts.{Anything, AreBytes, IsId, HasIfOk, IsLawful, stays, refused, at_if, lawful_then, lawful_give, lawful_done, lawful_refuse, lawful_if, lawful_if_at, lawful_looks}
 use Rattle.dk_model.proofs.Operations.{lawful_get, lawful_create, lawful_save, lawful_remove, lawful_bound, lawful_bind, lawful_unbind, lawful_send, sent_at}
 use Rattle.dk_model.proofs.RecordFacts.{HasChannels, HasMembers, IsNamed, session_fits, channel_fits, bytes_of_session, bytes_of_channel, session_named, channel_named}
 
@@ -128,18 +127,20 @@ lawful_save_both a x b y why = lawful_if (is_too_long x || is_too_long y) (lawfu
 pub lawful_join : {Needs : Type 0} (name : List ℕ) (session : Session) → (Needs → IsName name × IsNamed session) → IsLawful Needs Anything (does.join name session)
 unfolding does.join
 lawful_join name session why = lawful_then (lawful_channel_under name) (λ c. lawful_then (lawful_own_record session) (λ r.
-    lawful_if (is_member session c.1.members) (lawful_done tt) (lawful_save_both c.0 (channel_bytes (record (c.1) { members = c.1.members ++ session ∷ [] })) r.0 (session_bytes (record (r.1) { channels = r.1.channels ++ name ∷ [] })) (λ n.
-    (bytes_of_channel (record (c.1) { members = c.1.members ++ session ∷ [] }) (All-push IsNamed c.1.members session n.0.0.1.1 (why n.0.0.0).1),
-    bytes_of_session (record (r.1) { channels = r.1.channels ++ name ∷ [] }) (All-push IsName r.1.channels name n.0.1.1 (why n.0.0.0).0))))))
+    lawful_if (is_member session c.1.members) (lawful_done tt) (lawful_save_both c.0 (channel_bytes (record (c.1) { members = c.1.members ++ session ∷ [] })) r.0 (session_bytes (record (r.1) { channels = r.1.channels ++ name ∷ [] })) (λ n. (
+      bytes_of_channel (record (c.1) { members = c.1.members ++ session ∷ [] }) (All-push IsNamed c.1.members session n.0.0.1.1 (why n.0.0.0).1),
+      bytes_of_session (record (r.1) { channels = r.1.channels ++ name ∷ [] }) (All-push IsName r.1.channels name n.0.1.1 (why n.0.0.0).0),
+    )))))
 
 -- `leave`
 pub lawful_leave : {Needs : Type 0} (name : List ℕ) (session : Session) → IsLawful Needs Anything (does.leave name session)
 unfolding does.leave
 lawful_leave name session = lawful_then (lawful_channel_under name) (λ c. lawful_then (lawful_own_record session) (λ r.
     lawful_if (is_member session c.1.members)
-    (lawful_save_both c.0 (channel_bytes (record (c.1) { members = without_member session c.1.members })) r.0 (session_bytes (record (r.1) { channels = without_channel name r.1.channels })) (λ n.
-    (bytes_of_channel (record (c.1) { members = without_member session c.1.members }) (All-filter (λ m. not (same_session session m)) IsNamed c.1.members n.0.0.1.1),
-    bytes_of_session (record (r.1) { channels = without_channel name r.1.channels }) (All-filter (λ c. not (same_name name c)) IsName r.1.channels n.0.1.1))))
+    (lawful_save_both c.0 (channel_bytes (record (c.1) { members = without_member session c.1.members })) r.0 (session_bytes (record (r.1) { channels = without_channel name r.1.channels })) (λ n. (
+      bytes_of_channel (record (c.1) { members = without_member session c.1.members }) (All-filter (λ m. not (same_session session m)) IsNamed c.1.members n.0.0.1.1),
+      bytes_of_session (record (r.1) { channels = without_channel name r.1.channels }) (All-filter (λ c. not (same_name name c)) IsName r.1.channels n.0.1.1),
+    )))
     (lawful_done tt)))
 
 lawful_leave_member : {Needs : Type 0} (name : List ℕ) (session : Session) → IsLawful Needs Anything (does.leave_member name session)
