@@ -17,7 +17,8 @@ use Rattle.dk_model.specs.Steps.{Stepped, step}
 use Rattle.dk_model.specs.Events.{Meaning, step_of}
 use Rattle.dk_model.specs.Successors.{after_event, after_events, stepped_at, step_by}
 use Rattle.dk_model.specs.Sights.{same_key, same_item, stamped_by, stamp_from, stamp, seen_at, seen_in, seen}
-use Rattle.dk_model.specs.Lawful.{Lacks}
+use Rattle.dk_model.specs.Lawful.{Lacks, AreLawful}
+use Rattle.dk_model.proofs.StepLaws.{step_goes_on}
 use Rattle.dk_laws.proofs.OneWorld.{after_events-append}
 use Rattle.dk_laws.proofs.Numbers.{left_by, event_durable}
 use Rattle.dk_laws.proofs.EffectsMade.{numbers_told, ids_told, names_told}
@@ -67,7 +68,7 @@ none_there : {X : Type 0} (o : Option X) → is_some o ≡ false → o ≡ None
 none_there None h = refl
 none_there (Some x) h = cc
 
-module _ (rules : Meaning) (keeps : (job : Job) (run : RunNo) (at : ℕ) (d : DurableWorld) → Keeps d (step rules job run at d)) where
+module _ (rules : Meaning) (lawful : AreLawful rules) where
   -- what an event steps keeps what it does not list
   abbrev IsKept : DurableWorld → Option Stepped → Type 0
   IsKept d None = Unit {0}
@@ -75,7 +76,8 @@ module _ (rules : Meaning) (keeps : (job : Job) (run : RunNo) (at : ℕ) (d : Du
 
   stepped_kept : (w : World) (run : RunNo) (claim : Option Claim) → IsKept w.durable (stepped_at rules w run claim)
   stepped_kept w run None = tt
-  stepped_kept w run (Some claim) = keeps claim.job run claim.at w.durable
+  stepped_kept w run (Some claim) =
+      let g = step_goes_on rules lawful claim.job run claim.at w.durable in record { commits = g.commits; objects = g.objects; names = g.names; tasks = g.tasks }
 
   event_kept : (w : World) (e : Event) → IsKept w.durable (step_by rules w e)
   event_kept w (event.Commit pass run seq outcome) = stepped_kept w run (get w.claims run)
@@ -210,5 +212,5 @@ module _ (rules : Meaning) (keeps : (job : Job) (run : RunNo) (at : ℕ) (d : Du
       let world = after_events-append rules o earlier later in
       let stamps = stamp_from-append o o.durable.commits earlier later item in
       let sight : seen_in (after_events rules mid later).durable (stamp_from rules mid n later item) item ≡ seen_in mid.durable n item =
-          sym (ap (λ (x : World). seen_in x.durable (stamp_from rules mid n later item) item) world ) ∙ sym (ap (λ m. seen_in (after_events rules o (earlier ++ later)).durable m item) stamps) ∙ e in
+      sym (ap (λ (x : World). seen_in x.durable (stamp_from rules mid n later item) item) world) ∙ sym (ap (λ m. seen_in (after_events rules o (earlier ++ later)).durable m item) stamps) ∙ e in
       ap (λ (x : World). answer x.durable item) world ∙ alike mid n (stamp_most o earlier item) later item sight
