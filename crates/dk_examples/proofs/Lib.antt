@@ -1,0 +1,3 @@
+pub mod MadeMaps
+pub mod Running
+pub mod TimerRuns
