@@ -1,3 +1,5 @@
 pub mod MadeMaps
 pub mod Running
 pub mod TimerRuns
+pub mod SessionRuns
+pub mod ChannelRuns

@@ -1,3 +1,6 @@
 pub mod Worked
 pub mod TimerGame
 pub mod TimerRows
+pub mod SessionRows
+pub mod ChannelGame
+pub mod ChannelRows
