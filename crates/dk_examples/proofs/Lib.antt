@@ -3,3 +3,4 @@ pub mod Running
 pub mod TimerRuns
 pub mod SessionRuns
 pub mod ChannelRuns
+pub mod OutboxRuns

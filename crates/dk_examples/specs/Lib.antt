@@ -4,3 +4,4 @@ pub mod TimerRows
 pub mod SessionRows
 pub mod ChannelGame
 pub mod ChannelRows
+pub mod OutboxRows
