@@ -4,3 +4,4 @@ pub mod TimerRuns
 pub mod SessionRuns
 pub mod ChannelRuns
 pub mod OutboxRuns
+pub mod SwordRuns

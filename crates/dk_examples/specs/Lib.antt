@@ -5,3 +5,4 @@ pub mod SessionRows
 pub mod ChannelGame
 pub mod ChannelRows
 pub mod OutboxRows
+pub mod SwordRows
