@@ -5,3 +5,6 @@ pub mod ClaimedOnce
 pub mod EffectsMade
 pub mod Handed
 pub mod Stamps
+pub mod Entries
+pub mod Picked
+pub mod OpenClaims
