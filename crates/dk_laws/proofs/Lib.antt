@@ -8,3 +8,6 @@ pub mod Stamps
 pub mod Entries
 pub mod Picked
 pub mod OpenClaims
+pub mod Sound
+pub mod SoundConnections
+pub mod SoundClaims
