@@ -11,3 +11,7 @@ pub mod OpenClaims
 pub mod Sound
 pub mod SoundConnections
 pub mod SoundClaims
+pub mod SoundCommits
+pub mod SoundEvents
+pub mod SoundOpenings
+pub mod SoundHistories

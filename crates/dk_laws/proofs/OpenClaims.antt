@@ -1,6 +1,6 @@
 -- How many open claims have a number below another.
 use Rattle.std.proofs.Common.{◌≡◌, ℕ, zero, suc, ◌+◌, ◌-◌, ◌<◌, ◌≤◌, max, Option, Some, None, refl, sym, ap, subst, ◌∙◌, arith, inl, inr}
-use Rattle.std.specs.FinMap.{FinMap, get, insert, remove, empty, get-empty}
+use Rattle.std.specs.FinMap.{FinMap, get, insert, remove}
 use Rattle.std.proofs.lemmas.Bool.{cases_lt}
 use Rattle.std.proofs.lemmas.Bool.Decides.{eqb_tells}
 use Rattle.dk_types.specs.declared.number.RunNo.{RunNo}
@@ -88,7 +88,7 @@ open_inserted claims k claim zero le = refl
 open_inserted claims k claim (suc n) le =
     let h = open_inserted claims k claim n (omega arith) in
     let same : one_if (get (insert claims (record { 0 = k }) claim) (record { 0 = n })) ≡ one_if (get claims (record { 0 = n })) =
-        ap one_if (get-insert_other runs_total exact_runs claims (record { 0 = k }) claim (record { 0 = n }) (numbers_apart (record { 0 = k }) n (λ e. omega (arith, e, le)))) in
+    ap one_if (get-insert_other runs_total exact_runs claims (record { 0 = k }) claim (record { 0 = n }) (numbers_apart (record { 0 = k }) n (λ e. omega (arith, e, le)))) in
     omega (arith, h, same)
 
 -- without claims there are none

@@ -1,7 +1,7 @@
 -- What is true of every job that can be run is true of the one that is picked.
-use Rattle.std.proofs.Common.{◌≡◌, ℕ, ◌≤◌, Bool, true, false, cond, ◌&&◌, not, nat_le, ◌==◌, if◌then◌else◌, Option, Some, None, List, [], ◌∷◌, refl, sym, ap, subst, ◌∙◌, leb-true}
+use Rattle.std.proofs.Common.{◌≡◌, ℕ, ◌≤◌, Bool, true, false, ◌&&◌, not, nat_le, ◌==◌, if◌then◌else◌, Option, Some, None, List, [], ◌∷◌, refl, subst, leb-true}
 use Rattle.std.specs.FinMap.{get, entries}
-use Rattle.std.specs.List.{AllByRecursion, filter, filter_map}
+use Rattle.std.specs.List.{AllByRecursion}
 use Rattle.dk_types.specs.declared.number.ConnNo.{ConnNo}
 use Rattle.dk_types.specs.declared.number.TaskKey.{TaskKey}
 use Rattle.dk_types.specs.declared.job.Job.{Job}

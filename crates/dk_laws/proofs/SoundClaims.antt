@@ -1,9 +1,9 @@
 -- A claim of a job that can be run leaves the world sound, and so does one that goes.
-use Rattle.std.proofs.Common.{◌≡◌, ℕ, ◌+◌, ◌<◌, ◌≤◌, Bool, true, false, cond, ◌||◌, map, Option, Some, None, List, [], ◌∷◌, refl, sym, ap, subst, ◌∙◌, arith, inl, inr, is_eq}
+use Rattle.std.proofs.Common.{◌≡◌, ℕ, ◌+◌, ◌<◌, Bool, true, false, cond, ◌||◌, map, Some, List, [], ◌∷◌, refl, sym, ap, subst, ◌∙◌, arith, inl, inr, is_eq}
 use Rattle.std.specs.Cmp.{tied_itself}
 use Rattle.std.specs.List.{AllByRecursion, list_any}
 use Rattle.std.specs.Ordering.{eq_by_cmp}
-use Rattle.std.specs.FinMap.{get, insert, remove, find, entries, values, get-entries}
+use Rattle.std.specs.FinMap.{get, insert, remove, find, entries, get-entries}
 use Rattle.dk_types.specs.declared.number.RunNo.{RunNo}
 use Rattle.dk_types.specs.declared.number.ConnNo.{ConnNo}
 use Rattle.dk_types.specs.declared.number.TaskKey.{TaskKey}
@@ -14,11 +14,10 @@ use Rattle.dk_types.specs.declared.limits.TheConstants.{NUMBERS_END}
 use Rattle.dk_model.specs.declared.waiting.Waiting.{Waiting}
 use Rattle.dk_model.specs.declared.waiting.Waiting.TheVariants as waits
 use Rattle.dk_model.specs.Keys.{run_cmp, key_cmp}
-use Rattle.dk_model.specs.DurableWorlds.{DurableWorld, Task}
 use Rattle.dk_model.specs.Validity.{next_of}
 use Rattle.dk_model.specs.Worlds.{World, Connection, Claim}
 use Rattle.dk_model.specs.Deliveries.{conn_of}
-use Rattle.dk_model.specs.Picks.{is_claimed, is_task_of, job_of, task_job, pick}
+use Rattle.dk_model.specs.Picks.{is_claimed, is_task_of, job_of, pick}
 use Rattle.dk_model.specs.Events.{with_claim, without_claim}
 use Rattle.dk_model.specs.Finishes.{HasOwnTask}
 use Rattle.dk_model.specs.Lawful.{IsJob}
@@ -104,7 +103,7 @@ module _ (w : World) (s : IsSound w) where
   pick_claimable j e = picked (IsClaimable w) w record { job = tt; due = tt; own = tt; spent = λ key own. absurd own; alone = λ key other c own. absurd own } tasks_claimable inputs_claimable j e
 
 -- one more number is drawn, for a claim
-spent_insert : (claims : TheClaims) (next : ℕ) (claim : Claim) (n : ℕ) → IsSpent claims next n → IsSpent (insert claims (record { 0 = next }) claim) (next + 1) n
+pub spent_insert : (claims : TheClaims) (next : ℕ) (claim : Claim) (n : ℕ) → IsSpent claims next n → IsSpent (insert claims (record { 0 = next }) claim) (next + 1) n
 spent_insert claims next claim n p = let drawn = p.drawn in record {
   drawn = omega arith;
   closed = λ run c e is. elim (get-insert_cases runs_total exact_runs claims (record { 0 = next }) claim run c e) [

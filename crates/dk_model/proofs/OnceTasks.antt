@@ -1,5 +1,5 @@
 -- A once-task is no longer pending after a run of it.
-use Rattle.std.proofs.Common.{◌≡◌, ℕ, Bool, true, false, if◌then◌else◌, Option, Some, None, List, Result, Ok, Err, refl, sym, ap, ◌∙◌}
+use Rattle.std.proofs.Common.{◌≡◌, ℕ, Bool, if◌then◌else◌, Option, Some, None, List, Result, Ok, Err, refl, ◌∙◌}
 use Rattle.std.specs.FinMap.{get}
 use Rattle.dk_types.specs.declared.fault.AppFault.{AppFault}
 use Rattle.dk_types.specs.declared.number.RunNo.{RunNo}
@@ -9,9 +9,9 @@ use Rattle.dk_types.specs.declared.job.Job.TheVariants as job
 use Rattle.dk_model.specs.declared.mode.Mode.TheVariants.{Game}
 use Rattle.dk_model.specs.DurableWorlds.{DurableWorld, Task}
 use Rattle.dk_model.specs.Runs.{Run, Act, begun, give, and_then, carry_on, within}
-use Rattle.dk_model.specs.Steps.{step, work, own_found, own_task, kept_by}
+use Rattle.dk_model.specs.Steps.{step, work, own_found, own_task}
 use Rattle.dk_model.specs.Events.{Meaning}
-use Rattle.dk_model.specs.Lawful.{GoesOn, IsJob, AlwaysGoesOn, AreLawful}
+use Rattle.dk_model.specs.Lawful.{GoesOn, AlwaysGoesOn, AreLawful}
 use Rattle.dk_model.proofs.Maps.{keys_total, get-remove_here}
 use Rattle.dk_model.proofs.Goings.{goes_nowhere}
 use Rattle.dk_model.proofs.Acts.{Anything, IsLawful, goes_on_of, lawful_done, lawful_if, lawful_needs, lawful_within}

@@ -17,7 +17,7 @@ use Rattle.dk_model.specs.DurableWorlds.{DurableWorld, Task, task_answer, last_w
 use Rattle.dk_model.specs.Runs.{Run, begun, within}
 use Rattle.dk_model.specs.Steps.{Stepped, step, work, kept_by, failed, ended, is_too_large}
 use Rattle.dk_model.specs.Events.{Meaning}
-use Rattle.dk_model.specs.Lawful.{Lacks, GoesOn, IsFit, IsJob, AreLawful}
+use Rattle.dk_model.specs.Lawful.{Lacks, GoesOn, IsJob, AreLawful}
 use Rattle.dk_model.proofs.Maps.{some_is}
 use Rattle.dk_model.proofs.Goings.{goes_nowhere}
 use Rattle.dk_model.proofs.Acts.{lawful_within, lawful_needs}
