@@ -5,3 +5,5 @@ pub mod Lists
 pub mod Platform
 pub mod JobParts
 pub mod Sendings
+pub mod NetEffects
+pub mod Writings

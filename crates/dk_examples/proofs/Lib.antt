@@ -1,0 +1,6 @@
+pub mod MadeMaps
+pub mod Running
+pub mod TimerRuns
+pub mod SessionRuns
+pub mod ChannelRuns
+pub mod OutboxRuns
