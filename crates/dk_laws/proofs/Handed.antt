@@ -1,9 +1,9 @@
 -- What was handed to a connection and what waits for it is what the commits sent to it.
-use Rattle.std.proofs.Common.{◌≡◌, ℕ, zero, suc, ◌+◌, ◌<◌, ◌≤◌, ◌==◌, Bool, true, false, cond, not, ◌&&◌, ◌||◌, nat_eq, if◌then◌else◌, take, drop, length, Option, Some, None, List, [], ◌∷◌, ◌++◌, ◌⊎◌, inl, inr, refl, sym, ap, subst, ◌∙◌, arith, append_assoc}
+use Rattle.std.proofs.Common.{◌≡◌, ℕ, zero, suc, ◌==◌, Bool, true, false, cond, not, ◌&&◌, ◌||◌, nat_eq, if◌then◌else◌, take, drop, length, Option, Some, None, List, [], ◌∷◌, ◌++◌, inl, inr, refl, sym, ap, subst, ◌∙◌, arith, append_assoc}
 use Rattle.std.specs.Option.{option_map}
 use Rattle.std.specs.FinMap.{get, insert, empty, get-empty}
 use Rattle.std.proofs.lemmas.List.{append-nil, take-append-drop}
-use Rattle.std.proofs.lemmas.Bool.Decides.{eqb_tells, leb_tells}
+use Rattle.std.proofs.lemmas.Bool.Decides.{eqb_tells}
 use Rattle.dk_types.specs.declared.number.RunNo.{RunNo}
 use Rattle.dk_types.specs.declared.number.ConnNo.{ConnNo}
 use Rattle.dk_types.specs.declared.job.Out.{Out}
@@ -23,7 +23,7 @@ use Rattle.dk_model.specs.Keys.{conn_cmp}
 use Rattle.dk_model.specs.DurableWorlds.{DurableWorld}
 use Rattle.dk_model.specs.Worlds.{World, Connection, Claim, new_connection}
 use Rattle.dk_model.specs.Deliveries.{Connections, change_connection, conn_of, for_conn, input_left, cut_off, is_full, with_out, with_outs, takes, closed_by, close_off, with_closed, ended_by, delivered, is_done, without_done}
-use Rattle.dk_model.specs.Events.{Meaning, Happens, swept, with_connection, with_input, with_claim, without_claim, committed, with_handed, ticked, step_of, put_last, outbox_at, outbox}
+use Rattle.dk_model.specs.Events.{Meaning, Happens, swept, with_connection, with_input, with_claim, committed, with_handed, step_of, put_last, outbox_at, outbox}
 use Rattle.dk_model.specs.Histories.{Leads}
 use Rattle.dk_model.specs.Successors.{after_connect, after_post, after_claim, after_commit, after_event}
 use Rattle.dk_model.specs.Openings.{opening, counting, with_sessions, ended_connection}

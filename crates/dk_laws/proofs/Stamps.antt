@@ -1,5 +1,5 @@
 -- Where an item is seen alike at two times, it has one answer.
-use Rattle.std.proofs.Common.{◌≡◌, ℕ, ◌+◌, ◌<◌, ◌≤◌, Bool, true, false, cond, ◌&&◌, ◌||◌, ◌⊎◌, inl, inr, is_some, if◌then◌else◌, Option, Some, None, List, [], ◌∷◌, ◌++◌, refl, sym, ap, subst, ◌∙◌, arith}
+use Rattle.std.proofs.Common.{◌≡◌, ℕ, ◌+◌, ◌<◌, ◌≤◌, Bool, true, false, ◌||◌, ◌⊎◌, inl, inr, is_some, if◌then◌else◌, Option, Some, None, List, [], ◌∷◌, ◌++◌, refl, sym, ap, subst, ◌∙◌, arith}
 use Rattle.std.specs.List.{list_any}
 use Rattle.std.specs.FinMap.{get}
 use Rattle.dk_types.specs.declared.number.RunNo.{RunNo}
@@ -7,16 +7,14 @@ use Rattle.dk_types.specs.declared.number.ObjectId.{ObjectId}
 use Rattle.dk_types.specs.declared.number.TaskKey.{TaskKey}
 use Rattle.dk_types.specs.declared.item.Item.{Item}
 use Rattle.dk_types.specs.declared.item.Item.TheVariants as ask
-use Rattle.dk_types.specs.declared.item.Answer.{Answer}
-use Rattle.dk_types.specs.declared.job.Job.{Job}
 use Rattle.dk_types.specs.declared.event.Event.{Event}
 use Rattle.dk_types.specs.declared.event.Event.TheVariants as event
-use Rattle.dk_model.specs.DurableWorlds.{DurableWorld, Task, object_answer, name_answer, task_answer, answer}
+use Rattle.dk_model.specs.DurableWorlds.{DurableWorld, object_answer, name_answer, task_answer, answer}
 use Rattle.dk_model.specs.Worlds.{World, Claim}
-use Rattle.dk_model.specs.Steps.{Stepped, step}
-use Rattle.dk_model.specs.Events.{Meaning, step_of}
+use Rattle.dk_model.specs.Steps.{Stepped}
+use Rattle.dk_model.specs.Events.{Meaning}
 use Rattle.dk_model.specs.Successors.{after_event, after_events, stepped_at, step_by}
-use Rattle.dk_model.specs.Sights.{same_key, same_item, stamped_by, stamp_from, stamp, seen_at, seen_in, seen}
+use Rattle.dk_model.specs.Sights.{same_item, stamped_by, stamp_from, stamp, seen_at, seen_in, seen}
 use Rattle.dk_model.specs.Lawful.{Lacks, AreLawful}
 use Rattle.dk_model.proofs.StepLaws.{step_goes_on}
 use Rattle.dk_laws.proofs.OneWorld.{after_events-append}

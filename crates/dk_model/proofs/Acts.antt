@@ -2,12 +2,13 @@
 use Rattle.std.proofs.Common.{◌≡◌, ℕ, ◌<◌, List, All, Bool, true, false, if◌then◌else◌, Result, Ok, Err, refl}
 use Rattle.dk_types.specs.declared.fault.AppFault.{AppFault}
 use Rattle.dk_types.specs.declared.fault.AppFault.TheVariants.{Refused}
+use Rattle.dk_types.specs.declared.job.Job.{Job}
 use Rattle.dk_types.specs.declared.number.ObjectId.{ObjectId}
 use Rattle.dk_types.specs.declared.number.TaskKey.{TaskKey}
 use Rattle.dk_model.specs.declared.mode.Mode.{Mode}
 use Rattle.dk_model.specs.Validity.{IsNumbered}
 use Rattle.dk_model.specs.Runs.{Run, Act, give, and_then, within, carry_on, refuse}
-use Rattle.dk_model.specs.Lawful.{GoesOn, IsFit, LeavesTasks, AlwaysGoesOn, KeepsFit}
+use Rattle.dk_model.specs.Lawful.{GoesOn, IsFit, LeavesTasks, AlwaysGoesOn, KeepsFit, IsJob, AreLawful}
 use Rattle.dk_model.proofs.Goings.{goes_nowhere, goes_then, goes_within}
 use Rattle.dk_model.proofs.Fits.{fit_with, leaves_all, leaves_then}
 
@@ -145,3 +146,7 @@ lawful_looks look go Says h p = record {
         has = λ n f. q.has (n, h s f) f;
       };
 }
+
+-- rules are lawful whose every job is an act that is lawful where the job's fields are within their limits
+pub lawful_rules : {rules : Job → Act (Unit {0})} → ((job : Job) → IsLawful (IsJob job) Anything (rules job)) → AreLawful rules
+lawful_rules h = record { goes_on = λ job. goes_on_of (h job); keeps = λ job is. keeps_of (h job) is }

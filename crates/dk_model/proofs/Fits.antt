@@ -143,13 +143,18 @@ fit_task s f key new made more most owes = let t = fit_tasks s f key new made mo
 pub leaves_all : (a b : Run) → ((key : TaskKey) → get b.world.tasks key ≡ get a.world.tasks key) → LeavesTasks a b
 leaves_all a b same key x y e f = some_is y x (sym f ∙ same key ∙ e)
 
--- of two steps of a fit run neither changes a task: what was taken away does not come back
-pub leaves_then : (a b c : Run) → IsFit a → GoesOn a b → GoesOn b c → LeavesTasks a b → LeavesTasks b c → LeavesTasks a c
-leaves_then a b c f p q first second key x y e g =
+-- of two steps of a fit run neither changes what stands under a key: what was taken away does not come back
+pub leaves_at : (a b c : Run) → IsFit a → GoesOn a b → GoesOn b c → (key : TaskKey) → ((x y : Task) → get a.world.tasks key ≡ Some x → get b.world.tasks key ≡ Some y → y ≡ x)
+    → ((x y : Task) → get b.world.tasks key ≡ Some x → get c.world.tasks key ≡ Some y → y ≡ x) → (x y : Task) → get a.world.tasks key ≡ Some x → get c.world.tasks key ≡ Some y → y ≡ x
+leaves_at a b c f p q key first second x y e g =
     elim (get b.world.tasks key) as (λ o. get b.world.tasks key ≡ o → y ≡ x) [
       | None ↦ λ none.
           let made : IsMade b.number b.tasks_made c.tasks_made key.run key.k = q.new_tasks key y none g in
           let below : key.k < a.tasks_made = f.tasks key x e (made.0 ∙ p.number) in
           let more = p.more_tasks in absurd (omega (arith, below, more, made.1))
-      | Some z ↦ λ some. second key z y some g ∙ first key x z e some
+      | Some z ↦ λ some. second z y some g ∙ first x z e some
     ] refl
+
+-- of two steps of a fit run neither changes a task
+pub leaves_then : (a b c : Run) → IsFit a → GoesOn a b → GoesOn b c → LeavesTasks a b → LeavesTasks b c → LeavesTasks a c
+leaves_then a b c f p q first second key = leaves_at a b c f p q key (first key) (second key)

@@ -10,3 +10,4 @@ pub mod PlatformActs
 pub mod Works
 pub mod StepLaws
 pub mod StepValid
+pub mod OnceTasks

@@ -1,5 +1,5 @@
 -- What a step of lawful rules does to the world.
-use Rattle.std.proofs.Common.{◌≡◌, ℕ, ◌+◌, ◌≤◌, true, false, cond, Some, None, List, Result, Ok, Err, subst}
+use Rattle.std.proofs.Common.{◌≡◌, ℕ, ◌+◌, ◌≤◌, true, false, cond, Some, None, List, Result, Ok, Err, sym, subst, ◌∙◌}
 use Rattle.std.specs.FinMap.{get}
 use Rattle.dk_types.specs.declared.fault.AppFault.{AppFault}
 use Rattle.dk_types.specs.declared.fault.AppFault.TheVariants.{TooLarge}
@@ -17,10 +17,11 @@ use Rattle.dk_model.specs.DurableWorlds.{DurableWorld, Task, task_answer, last_w
 use Rattle.dk_model.specs.Runs.{Run, begun, within}
 use Rattle.dk_model.specs.Steps.{Stepped, step, work, kept_by, failed, ended, is_too_large}
 use Rattle.dk_model.specs.Events.{Meaning}
-use Rattle.dk_model.specs.Lawful.{Lacks, GoesOn, IsFit, IsJob, AreLawful}
+use Rattle.dk_model.specs.Lawful.{Lacks, GoesOn, IsJob, AreLawful}
+use Rattle.dk_model.proofs.Maps.{some_is}
 use Rattle.dk_model.proofs.Goings.{goes_nowhere}
 use Rattle.dk_model.proofs.Acts.{lawful_within, lawful_needs}
-use Rattle.dk_model.proofs.Works.{SteadyAt, IsDueBy, own_steady, work_steady, game_lawful}
+use Rattle.dk_model.proofs.Works.{SteadyAt, IsDueBy, IsOwnKey, own_steady, work_steady, game_lawful}
 
 -- a step is one commit of the run: it keeps what it does not list, and what is new is of the run's own
 pub record StepGoesOn (d : DurableWorld) (run : RunNo) (s : Stepped) : Type 0 where
@@ -32,18 +33,22 @@ pub record StepGoesOn (d : DurableWorld) (run : RunNo) (s : Stepped) : Type 0 wh
   pub new_objects : (id : ObjectId) (object : Object) → get d.objects id ≡ None → get s.world.objects id ≡ Some object → id.run ≡ run
   pub new_tasks : (key : TaskKey) (task : Task) → get d.tasks key ≡ None → get s.world.tasks key ≡ Some task → key.run ≡ run
 
+nothing_kept : {Needs : Type 0} {Own : TaskKey → Type 0} (s : Run) → SteadyAt {A = Unit {0}} Needs Own s (Ok tt, s)
+nothing_kept s = record { goes = goes_nowhere s; fit = λ n f. f; leaves = λ n f key x y other e g. some_is y x (sym g ∙ e) }
+
 -- what a run leaves of its own task, whatever it does then
-pub kept_steady : (j : Job) (s : Run) → GoesOn s (kept_by j s) × (IsJob j × IsDueBy j s.at → IsFit s → IsFit (kept_by j s))
+pub kept_steady : (j : Job) (s : Run) → SteadyAt {A = Unit {0}} (IsJob j × IsDueBy j s.at) (IsOwnKey j) s (Ok tt, kept_by j s)
 kept_steady (job.Task key due period kind arg) s =
-    let p = own_steady {Needs = IsJob (job.Task key due period kind arg) × (due ≤ s.at)} key due period s (λ n. (n.0.1.period, n.1)) in (p.goes, p.fit)
-kept_steady job.Initialize s = (goes_nowhere s, λ _ f. f)
-kept_steady (job.Login conn name) s = (goes_nowhere s, λ _ f. f)
-kept_steady (job.Message conn name body) s = (goes_nowhere s, λ _ f. f)
-kept_steady (job.Channel conn name channel body) s = (goes_nowhere s, λ _ f. f)
-kept_steady (job.Disconnect conn name graceful) s = (goes_nowhere s, λ _ f. f)
+    let p = own_steady {Needs = IsJob (job.Task key due period kind arg) × (due ≤ s.at)} key due period s (λ n. (n.0.1.period, n.1)) in
+    record { goes = p.goes; fit = p.fit; leaves = p.leaves }
+kept_steady job.Initialize s = nothing_kept s
+kept_steady (job.Login conn name) s = nothing_kept s
+kept_steady (job.Message conn name body) s = nothing_kept s
+kept_steady (job.Channel conn name channel body) s = nothing_kept s
+kept_steady (job.Disconnect conn name graceful) s = nothing_kept s
 
 -- what lawful rules' part and the platform's do from a run's start
-pub works : (rules : Meaning) → AreLawful rules → (j : Job) (run : RunNo) (at : ℕ) (d : DurableWorld) → SteadyAt (IsJob j × IsDueBy j at) (begun run at d) (work j (within Game (rules j)) (begun run at d))
+pub works : (rules : Meaning) → AreLawful rules → (j : Job) (run : RunNo) (at : ℕ) (d : DurableWorld) → SteadyAt (IsJob j × IsDueBy j at) (IsOwnKey j) (begun run at d) (work j (within Game (rules j)) (begun run at d))
 works rules lawful j run at d = work_steady j (within Game (rules j)) (begun run at d) (λ n. n) (lawful_within Game (lawful_needs (λ n. n.0) (game_lawful rules lawful j)))
 
 -- what becomes of a run where it ends, of which it is said already
@@ -83,5 +88,5 @@ pub step_goes_on : (rules : Meaning) → AreLawful rules → (j : Job) (run : Ru
 step_goes_on rules lawful j run at d =
     let start = begun run at d in
     let end = work j (within Game (rules j)) start in
-    let all = ended_has (Stepping d run) j d start end.0 end.1 (stepping run at d (kept_by j start) (kept_steady j start).0) (stepping run at d end.1 (works rules lawful j run at d).goes) in
+    let all = ended_has (Stepping d run) j d start end.0 end.1 (stepping run at d (kept_by j start) (kept_steady j start).goes) (stepping run at d end.1 (works rules lawful j run at d).goes) in
     record { commits = all.0; last = all.1; objects = all.2; names = all.3; tasks = all.4; new_objects = all.5; new_tasks = all.6 }

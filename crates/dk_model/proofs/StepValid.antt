@@ -1,10 +1,12 @@
 -- A step of lawful rules keeps a durable world valid.
 use Rattle.std.proofs.Common.{◌≡◌, ℕ, ◌+◌, ◌<◌, ◌≤◌, Option, Some, None, arith}
+use Rattle.std.specs.FinMap.{get}
 use Rattle.dk_types.specs.declared.number.RunNo.{RunNo}
+use Rattle.dk_types.specs.declared.number.TaskKey.{TaskKey}
 use Rattle.dk_types.specs.declared.job.Job.{Job}
 use Rattle.dk_types.specs.declared.limits.TheConstants.{NUMBERS_END, MOMENT_MOST_MS}
 use Rattle.dk_model.specs.declared.mode.Mode.TheVariants.{Game}
-use Rattle.dk_model.specs.DurableWorlds.{DurableWorld, last_with}
+use Rattle.dk_model.specs.DurableWorlds.{DurableWorld, Task, last_with}
 use Rattle.dk_model.specs.Validity.{IsValid, IsCommitted, next_of}
 use Rattle.dk_model.specs.Runs.{begun, within}
 use Rattle.dk_model.specs.Steps.{step, work}
@@ -12,7 +14,7 @@ use Rattle.dk_model.specs.Events.{Meaning}
 use Rattle.dk_model.specs.Finishes.{IsNew}
 use Rattle.dk_model.specs.Lawful.{IsFit, IsJob, AreLawful}
 use Rattle.dk_model.proofs.Maps.{not_both}
-use Rattle.dk_model.proofs.Works.{IsDueBy}
+use Rattle.dk_model.proofs.Works.{IsDueBy, IsOwnKey}
 use Rattle.dk_model.proofs.StepLaws.{kept_steady, works, ended_has}
 
 -- what was committed is committed still
@@ -67,4 +69,14 @@ step_valid rules lawful j run at d v ready =
     let start = begun run at d in
     let end = work j (within Game (rules j)) start in
     let fit = begun_fit j run at d v ready in
-    ended_has (λ world touched. IsValid world) j d start end.0 end.1 ((kept_steady j start).1 (ready.job, ready.due) fit).world ((works rules lawful j run at d).fit (ready.job, ready.due) fit).world
+    ended_has (λ world touched. IsValid world) j d start end.0 end.1 ((kept_steady j start).fit (ready.job, ready.due) fit).world ((works rules lawful j run at d).fit (ready.job, ready.due) fit).world
+
+-- and leaves each task that stands before and after, but for the job's own
+pub step_leaves : (rules : Meaning) → AreLawful rules → (j : Job) (run : RunNo) (at : ℕ) (d : DurableWorld) → IsValid d → IsReady j run at d → (key : TaskKey) (before after : Task)
+    → (IsOwnKey j key → ⊥) → get d.tasks key ≡ Some before → get (step rules j run at d).world.tasks key ≡ Some after → after ≡ before
+step_leaves rules lawful j run at d v ready key before after other e =
+    let start = begun run at d in
+    let end = work j (within Game (rules j)) start in
+    let fit = begun_fit j run at d v ready in
+    ended_has (λ world touched. get world.tasks key ≡ Some after → after ≡ before) j d start end.0 end.1
+    ((kept_steady j start).leaves (ready.job, ready.due) fit key before after other e) ((works rules lawful j run at d).leaves (ready.job, ready.due) fit key before after other e)

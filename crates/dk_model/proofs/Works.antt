@@ -18,13 +18,16 @@ use Rattle.dk_model.specs.Platforms.{platform_bound, is_member}
 use Rattle.dk_model.specs.Steps as does
 use Rattle.dk_model.specs.Steps.{next_due, own_found, own_task, of_session, login_found, for_session, heard, channel_found, channel_message, leave_channels, disconnect, work}
 use Rattle.dk_model.specs.Lawful.{GoesOn, IsFit, IsJob, AreLawful}
-use Rattle.dk_model.proofs.Maps.{keys_total, exact_keys, get-insert_cases, get-insert_here, get-insert_other, not_both, some_is}
+use Rattle.dk_model.proofs.Maps.{keys_total, exact_keys, get-insert_cases, get-insert_here, get-insert_other, get-remove_other, not_both, some_is}
 use Rattle.dk_model.proofs.Goings.{goes_nowhere, goes_then, goes_task}
-use Rattle.dk_model.proofs.Fits.{fit_tasks, fit_task}
+use Rattle.dk_model.proofs.Fits.{fit_tasks, fit_task, leaves_at}
 use Rattle.dk_model.proofs.Acts.{Anything, HasIfOk, LawfulAt, IsLawful, lawful_then, lawful_done, lawful_needs, lawful_if, lawful_looks}
 use Rattle.dk_model.proofs.Operations.{lawful_send}
 use Rattle.dk_model.proofs.RecordFacts.{IsNamed, channel_fits}
 use Rattle.dk_model.proofs.PlatformActs.{lawful_get_as, lawful_is_connected, lawful_open_record, lawful_close_record, lawful_own_record, lawful_leave, lawful_channel_send}
+
+same_left : {X : Type 0} (o : Option X) (x y : X) → o ≡ Some x → o ≡ Some y → y ≡ x
+same_left o x y e g = some_is y x (sym g ∙ e)
 
 anything : {A : Type 0} (r : Result A AppFault) → HasIfOk Anything r
 anything (Ok x) = tt
@@ -75,17 +78,36 @@ lawful_disconnect : {Needs : Type 0} (session : Session) (game : Act (Unit {0}))
 lawful_disconnect session game p =
     lawful_then p (λ _. lawful_then (lawful_own_record session) (λ r. lawful_then (lawful_leave_channels session r.1.channels) (λ _. lawful_close_record session)))
 
--- What an act did with this run, where it may have changed the run's own task. It went on, and where the needs are met and the run was fit, it is fit still.
-pub record SteadyAt {A : Type 0} (Needs : Type 0) (s : Run) (p : Result A AppFault × Run) : Type 0 where
+-- each task that stands before and after is as it was, but for the run's own
+abbrev pub LeavesOthers : (TaskKey → Type 0) → Run → Run → Type 0
+LeavesOthers Own a b = (key : TaskKey) (before after : Task) → (Own key → ⊥) → maps.get a.world.tasks key ≡ Some before → maps.get b.world.tasks key ≡ Some after → after ≡ before
+
+-- What an act did with this run, where it may have changed the run's own task. It went on. Where the needs are met and the run was fit, it is fit still, and no other task that stands was changed.
+pub record SteadyAt {A : Type 0} (Needs : Type 0) (Own : TaskKey → Type 0) (s : Run) (p : Result A AppFault × Run) : Type 0 where
   pub goes : GoesOn s p.1
   pub fit : Needs → IsFit s → IsFit p.1
+  pub leaves : Needs → IsFit s → LeavesOthers Own s p.1
 
-steady : {A Needs : Type 0} {Has : A → Type 0} {s : Run} {p : Result A AppFault × Run} → LawfulAt Needs Has s p → SteadyAt Needs s p
-steady p = record { goes = p.goes; fit = p.fit }
+steady : {A Needs : Type 0} {Own : TaskKey → Type 0} {Has : A → Type 0} {s : Run} {p : Result A AppFault × Run} → LawfulAt Needs Has s p → SteadyAt Needs Own s p
+steady p = record { goes = p.goes; fit = p.fit; leaves = λ n f key x y other e g. p.leaves n f key x y e g }
 
-steady_then : {A B Needs : Type 0} {Has : B → Type 0} (s : Run) (r : Result A AppFault) (t : Run) (g : A → Act B) → SteadyAt Needs s (r, t) → ((x : A) → IsLawful Needs Has (g x)) → SteadyAt Needs s (carry_on r g t)
-steady_then s (Ok x) t g p h = let q = (h x).at t in record { goes = goes_then p.goes q.goes; fit = λ n f. q.fit n (p.fit n f) }
-steady_then s (Err fault) t g p h = record { goes = p.goes; fit = p.fit }
+steady_then : {A B Needs : Type 0} {Own : TaskKey → Type 0} {Has : B → Type 0} (s : Run) (r : Result A AppFault) (t : Run) (g : A → Act B) → SteadyAt Needs Own s (r, t) → ((x : A) → IsLawful Needs Has (g x)) → SteadyAt Needs Own s (carry_on r g t)
+steady_then s (Ok x) t g p h =
+    let q = (h x).at t in record {
+      goes = goes_then p.goes q.goes;
+      fit = λ n f. q.fit n (p.fit n f);
+      leaves = λ n f key b c other. leaves_at s t ((g x t).1) f p.goes q.goes key (λ v w e i. p.leaves n f key v w other e i) (q.leaves n (p.fit n f) key) b c;
+    }
+steady_then s (Err fault) t g p h = record { goes = p.goes; fit = p.fit; leaves = p.leaves }
+
+-- the key of the task that the job is an occurrence of
+abbrev pub IsOwnKey : Job → TaskKey → Type 0
+IsOwnKey (job.Task key due period kind arg) q = key ≡ q
+IsOwnKey job.Initialize q = ⊥
+IsOwnKey (job.Login conn name) q = ⊥
+IsOwnKey (job.Message conn name body) q = ⊥
+IsOwnKey (job.Channel conn name channel body) q = ⊥
+IsOwnKey (job.Disconnect conn name graceful) q = ⊥
 
 -- a task's own occurrence is due by this moment
 abbrev pub IsDueBy : Job → ℕ → Type 0
@@ -121,13 +143,14 @@ answer_kept s key task new e q =
       ]
     ] refl
 
-own_at : {Needs : Type 0} (key : TaskKey) (due period : ℕ) (s : Run) (o : Option Task) → maps.get s.world.tasks key ≡ o → (Needs → (period ≤ PERIOD_MOST_MS) × (due ≤ s.at)) → SteadyAt Needs s (own_found o key due period s)
-own_at key due period s None e why = record { goes = goes_nowhere s; fit = λ n f. f }
+own_at : {Needs : Type 0} (key : TaskKey) (due period : ℕ) (s : Run) (o : Option Task) → maps.get s.world.tasks key ≡ o → (Needs → (period ≤ PERIOD_MOST_MS) × (due ≤ s.at)) → SteadyAt Needs (λ q. key ≡ q) s (own_found o key due period s)
+own_at key due period s None e why = record { goes = goes_nowhere s; fit = λ n f. f; leaves = λ n f q x y other e g. same_left _ x y e g }
 own_at {Needs = Needs} key due period s (Some task) e why =
-    elim (period == 0) as (λ b. SteadyAt Needs s (cond {A = Result Bool AppFault × Run} b (Ok true, with_task s key None) (Ok true, record s { world = record (s.world) { tasks = maps.insert s.world.tasks key (record task { due = next_due due period s.at }) } }))) [
+    elim (period == 0) as (λ b. SteadyAt Needs (λ q. key ≡ q) s (cond {A = Result Bool AppFault × Run} b (Ok true, with_task s key None) (Ok true, record s { world = record (s.world) { tasks = maps.insert s.world.tasks key (record task { due = next_due due period s.at }) } }))) [
       | true ↦ record {
         goes = goes_task s key None s.tasks_made (le_refl _) (λ _ _ is. absurd cc);
         fit = λ n f. fit_task s f key None s.tasks_made (le_refl _) f.few_tasks (λ _ is. absurd cc);
+        leaves = λ n f q x y other e g. same_left _ x y e (sym (get-remove_other keys_total exact_keys s.world.tasks key q other) ∙ g);
       }
       | false ↦
           let new : Task = record task { due = next_due due period s.at } in record {
@@ -161,23 +184,24 @@ own_at {Needs = Needs} key due period s (Some task) e why =
                   fits = subst IsTask (some_is new x is) (record { due = omega (arith, late, w.0); period = there.2.period; kind = there.2.kind; arg = there.2.arg });
                   below = λ own. f.tasks key task e own;
                 });
+            leaves = λ n f q x y other e g. same_left _ x y e (sym (get-insert_other keys_total exact_keys s.world.tasks key new q other) ∙ g);
           }
     ]
 
 -- what is done to the run's own task
-pub own_steady : {Needs : Type 0} (key : TaskKey) (due period : ℕ) (s : Run) → (Needs → (period ≤ PERIOD_MOST_MS) × (due ≤ s.at)) → SteadyAt Needs s (own_task key due period s)
+pub own_steady : {Needs : Type 0} (key : TaskKey) (due period : ℕ) (s : Run) → (Needs → (period ≤ PERIOD_MOST_MS) × (due ≤ s.at)) → SteadyAt Needs (λ q. key ≡ q) s (own_task key due period s)
 unfolding own_task
 own_steady key due period s why = own_at key due period s (maps.get s.world.tasks key) refl why
 
 task_steady : {Needs : Type 0} (key : TaskKey) (due period : ℕ) (game : Act (Unit {0})) (s : Run) → (Needs → (period ≤ PERIOD_MOST_MS) × (due ≤ s.at)) → IsLawful Needs Anything game
-    → SteadyAt Needs s (and_then (own_task key due period) (λ pending. if pending then game else give (Ok tt)) s)
+    → SteadyAt Needs (λ q. key ≡ q) s (and_then (own_task key due period) (λ pending. if pending then game else give (Ok tt)) s)
 unfolding and_then
 task_steady key due period game s why p =
     steady_then s ((own_task key due period s).0) ((own_task key due period s).1) (λ pending. if pending then game else give (Ok tt)) (own_steady key due period s why)
     (λ pending. lawful_if pending (lawful_needs (λ n. n.0) p) (lawful_done tt))
 
 -- the platform's part of a job round a game that is lawful
-pub work_steady : {Needs : Type 0} (j : Job) (game : Act (Unit {0})) (s : Run) → (Needs → IsJob j × IsDueBy j s.at) → IsLawful Needs Anything game → SteadyAt Needs s (work j game s)
+pub work_steady : {Needs : Type 0} (j : Job) (game : Act (Unit {0})) (s : Run) → (Needs → IsJob j × IsDueBy j s.at) → IsLawful Needs Anything game → SteadyAt Needs (IsOwnKey j) s (work j game s)
 work_steady job.Initialize game s why p = steady (p.at s)
 work_steady (job.Login conn name) game s why p = steady ((lawful_login (of_session conn name) game (λ n. (why n).0.1) p).at s)
 work_steady (job.Message conn name body) game s why p = steady ((lawful_for_session (of_session conn name) game p).at s)
