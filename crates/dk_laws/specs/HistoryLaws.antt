@@ -1,15 +1,13 @@
 -- What holds of every history.
-use Rattle.std.specs.Prelude.{◌≡◌, ◌≢◌, ℕ, ◌+◌, Bool, true, false, Option, Some, None, List, [], ◌∷◌, ◌++◌, length, filter, nat_eq}
+use Rattle.std.specs.Prelude.{◌≡◌, ◌⊎◌, ℕ, Bool, true, false, Option, Some, None, List, ◌∷◌, ◌++◌, length, filter, nat_eq}
 use Rattle.std.specs.List.{list_any, AllByRecursion}
 use Rattle.std.specs.FinMap.{get}
 use Rattle.dk_types.specs.declared.number.RunNo.{RunNo}
-use Rattle.dk_types.specs.declared.number.ConnNo.{ConnNo}
 use Rattle.dk_types.specs.declared.number.ObjectId.{ObjectId}
 use Rattle.dk_types.specs.declared.number.TaskKey.{TaskKey}
 use Rattle.dk_types.specs.declared.object.Object.{Object}
 use Rattle.dk_types.specs.declared.job.Job.{Job}
 use Rattle.dk_types.specs.declared.job.Job.TheVariants as job
-use Rattle.dk_types.specs.declared.job.Session.{Session}
 use Rattle.dk_types.specs.declared.fault.Outcome.{Outcome}
 use Rattle.dk_types.specs.declared.event.Event.{Event}
 use Rattle.dk_types.specs.declared.event.Event.TheVariants as event

@@ -1,8 +1,8 @@
 -- Equal sights give equal answers.
-use Rattle.std.specs.Prelude.{◌≡◌, ℕ, Option, List, ◌++◌}
+use Rattle.std.specs.Prelude.{◌≡◌, List, ◌++◌}
 use Rattle.dk_types.specs.declared.item.Item.{Item}
 use Rattle.dk_types.specs.declared.event.Event.{Event}
-use Rattle.dk_model.specs.DurableWorlds.{DurableWorld, answer}
+use Rattle.dk_model.specs.DurableWorlds.{answer}
 use Rattle.dk_model.specs.Worlds.{World}
 use Rattle.dk_model.specs.Events.{Meaning}
 use Rattle.dk_model.specs.Histories.{IsHistory}

@@ -5,7 +5,10 @@
 #![tactic(auto)]
 
 pub use effects::effects_lead_there;
-pub use histories::{each_commit_was_claimed_once, events_lead_to_one_world, keys_do_not_return, numbers_are_new, worlds_stay_valid};
+pub use histories::{
+    each_commit_was_claimed_once, events_lead_to_one_world, keys_do_not_return, numbers_are_new,
+    worlds_stay_valid,
+};
 pub use messages::messages_are_handed;
 pub use sights::sights_tell;
 

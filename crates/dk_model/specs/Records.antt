@@ -1,12 +1,11 @@
 -- The platform's own objects: the record of a session and the record of a channel, and the names that lead to them.
-use Rattle.std.specs.Prelude.{ℕ, Bool, true, false, Option, Some, None, List, [], ◌∷◌, ◌++◌, ◌==◌, length, nat_lt, if◌then◌else◌}
-use Rattle.dk_types.specs.declared.number.ConnNo.{ConnNo}
+use Rattle.std.specs.Prelude.{ℕ, Bool, true, false, Option, List, [], ◌∷◌, ◌++◌, ◌==◌, length, nat_lt, if◌then◌else◌}
 use Rattle.dk_types.specs.declared.job.Session.{Session}
 use Rattle.dk_model.specs.declared.records.SessionRecord.{SessionRecord}
 use Rattle.dk_model.specs.declared.records.ChannelRecord.{ChannelRecord}
 use Rattle.dk_model.specs.declared.records.Delivery.{Delivery}
 use Rattle.dk_model.specs.declared.records.Delivery.TheVariants.{Reliable, UnorderedReliable, OrderedUnreliable, Unreliable}
-use Rattle.std.specs.Prelude.{Result, Ok, Err}
+use Rattle.std.specs.Prelude.{Result, Ok}
 use Rattle.std.specs.Result.{result_ok}
 use Rattle.dk_wire.specs.Rest.{Rest}
 use Rattle.dk_wire.specs.Fields.{u8_spelling, u64_spelling, name_spelling}

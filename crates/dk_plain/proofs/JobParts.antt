@@ -1,7 +1,8 @@
 -- How the platform's part of a job goes round the game's.
-use Rattle.std.proofs.Common.{◌≡◌, Bool, true, false, Option, Some, None, List, [], ◌++◌, take, length, ℕ, Result, Ok, Err, refl, sym, ap, ◌∙◌}
+use Rattle.std.proofs.Common.{◌≡◌, Bool, false, if◌then◌else◌, Option, Some, None, List, ◌++◌, take, length, ℕ, Result, Ok, Err, refl, sym, ap, ◌∙◌}
 use Rattle.std.proofs.lemmas.List.{take-append-le}
 use Rattle.dk_types.specs.declared.fault.AppFault.{AppFault}
+use Rattle.dk_types.specs.declared.fault.AppFault.TheVariants.{TooLarge}
 use Rattle.dk_types.specs.declared.number.ObjectId.{ObjectId}
 use Rattle.dk_types.specs.declared.job.Session.{Session}
 use Rattle.dk_types.specs.declared.job.Out.TheVariants as out
@@ -16,13 +17,15 @@ use Rattle.dk_model.specs.DurableWorlds.{DurableWorld}
 use Rattle.dk_model.specs.Runs.{Run, Act, and_then, within, send, begun}
 use Rattle.dk_model.specs.Records.{session_name}
 use Rattle.dk_model.specs.Platforms.{platform_bound, new_record, open_record}
-use Rattle.dk_model.specs.Steps.{login, login_found, work, step, ended, failed, failed_outs}
+use Rattle.dk_model.specs.Steps.{login, login_found, work, step, ended, failed, failed_outs, is_too_large}
 use Rattle.dk_plain.specs.declared.halt.Halt.TheVariants as halt
 use Rattle.dk_plain.specs.PlainJobs.{IsPlain}
 use Rattle.dk_plain.specs.declared.halt.Halt.{Halt}
 use Rattle.dk_plain.specs.declared.run.PlainRun.{PlainRun}
-use Rattle.dk_plain.specs.Plains.{run_of, Does}
+use Rattle.dk_plain.specs.Plains.{run_of, outcome_told, Does}
+use Rattle.dk_plain.specs.Writings.{IsFrugal}
 use Rattle.dk_plain.proofs.Parts.{does_as}
+use Rattle.dk_plain.proofs.Writings.{frugal_fits}
 
 -- a part that is done in another mode
 pub within_done : {A : Type 0} {a b : PlainRun} {r : Result A Halt} (mode : Mode) (f : Act A) → Does (record a { mode = mode }) b f r → Does a (record b { mode = a.mode }) (within mode f) r
@@ -49,17 +52,24 @@ module _ {a b : PlainRun} {r : Result (Unit {0}) Halt} (session : Session) (game
   login_new none p = does_as _ (ap (λ (o : Option ObjectId). login_found o session game (run_of a)) (sym none)) p
 
 module _ (rules : Job → Act (Unit {0})) (job : Job) (number : RunNo) (at : ℕ) (d : DurableWorld) {a b : PlainRun} where
-  -- a run that ends well leaves its world
-  pub step_ok : run_of a ≡ begun number at d → Does a b (work job (within Game (rules job))) (Ok tt)
+  -- what the work does from the run at its start
+  started : {r : Result (Unit {0}) Halt} (s : Result (Unit {0}) AppFault) → outcome_told r ≡ Some s → run_of a ≡ begun number at d → Does a b (work job (within Game (rules job))) r
+      → work job (within Game (rules job)) (begun number at d) ≡ (s, run_of b)
+  started s told start p = ap (λ t. work job (within Game (rules job)) t) (sym start) ∙ p.does s told
+
+  -- a run of a frugal game that ends well leaves its world
+  pub step_ok : IsFrugal rules → IsPlain job → run_of a ≡ begun number at d → Does a b (work job (within Game (rules job))) (Ok tt)
       → step rules job number at d ≡ record { outcome = outcome.Ok; world = (run_of b).world; touched = b.touched.items; outs = b.outs.items }
-  step_ok start p =
-      ap (λ s. ended job s (work job (within Game (rules job)) s)) (sym start) ∙ ap (ended job (run_of a)) (p.does (Ok tt) refl)
+  step_ok frugal plain start p =
+      let done = started (Ok tt) refl start p in
+      let fits : is_too_large d (run_of b).world ≡ false = sym (ap (λ e. is_too_large d e.1.world) done) ∙ frugal_fits rules job number at d frugal plain in
+      ap (ended job d (begun number at d)) done
+      ∙ ap (λ (t : Bool). if t then failed job (begun number at d) TooLarge else record { outcome = outcome.Ok; world = (run_of b).world; touched = b.touched.items; outs = b.outs.items }) fits
 
   -- a run that fails leaves the world, with one more commit
   pub step_failed : (fault : AppFault) → run_of a ≡ begun number at d → Does a b (work job (within Game (rules job))) (Err (halt.Fault fault))
       → step rules job number at d ≡ failed job (begun number at d) fault
-  step_failed fault start p =
-      ap (λ s. ended job s (work job (within Game (rules job)) s)) (sym start) ∙ ap (ended job (run_of a)) (p.does (Err fault) refl) ∙ ap (λ s. failed job s fault) start
+  step_failed fault start p = ap (ended job d (begun number at d)) (started (Err fault) refl start p)
 
 -- a plain job keeps nothing of a task of its own
 pub failed_plain : (job : Job) (start : Run) (fault : AppFault) → IsPlain job

@@ -4,3 +4,5 @@ pub mod Calls
 pub mod Platform
 pub mod JobParts
 pub mod Sendings
+pub mod NetEffects
+pub mod Writings

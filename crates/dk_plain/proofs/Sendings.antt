@@ -19,7 +19,7 @@ use Rattle.dk_model.specs.Runs as act
 use Rattle.dk_model.specs.Runs.{Run, Act, give, and_then, carry_on, within, refuse, begun, send}
 use Rattle.dk_model.specs.Records.{SESSION_KIND, session_of, session_name, is_name_too_long}
 use Rattle.dk_model.specs.Platforms.{platform_bound, get_as, found_as, record_under, session_under, numbered, is_connected, new_record, open_record}
-use Rattle.dk_model.specs.Steps.{of_session, login_found, login, for_session, work, step, ended, kept_by, failed_outs}
+use Rattle.dk_model.specs.Steps.{of_session, login_found, login, for_session, work, Stepped, step, ended, kept_by, failed_outs, is_too_large}
 use Rattle.dk_plain.specs.PlainJobs.{IsPlain}
 use Rattle.dk_plain.specs.Sendings.{SendsAtMost, IsTerse}
 
@@ -189,6 +189,11 @@ work_sends (job.Channel conn name channel body) plain p = absurd plain
 work_sends (job.Disconnect conn name graceful) plain p = absurd plain
 work_sends (job.Task key due period kind arg) plain p = absurd plain
 
+-- whichever end a test decides
+either_stepped : (P : Stepped → Type 0) {x y : Stepped} (t : Bool) → P x → P y → P (if t then x else y)
+either_stepped P true p q = p
+either_stepped P false p q = q
+
 -- what a failed run sends is at most two messages
 failed_few : (job : Job) → length (failed_outs job) ≤ 2
 failed_few job.Initialize = omega arith
@@ -199,9 +204,9 @@ failed_few (job.Disconnect conn name graceful) = omega arith
 failed_few (job.Task key due period kind arg) = omega arith
 
 -- so a run that sent at most two ends with at most two
-ended_few : (job : Job) (start : Run) (p : Result (Unit {0}) AppFault × Run) → length p.1.outs ≤ 2 → length (ended job start p).outs ≤ 2
-ended_few job start (Ok x, s) h = h
-ended_few job start (Err fault, s) h = failed_few job
+ended_few : (job : Job) (d : DurableWorld) (start : Run) (p : Result (Unit {0}) AppFault × Run) → length p.1.outs ≤ 2 → length (ended job d start p).outs ≤ 2
+ended_few job d start (Ok x, s) h = either_stepped (λ r. length r.outs ≤ 2) (is_too_large d s.world) (failed_few job) h
+ended_few job d start (Err fault, s) h = failed_few job
 
 -- a run of a plain job of a terse game sends at most two messages, however it ends
 pub step-sends : (rules : Job → Act (Unit {0})) (job : Job) (run : RunNo) (at : ℕ) (d : DurableWorld) → IsTerse rules → IsPlain job → length (step rules job run at d).outs ≤ 2
@@ -209,7 +214,7 @@ step-sends rules job run at d terse plain =
     let start = begun run at d in
     let sent = (work_sends job plain (within_sends Game (terse job))).bound start in
     let few : length ((work job (within Game (rules job)) start).1.outs) ≤ 2 = omega (arith, sent) in
-    ended_few job start (work job (within Game (rules job)) start) few
+    ended_few job d start (work job (within Game (rules job)) start) few
 
 -- a failed run of a plain job leaves the number of commits as it began
 failed_counts : (job : Job) (start : Run) → IsPlain job → (kept_by job start).world.commits ≡ start.world.commits
@@ -221,12 +226,12 @@ failed_counts (job.Disconnect conn name graceful) start plain = absurd plain
 failed_counts (job.Task key due period kind arg) start plain = absurd plain
 
 -- so a run ends with the number that it began with
-ended_counts : (job : Job) (start : Run) (p : Result (Unit {0}) AppFault × Run) → IsPlain job → p.1.world.commits ≡ start.world.commits → (ended job start p).world.commits ≡ start.world.commits
-ended_counts job start (Ok x, s) plain counts = counts
-ended_counts job start (Err fault, s) plain counts = failed_counts job start plain
+ended_counts : (job : Job) (d : DurableWorld) (start : Run) (p : Result (Unit {0}) AppFault × Run) → IsPlain job → p.1.world.commits ≡ start.world.commits → (ended job d start p).world.commits ≡ start.world.commits
+ended_counts job d start (Ok x, s) plain counts = either_stepped (λ r. r.world.commits ≡ start.world.commits) (is_too_large d s.world) (failed_counts job start plain) counts
+ended_counts job d start (Err fault, s) plain counts = failed_counts job start plain
 
 -- a run of a plain job of a terse game is one commit more, however it ends
 pub step-counts : (rules : Job → Act (Unit {0})) (job : Job) (run : RunNo) (at : ℕ) (d : DurableWorld) → IsTerse rules → IsPlain job → (step rules job run at d).world.commits ≡ d.commits + 1
 step-counts rules job run at d terse plain =
     let start = begun run at d in
-    ended_counts job start (work job (within Game (rules job)) start) plain ((work_sends job plain (within_sends Game (terse job))).counts start)
+    ended_counts job d start (work job (within Game (rules job)) start) plain ((work_sends job plain (within_sends Game (terse job))).counts start)

@@ -3,3 +3,4 @@ pub mod Plains
 pub mod Recording
 pub mod PlainJobs
 pub mod Sendings
+pub mod Writings

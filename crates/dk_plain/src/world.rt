@@ -57,6 +57,7 @@ impl PlainWorld {
     ghost use Rattle.dk_model.specs.Runs.{begun};
     ghost use Rattle.dk_plain.specs.Plains.{run_of, objects_of, names_of};
     ghost use Rattle.dk_plain.specs.PlainJobs.{IsPlain, durable_of, stepped_of};
+    ghost use Rattle.dk_plain.specs.Writings.{IsFrugal};
 
     /// The world before the first run.
     pub fn new(alloc: Global) -> PlainWorld
@@ -127,7 +128,7 @@ impl PlainWorld {
         self.last = last_with(self.last, run.number);
     }
 
-    /// Runs the job alone and leaves what it leaves. After want of memory the world is of no further use.
+    /// Runs the job alone and leaves what it leaves. The game is frugal, so that no run fails because its effects are too large. After want of memory the world is of no further use.
     pub fn run<G: PlainGame>(
         &mut self,
         alloc: Global,
@@ -137,6 +138,7 @@ impl PlainWorld {
         at: u64,
     ) -> Result<Stepped, NoMemory>
         requires plain { IsPlain job.now }
+        requires frugal { IsFrugal (G.rules game.now) }
         requires room { self.old.commits + 1 < 2 ^ 64 }
         ensures { IfOk result (λ s. stepped_of self.new s ≡ step (G.rules game.now) job.now number at (durable_of self.old)) }
     {

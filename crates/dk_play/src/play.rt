@@ -7,6 +7,7 @@ ghost use Rattle.dk_model.specs.Scripts.{IsOneSession};
 ghost use Rattle.dk_model.specs.Phases.{phases_of};
 ghost use Rattle.dk_model.specs.Transcripts.{IsPlayed, IsQuiet};
 ghost use Rattle.dk_plain.specs.Sendings.{IsTerse};
+ghost use Rattle.dk_plain.specs.Writings.{IsFrugal};
 ghost use Rattle.dk_plain.specs.PlainJobs.{durable_of};
 ghost use Rattle.dk_play.specs.Visits.{Begins, VisitsAll, unclaimed};
 ghost use Rattle.std.specs.FinMap as maps;
@@ -35,6 +36,7 @@ fn begin<G: PlainGame>(
     events: &mut Vec<Event>,
 ) -> Result<PlainWorld, NoMemory>
     requires terse { IsTerse (G.rules game.now) }
+    requires frugal { IsFrugal (G.rules game.now) }
     requires start { events.old.items ≡ [] }
     ensures { IfOk result (λ w. Begins (G.rules game.now) events.new.items (durable_of w)) }
 {
@@ -54,6 +56,7 @@ fn visit<G: PlainGame>(
     events: &mut Vec<Event>,
 ) -> Result<PlainWorld, NoMemory>
     requires terse { IsTerse (G.rules game.now) }
+    requires frugal { IsFrugal (G.rules game.now) }
     requires session { IsOneSession lines.now }
     requires first { world.commits ≡ 1 }
     requires quiet { IsQuiet (unclaimed (durable_of world) 1 maps.empty) }
@@ -78,13 +81,14 @@ fn visit<G: PlainGame>(
     Ok(world)
 }
 
-/// Plays the script of one session from the empty world on. The game sends at most one message in each job, so that the session is never cut off.
+/// Plays the script of one session from the empty world on. The game sends at most one message in each job, so that the session is never cut off, and is frugal, so that no run's effects are too large.
 pub fn play_session<G: PlainGame>(
     alloc: Global,
     game: &G,
     lines: Vec<Line>,
 ) -> Result<Played, NoMemory>
     requires terse { IsTerse (G.rules game.now) }
+    requires frugal { IsFrugal (G.rules game.now) }
     requires session { IsOneSession lines.items }
     ensures played { IfOk result (λ p. IsPlayed (G.rules game.now) (fresh_world None) (lines.items ∷ []) (phases_of p.events.items p.marks.items) p.commits p.tasks) }
     ensures ordered { IfOk result (λ p. IsNonDecreasing p.marks.items) }

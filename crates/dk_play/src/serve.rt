@@ -1,6 +1,7 @@
 //! Jobs run one after another until none is left, and the hand at the end.
 ghost use Rattle.std.specs.Prelude.{◌≡◌, ◌≤◌, ◌<◌, ◌∷◌, ◌++◌, ◌^◌, [], true, length, IfOk};
 ghost use Rattle.dk_plain.specs.Sendings.{IsTerse};
+ghost use Rattle.dk_plain.specs.Writings.{IsFrugal};
 ghost use Rattle.dk_play.specs.Visits.{world_of, hand_of, claim_of, commit_of, IsFit, Serves, ServesNext};
 ghost use Rattle.dk_model.specs.Transcripts.{IsQuiet};
 
@@ -48,6 +49,7 @@ impl Play {
         events: &mut Vec<Event>,
     ) -> Result<bool, NoMemory>
         requires terse { IsTerse (G.rules game.now) }
+        requires frugal { IsFrugal (G.rules game.now) }
         requires fit { IsFit self.old }
         ensures serves { IfOk result (λ more. ServesNext (G.rules game.now) more (world_of self.old) events.old.items events.new.items (world_of self.new)) }
         ensures fit { IfOk result (λ _. IsFit self.new) }
@@ -76,6 +78,7 @@ impl Play {
         events: &mut Vec<Event>,
     ) -> Result<(), NoMemory>
         requires terse { IsTerse (G.rules game.now) }
+        requires frugal { IsFrugal (G.rules game.now) }
         requires fit { IsFit self.old }
         ensures serves { IfOk result (λ _. Serves (G.rules game.now) (world_of self.old) events.old.items events.new.items (world_of self.new)) }
         ensures quiet { IfOk result (λ _. IsQuiet (world_of self.new)) }

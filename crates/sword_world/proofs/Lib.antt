@@ -2,3 +2,4 @@ pub mod ListSteps
 pub mod LabelParts
 pub mod Lengths
 pub mod SwordSends
+pub mod SwordWrites

@@ -3,3 +3,4 @@ pub mod Things
 pub mod Texts
 pub mod Labels
 pub mod Rules
+pub mod LawfulRules

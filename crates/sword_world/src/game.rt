@@ -256,8 +256,11 @@ fn message(
 
 impl Rules for SwordWorld {
     ghost use Rattle.sword_world.specs.Rules.{sword_rules};
+    ghost use Rattle.sword_world.specs.LawfulRules.{sword_lawful};
 
     ghost rules = { λ game job. sword_rules job };
+
+    ghost lawful = { λ game. sword_lawful };
 }
 
 impl PlainGame for SwordWorld {

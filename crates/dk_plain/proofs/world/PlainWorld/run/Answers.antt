@@ -1,7 +1,7 @@
-use Rattle.std.proofs.Common.{◌≡◌, sym, ap, ◌∙◌, List, ◌++◌, ◌+◌, length}
+use Rattle.std.proofs.Common.{◌≡◌, sym, ap, ◌∙◌, ◌++◌, ◌+◌, length}
 use Rattle.std.specs.FinMap as map
 use Rattle.dk_types.specs.declared.fault.Outcome.TheVariants as outcome
-use Rattle.dk_model.specs.DurableWorlds.{DurableWorld, last_with}
+use Rattle.dk_model.specs.DurableWorlds.{last_with}
 use Rattle.dk_model.specs.Runs.{begun}
 use Rattle.dk_plain.specs.Plains.{objects_of, names_of}
 use Rattle.dk_plain.specs.PlainJobs.{durable_of}
@@ -10,7 +10,7 @@ use Rattle.dk_plain.proofs.world.PlainWorld.run.Goals as goal
 
 pub returns-in-Ok : goal.returns-in-Ok
 returns-in-Ok g c =
-    c.keep.ensures ∙ sym (step_ok (g.G.Rules.rules c.args.game.now) c.args.job.now c.args.number c.args.at (durable_of c.args.self.now) c.begin-run.ensures.run c.in-Ok.ensures)
+    c.keep.ensures ∙ sym (step_ok (g.G.Rules.rules c.args.game.now) c.args.job.now c.args.number c.args.at (durable_of c.args.self.now) c.requires.frugal c.requires.plain c.begin-run.ensures.run c.in-Ok.ensures)
 
 pub returns-in_ok-outs-in-Err-Fault : goal.returns-in_ok-outs-in-Err-Fault
 returns-in_ok-outs-in-Err-Fault g c =

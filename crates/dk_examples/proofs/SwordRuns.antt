@@ -1,0 +1,98 @@
+-- The runs of SwordWorld.
+use Rattle.std.proofs.Common.{◌≡◌, ℕ, true, false, Some, None, List, [], ◌∷◌, ◌++◌, codes, Ok, refl}
+use Rattle.std.specs.FinMap.{empty, insert, from_entries}
+use Rattle.std.specs.Str.{is_utf8, chars}
+use Rattle.std.specs.Str.Lossy.{utf8_valid_len}
+use lib.Utf8.{encode}
+use Rattle.dk_types.specs.declared.job.Job.TheVariants as job
+use Rattle.dk_types.specs.declared.job.Out.TheVariants as out
+use Rattle.dk_types.specs.declared.item.Item.TheVariants as ask
+use Rattle.dk_wire.specs.Fields.{u64_spelling, u32_spelling, name_spelling, id_spelling}
+use Rattle.dk_wire.specs.Payload.{next_u8, next_u32, next_name, next_id, next_end}
+use Rattle.dk_wire.specs.Reading.{u8_at, u32_at, name_at, id_at, end_at}
+use Rattle.dk_wire.specs.Lists.{list_spelling, items_at, list_at}
+use Rattle.dk_model.specs.Runs.{Run, begun, give, and_then, within, get, create, save, bound, bind, send}
+use Rattle.dk_model.specs.Platforms.{get_as, is_connected, open_record}
+use Rattle.sword_world.specs.Things.{room_of, next_room, thing_of, next_thing, player_of, next_player}
+use Rattle.sword_world.specs.Labels.{labels}
+use Rattle.sword_world.specs.Rules.{sword_rules, furnish, initialize, new_player, known_player, enter, login, tell, look_round, look_as, look, message}
+use Rattle.dk_examples.specs.Worked.{run, conn, id, listed}
+use Rattle.dk_examples.specs.SessionRows.{alice, alice_record, session_object, nothing}
+use Rattle.dk_examples.specs.SwordRows.{SwordBegins, SwordLogin, SwordLook, SwordLookInOtherLetters, SwordDance, SwordLookAround, SwordLengths, room, sword_object, room_object, alice_player, bob_player, alice_is, furnished, alice_entered, both_entered, sight}
+use Rattle.dk_examples.proofs.SessionRuns.{session_read}
+use Rattle.dk_examples.proofs.Running.{runs_ok, looks, puts, at_end}
+
+pub sword_begins : SwordBegins
+unfolding within and_then give create bind initialize furnish u64_spelling u32_spelling name_spelling id_spelling
+sword_begins = runs_ok sword_rules job.Initialize (run 0) 0 nothing furnished 0 None
+    (at_end (record (listed nothing 1 (Some (run 0))) { objects = insert (insert empty (id 0 0) sword_object) (id 0 1) (room_object 0 []); names = insert empty room (id 0 1) })
+    (ask.Object (id 0 0) ∷ ask.Object (id 0 1) ∷ ask.Bound room ∷ []) [] (run 0) 0 2 0)
+    record { objects = refl; names = refl; tasks = refl } refl
+    record { objects = simp puts; names = simp puts; tasks = simp puts; sorted = record { objects = refl; names = refl; tasks = refl } } refl
+
+empty_room : room_of (room_object 0 []).bytes ≡ Some (record { players = []; items = id 0 0 ∷ [] })
+unfolding room_of next_room list_at items_at list_spelling next_u32 u32_at next_id id_at next_end end_at
+empty_room = refl
+
+room_of_one : room_of (room_object 1 (id 2 1 ∷ [])).bytes ≡ Some (record { players = id 2 1 ∷ []; items = id 0 0 ∷ [] })
+unfolding room_of next_room list_at items_at list_spelling next_u32 u32_at next_id id_at next_end end_at
+room_of_one = refl
+
+room_of_two : room_of (room_object 2 (id 3 1 ∷ id 4 1 ∷ [])).bytes ≡ Some (record { players = id 3 1 ∷ id 4 1 ∷ []; items = id 0 0 ∷ [] })
+unfolding room_of next_room list_at items_at list_spelling next_u32 u32_at next_id id_at next_end end_at
+room_of_two = refl
+
+a_sword : thing_of sword_object.bytes ≡ Some (record { description = codes "a shiny sword" })
+unfolding thing_of next_thing next_name name_at u8_at next_end end_at utf8_valid_len is_utf8 chars encode
+a_sword = refl
+
+a_player : player_of alice_player.bytes ≡ Some (record { name = alice; carried = None })
+unfolding player_of next_player next_u8 u8_at next_name name_at next_end end_at utf8_valid_len is_utf8 chars encode
+a_player = refl
+
+bob_plays : player_of bob_player.bytes ≡ Some (record { name = codes "bob"; carried = None })
+unfolding player_of next_player next_u8 u8_at next_name name_at next_end end_at utf8_valid_len is_utf8 chars encode
+bob_plays = refl
+
+pub sword_login : SwordLogin
+unfolding within and_then give get get_as create save bound bind send open_record login known_player new_player enter u64_spelling u32_spelling name_spelling id_spelling
+sword_login = runs_ok sword_rules (job.Login (conn 1) alice) (run 2) 0 furnished alice_entered 1 (Some (run 0))
+    (at_end
+    (record (listed furnished 2 (Some (run 2))) {
+      objects = insert (insert (insert (from_entries furnished.objects) (id 2 0) (session_object 1)) (id 2 1) alice_player) (id 0 1) (room_object 1 (id 2 1 ∷ []));
+      names = insert (insert (from_entries furnished.names) alice_record (id 2 0)) alice_is (id 2 1);
+    })
+    (ask.Object (id 2 0) ∷ ask.Bound alice_record ∷ ask.Object (id 2 1) ∷ ask.Bound alice_is ∷ ask.Object (id 0 1) ∷ []) ((conn 1, out.Accepted) ∷ []) (run 2) 0 2 0)
+    record { objects = refl; names = refl; tasks = refl } (simp (looks, empty_room))
+    record { objects = simp puts; names = simp puts; tasks = simp puts; sorted = record { objects = refl; names = refl; tasks = refl } } refl
+
+pub sword_look : SwordLook
+unfolding within and_then give get get_as bound send is_connected message look look_as look_round tell labels
+sword_look = runs_ok sword_rules (job.Message (conn 1) alice (codes "look")) (run 3) 0 alice_entered alice_entered 2 (Some (run 2))
+    (at_end (listed alice_entered 3 (Some (run 3))) [] ((conn 1, out.Message sight) ∷ []) (run 3) 0 0 0)
+    record { objects = refl; names = refl; tasks = refl } (simp (looks, session_read, a_player, room_of_one, a_sword))
+    record { objects = simp puts; names = simp puts; tasks = simp puts; sorted = record { objects = refl; names = refl; tasks = refl } } refl
+
+pub sword_look_in_other_letters : SwordLookInOtherLetters
+unfolding within and_then give get get_as bound send is_connected message look look_as look_round tell labels
+sword_look_in_other_letters = runs_ok sword_rules (job.Message (conn 1) alice (codes "LooK")) (run 3) 0 alice_entered alice_entered 2 (Some (run 2))
+    (at_end (listed alice_entered 3 (Some (run 3))) [] ((conn 1, out.Message sight) ∷ []) (run 3) 0 0 0)
+    record { objects = refl; names = refl; tasks = refl } (simp (looks, session_read, a_player, room_of_one, a_sword))
+    record { objects = simp puts; names = simp puts; tasks = simp puts; sorted = record { objects = refl; names = refl; tasks = refl } } refl
+
+pub sword_dance : SwordDance
+unfolding within and_then give get get_as is_connected message
+sword_dance = runs_ok sword_rules (job.Message (conn 1) alice (codes "dance")) (run 4) 0 alice_entered alice_entered 3 (Some (run 3))
+    (begun (run 4) 0 (listed alice_entered 3 (Some (run 3))))
+    record { objects = refl; names = refl; tasks = refl } (simp (looks, session_read))
+    record { objects = simp puts; names = simp puts; tasks = simp puts; sorted = record { objects = refl; names = refl; tasks = refl } } refl
+
+pub sword_look_around : SwordLookAround
+unfolding within and_then give get get_as bound send is_connected message look look_as look_round tell labels
+sword_look_around = runs_ok sword_rules (job.Message (conn 1) alice (codes "look")) (run 5) 0 both_entered both_entered 3 (Some (run 4))
+    (at_end (listed both_entered 4 (Some (run 5))) [] ((conn 1, out.Message (codes "You are in a plain room.\nAlso in here: bob.\nOn the floor: a shiny sword.\n")) ∷ []) (run 5) 0 0 0)
+    record { objects = refl; names = refl; tasks = refl } (simp (looks, session_read, a_player, bob_plays, room_of_two, a_sword))
+    record { objects = simp puts; names = simp puts; tasks = simp puts; sorted = record { objects = refl; names = refl; tasks = refl } } refl
+
+pub sword_lengths : SwordLengths
+sword_lengths = (refl, refl, refl)

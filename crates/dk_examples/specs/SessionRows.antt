@@ -1,0 +1,97 @@
+-- Sessions: logins that are accepted, refused and failed, and what follows for one that is not connected.
+use Rattle.std.specs.Prelude.{ℕ, true, Some, List, [], ◌∷◌, codes, replicate, Ok, Err}
+use Rattle.dk_types.specs.declared.job.Job.{Job}
+use Rattle.dk_types.specs.declared.job.Job.TheVariants as job
+use Rattle.dk_types.specs.declared.job.Out.TheVariants as out
+use Rattle.dk_types.specs.declared.item.Item.TheVariants as ask
+use Rattle.dk_types.specs.declared.object.Object.{Object}
+use Rattle.dk_types.specs.declared.durable.Effects.{Effects}
+use Rattle.dk_types.specs.declared.fault.AppFault.TheVariants as fault
+use Rattle.dk_types.specs.declared.fault.Outcome.TheVariants as outcome
+use Rattle.dk_model.specs.Runs.{Act, give}
+use Rattle.dk_model.specs.Events.{Meaning}
+use Rattle.dk_model.specs.Finishes.{Told}
+use Rattle.dk_examples.specs.Worked.{run, conn, id, object, Lists, listed, Runs}
+
+-- rules by which every job accepts
+abbrev pub accepting : Job → Act (Unit {0})
+accepting job = give (Ok tt)
+
+-- rules by which every job gives up with the code 7
+abbrev pub giving_up : Job → Act (Unit {0})
+giving_up job = give (Err (fault.Game 7))
+
+abbrev pub alice : List ℕ
+alice = codes "alice"
+
+-- the name of alice's record
+abbrev pub alice_record : List ℕ
+alice_record = codes "$s.alice"
+
+-- the record of a session with this connection, below 256, which is on no channel
+abbrev pub session_object : ℕ → Object
+session_object number = object 0xFF01 (0 ∷ 0 ∷ 0 ∷ 0 ∷ 0 ∷ 0 ∷ 0 ∷ number ∷ 0 ∷ 0 ∷ 0 ∷ 0 ∷ [])
+
+abbrev pub nothing : Lists
+nothing = record { objects = []; names = []; tasks = [] }
+
+-- alice is recorded by run 2 with connection 1
+abbrev pub with_alice : Lists
+with_alice = record { objects = (id 2 0, session_object 1) ∷ []; names = (alice_record, id 2 0) ∷ []; tasks = [] }
+
+abbrev pub no_effects : Effects
+no_effects = record { written = []; removed = []; bound = []; unbound = []; added = []; dropped = []; requeued = [] }
+
+-- a run that ends well and does nothing
+abbrev pub does_nothing : Told
+does_nothing = record { outcome = outcome.Ok; effects = no_effects; touched = []; outs = [] }
+
+-- a login is recorded as object 2.0 and accepted
+abbrev pub LoginIsAccepted : Type 0
+LoginIsAccepted = Runs accepting (job.Login (conn 1) alice) (run 2) 0 (listed nothing 1 (Some (run 0)))
+    (record {
+      outcome = outcome.Ok;
+      effects = record no_effects { written = (id 2 0, session_object 1) ∷ []; bound = (alice_record, id 2 0) ∷ [] };
+      touched = ask.Object (id 2 0) ∷ ask.Bound alice_record ∷ [];
+      outs = (conn 1, out.Accepted) ∷ [];
+    })
+    (listed with_alice 2 (Some (run 2)))
+
+-- a second login of a connected name is refused and closed, ends well and changes nothing, whatever the game
+abbrev pub SecondLoginIsRefused : Type 0
+SecondLoginIsRefused =
+    (rules : Meaning)
+    → Runs rules (job.Login (conn 3) alice) (run 4) 0 (listed with_alice 2 (Some (run 2)))
+    (record { outcome = outcome.Ok; effects = no_effects; touched = []; outs = (conn 3, out.Refused) ∷ (conn 3, out.Close) ∷ [] })
+    (listed with_alice 3 (Some (run 4)))
+
+-- a name of 255 bytes has no record's name: its login fails, is refused and closed, whatever the game
+abbrev pub LongLoginFails : Type 0
+LongLoginFails =
+    (rules : Meaning)
+    → Runs rules (job.Login (conn 1) (replicate 255 97)) (run 2) 0 (listed nothing 1 (Some (run 0)))
+    (record { outcome = outcome.Fail (fault.Refused 4); effects = no_effects; touched = []; outs = (conn 1, out.Refused) ∷ (conn 1, out.Close) ∷ [] })
+    (listed nothing 2 (Some (run 2)))
+
+-- a login that the game gives up is refused and closed, and not recorded
+abbrev pub GivenUpLoginFails : Type 0
+GivenUpLoginFails = Runs giving_up (job.Login (conn 1) alice) (run 2) 0 (listed nothing 1 (Some (run 0)))
+    (record { outcome = outcome.Fail (fault.Game 7); effects = no_effects; touched = []; outs = (conn 1, out.Refused) ∷ (conn 1, out.Close) ∷ [] })
+    (listed nothing 2 (Some (run 2)))
+
+-- a message of a name whose record has another connection's number does nothing, whatever the game
+abbrev pub StrangeMessageIsNothing : Type 0
+StrangeMessageIsNothing =
+    (rules : Meaning)
+    → Runs rules (job.Message (conn 3) alice (codes "look")) (run 5) 0 (listed with_alice 2 (Some (run 2))) does_nothing (listed with_alice 3 (Some (run 5)))
+
+-- the end of a session takes its record away
+abbrev pub DisconnectEnds : Type 0
+DisconnectEnds = Runs accepting (job.Disconnect (conn 1) alice true) (run 5) 0 (listed with_alice 2 (Some (run 2)))
+    (record {
+      outcome = outcome.Ok;
+      effects = record no_effects { removed = id 2 0 ∷ []; unbound = alice_record ∷ [] };
+      touched = ask.Bound alice_record ∷ ask.Object (id 2 0) ∷ [];
+      outs = [];
+    })
+    (listed nothing 3 (Some (run 5)))

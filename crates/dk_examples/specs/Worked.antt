@@ -1,0 +1,51 @@
+-- How a worked example is written: a world by its lists, and what a job's run tells of it.
+use Rattle.std.specs.Prelude.{◌≡◌, ℕ, Option, List}
+use Rattle.std.specs.FinMap.{from_entries}
+use Rattle.dk_types.specs.declared.number.RunNo.{RunNo}
+use Rattle.dk_types.specs.declared.number.ConnNo.{ConnNo}
+use Rattle.dk_types.specs.declared.number.ObjectId.{ObjectId}
+use Rattle.dk_types.specs.declared.number.TaskKey.{TaskKey}
+use Rattle.dk_types.specs.declared.object.Object.{Object}
+use Rattle.dk_types.specs.declared.job.Job.{Job}
+use Rattle.dk_model.specs.DurableWorlds.{DurableWorld, Task}
+use Rattle.dk_model.specs.Steps.{step}
+use Rattle.dk_model.specs.Events.{Meaning}
+use Rattle.dk_model.specs.Finishes.{Told, told_step}
+
+abbrev pub run : ℕ → RunNo
+run n = record { 0 = n }
+
+abbrev pub conn : ℕ → ConnNo
+conn n = record { 0 = n }
+
+-- the object with this place among those that the run made
+abbrev pub id : ℕ → ℕ → ObjectId
+id number k = record { run = run number; k = k }
+
+-- the task with this place among those that the run scheduled
+abbrev pub key : ℕ → ℕ → TaskKey
+key number k = record { run = run number; k = k }
+
+abbrev pub object : ℕ → List ℕ → Object
+object kind bytes = record { kind = kind; bytes = bytes }
+
+-- what a durable world holds, each list in the order of its keys
+pub record Lists : Type 0 where
+  pub objects : List (ObjectId × Object)
+  pub names : List (List ℕ × ObjectId)
+  pub tasks : List (TaskKey × Task)
+
+-- the world that holds this, after so many commits, of which the largest run is the last
+abbrev pub listed : Lists → ℕ → Option RunNo → DurableWorld
+listed l commits last = record {
+  objects = from_entries l.objects;
+  names = from_entries l.names;
+  tasks = from_entries l.tasks;
+  commits = commits;
+  last = last;
+}
+
+-- the job's run on the one world tells this, and leaves the other
+pub record Runs (rules : Meaning) (job : Job) (run : RunNo) (at : ℕ) (before : DurableWorld) (told : Told) (after : DurableWorld) : Type 0 where
+  pub tells : told_step before (step rules job run at before) ≡ told
+  pub leaves : (step rules job run at before).world ≡ after

@@ -1,0 +1,37 @@
+//! SwordWorld.
+ghost use Rattle.dk_examples.specs.SwordRows.{SwordBegins, SwordLogin, SwordLook, SwordLookInOtherLetters, SwordDance, SwordLookAround, SwordLengths};
+
+/// The first run makes the sword and the room.
+pub fn sword_begins()
+    ensures { SwordBegins }
+{}
+
+/// A login makes a player, who enters the room.
+pub fn sword_login()
+    ensures { SwordLogin }
+{}
+
+/// A look tells the room and the sword.
+pub fn sword_look()
+    ensures { SwordLook }
+{}
+
+/// Letters of either case stand for the command.
+pub fn sword_look_in_other_letters()
+    ensures { SwordLookInOtherLetters }
+{}
+
+/// What is no command does nothing.
+pub fn sword_dance()
+    ensures { SwordDance }
+{}
+
+/// A look names the other players.
+pub fn sword_look_around()
+    ensures { SwordLookAround }
+{}
+
+/// The lengths of these effects, in bytes.
+pub fn sword_lengths()
+    ensures { SwordLengths }
+{}

@@ -1,0 +1,17 @@
+pub mod NumberedMaps
+pub mod OneWorld
+pub mod Numbers
+pub mod ClaimedOnce
+pub mod EffectsMade
+pub mod Handed
+pub mod Stamps
+pub mod Entries
+pub mod Picked
+pub mod OpenClaims
+pub mod Sound
+pub mod SoundConnections
+pub mod SoundClaims
+pub mod SoundCommits
+pub mod SoundEvents
+pub mod SoundOpenings
+pub mod SoundHistories

@@ -1,0 +1,13 @@
+pub mod Maps
+pub mod Goings
+pub mod Fits
+pub mod Acts
+pub mod Operations
+pub mod Bytes
+pub mod Readings
+pub mod RecordFacts
+pub mod PlatformActs
+pub mod Works
+pub mod StepLaws
+pub mod StepValid
+pub mod OnceTasks
