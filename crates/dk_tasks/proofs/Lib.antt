@@ -7,3 +7,4 @@ pub mod Orders
 pub mod Rooms
 pub mod Soonest
 pub mod Steps
+pub mod Walk

@@ -136,8 +136,8 @@ not_before a b c e =
 le_of : (a b : ℕ) → nat_le a b ≡ true → a ≤ b
 le_of a b e = grind (arith, nat_tests)
 
-gt_of : (a b : ℕ) → nat_le a b ≡ false → b < a
-gt_of a b e = grind (arith, nat_tests)
+le_true : (a b : ℕ) → a ≤ b → nat_le a b ≡ true
+le_true a b h = grind (arith, nat_tests)
 
 module _ (t : List (TaskKey × Stored)) (p : List (Place × Unit {0})) (i : IsInStep t p) where
   -- what stands at a place that is there
@@ -187,21 +187,21 @@ module _ (t : List (TaskKey × Stored)) (p : List (Place × Unit {0})) (i : IsIn
       unclaimed_front : (k : TaskKey) (s : Stored) → find key_cmp k t ≡ Some s → s.claimed ≡ false → q.claimed ≡ false → is_lt (ordering_then (nat_cmp s.task.due q.due) (key_cmp k q.key)) ≡ false
       unclaimed_front k s f a b = subst (λ c. is_lt (ordering_then c (ordering_then (nat_cmp s.task.due q.due) (key_cmp k q.key))) ≡ false) (λ j. bool_cmp (a j) (b j)) (front k s f)
 
-      pub soonest_at_front : q.claimed ≡ false → nat_le q.due at ≡ true → IsSoonest (kept_tasks t) at (Some q.key)
+      pub soonest_at_front : q.claimed ≡ false → q.due ≤ at → IsSoonest (kept_tasks t) at (Some q.key)
       soonest_at_front a b =
           let s = at_front in
           let there = sym (kept_get t refl i.ordered q.key) ∙ ap (option_map kept_of) s.1 in
           let due : q.due ≡ s.0.task.due = ap (λ (p : Place). p.due) s.2 in
           let free : q.claimed ≡ s.0.claimed = ap (λ (p : Place). p.claimed) s.2 in
-          let is : is_due at (q.key, kept_of s.0) ≡ true = (λ j. nat_le (sym due j) at && not ((sym free ∙ a) j)) ∙ ap (λ c. c && true) b in (
+          let is : is_due at (q.key, kept_of s.0) ≡ true = (λ j. nat_le (sym due j) at && not ((sym free ∙ a) j)) ∙ ap (λ c. c && true) (le_true _ _ b) in (
             kept_of s.0,
             there,
             some_due at (kept_tasks t) q.key (kept_of s.0) there is (λ k u g d.
-            let r = kept_there k u g in
-            let parts = due_parts at u.task.due u.claimed d in
-            let unclaimed : r.0.claimed ≡ false = ap (λ (x : Kept). x.claimed) r.2 ∙ parts.1 in
-            subst (λ x. is_sooner (k, x) (q.key, (kept_of s.0).task) ≡ false) (ap (λ (x : Kept). x.task) r.2)
-            (subst (λ x. is_lt (ordering_then (nat_cmp r.0.task.due x) (key_cmp k q.key)) ≡ false) due (unclaimed_front k r.0 r.1 unclaimed a))),
+                let r = kept_there k u g in
+                let parts = due_parts at u.task.due u.claimed d in
+                let unclaimed : r.0.claimed ≡ false = ap (λ (x : Kept). x.claimed) r.2 ∙ parts.1 in
+                subst (λ x. is_sooner (k, x) (q.key, (kept_of s.0).task) ≡ false) (ap (λ (x : Kept). x.task) r.2)
+                (subst (λ x. is_lt (ordering_then (nat_cmp r.0.task.due x) (key_cmp k q.key)) ≡ false) due (unclaimed_front k r.0 r.1 unclaimed a))),
           )
 
       -- where a run has the one at the front, each has a run
@@ -214,7 +214,7 @@ module _ (t : List (TaskKey × Stored)) (p : List (Place × Unit {0})) (i : IsIn
           cc)
 
       -- where the one at the front is later, all are
-      pub soonest_of_later : q.claimed ≡ false → nat_le q.due at ≡ false → IsSoonest (kept_tasks t) at None
+      pub soonest_of_later : q.claimed ≡ false → at < q.due → IsSoonest (kept_tasks t) at None
       soonest_of_later a b =
           none_due at (kept_tasks t) (λ k u g d.
           let r = kept_there k u g in
@@ -223,5 +223,4 @@ module _ (t : List (TaskKey × Stored)) (p : List (Place × Unit {0})) (i : IsIn
           let same : r.0.task.due ≡ u.task.due = ap (λ (x : Kept). x.task.due) r.2 in
           let order = not_before r.0.task.due q.due (key_cmp k q.key) (unclaimed_front k r.0 r.1 unclaimed a) in
           let soon : u.task.due ≤ at = le_of _ _ parts.0 in
-          let late : at < q.due = gt_of _ _ b in
           absurd (omega arith))

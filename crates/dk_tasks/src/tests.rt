@@ -1,1 +1,187 @@
-// What no clause says.
+// The store answers as a plain list that is searched from end to end.
+use crate::Tasks;
+use dk_types::{Blob, Pending, RunNo, TaskKey};
+use std::alloc::{AllocError, Global};
+use std::process::Abort;
+use std::test::Fail;
+
+/// A row of the plain list.
+#[derive(Clone, Copy)]
+struct Row {
+    key: TaskKey,
+    due: u64,
+    kind: u16,
+    stamp: u64,
+    claimed: bool,
+}
+
+fn key(run: u64, k: u32) -> TaskKey {
+    TaskKey { run: RunNo(run), k }
+}
+
+fn pending(alloc: Global, key: TaskKey, due: u64, kind: u16) -> Pending {
+    Pending {
+        key,
+        due,
+        period: 0,
+        kind,
+        arg: Blob::from_vec(Vec::new(alloc)),
+    }
+}
+
+fn place(list: &[Row], key: TaskKey) -> Option<usize> {
+    list.iter().position(|row| row.key == key)
+}
+
+fn list_least_due(list: &[Row], at: u64) -> Option<TaskKey> {
+    let mut least: Option<Row> = None;
+    for row in list {
+        if row.claimed || row.due > at {
+            continue;
+        }
+        let sooner = match least {
+            None => true,
+            Some(other) => row.due < other.due || row.due == other.due && row.key < other.key,
+        };
+        if sooner {
+            least = Some(*row);
+        }
+    }
+    Some(least?.key)
+}
+
+/// One operation on both, chosen by the number.
+fn step(
+    rt: &impl Abort,
+    alloc: Global,
+    tasks: &mut Tasks,
+    list: &mut Vec<Row>,
+    n: u64,
+) -> Result<(), AllocError> {
+    let at = key(n * 7 % 5, (n * 11 % 7) as u32);
+    let due = n * 13 % 9;
+    let Some(found) = place(list, at) else {
+        assert!(rt; !tasks.contains_key(at));
+        assert!(rt; tasks.spare() > 0);
+        tasks.put(pending(alloc, at, due, n as u16), n);
+        list.push(Row {
+            key: at,
+            due,
+            kind: n as u16,
+            stamp: n,
+            claimed: false,
+        })?;
+        return Ok(());
+    };
+    assert!(rt; tasks.contains_key(at) && found < list.len());
+    match n % 4 {
+        0 => {
+            tasks.cancel(at);
+            list.remove(found);
+        }
+        1 => {
+            tasks.requeue(at, due);
+            list[found].due = due;
+        }
+        2 => {
+            tasks.set_claimed(at, due < 5);
+            list[found].claimed = due < 5;
+        }
+        _ => {
+            tasks.put(pending(alloc, at, due, n as u16), n);
+            list[found] = Row {
+                key: at,
+                due,
+                kind: n as u16,
+                stamp: n,
+                claimed: false,
+            };
+        }
+    }
+    Ok(())
+}
+
+fn assert_same(rt: &impl Abort, tasks: &Tasks, list: &[Row], room: u64) {
+    assert_eq!(rt; tasks.len(), list.len() as u64);
+    assert_eq!(rt; tasks.is_empty(), list.is_empty());
+    assert_eq!(rt; tasks.len().saturating_add(tasks.spare()), room);
+    for row in list {
+        let Some((task, stamp)) = tasks.get(row.key) else {
+            panic!(rt; "a task is missing");
+        };
+        assert!(rt; task.key == row.key && task.due == row.due && task.kind == row.kind);
+        assert_eq!(rt; stamp, row.stamp);
+    }
+    for at in 0..10 {
+        assert!(rt; tasks.least_due(at) == list_least_due(list, at));
+    }
+}
+
+#[test]
+fn answers_as_a_plain_list(rt: HostRuntime) -> Result<(), Fail> {
+    let mut tasks = Tasks::new(rt.alloc());
+    let mut list = Vec::new(rt.alloc());
+    assert_same(&rt, &tasks, list.as_slice(), 0);
+    tasks.reserve(35)?;
+    for n in 0..600 {
+        step(&rt, rt.alloc(), &mut tasks, &mut list, n)?;
+        assert_same(&rt, &tasks, list.as_slice(), 35);
+    }
+    Ok(())
+}
+
+#[test]
+fn the_soonest_comes_first_and_ties_go_by_key(rt: HostRuntime) -> Result<(), Fail> {
+    let mut tasks = Tasks::new(rt.alloc());
+    tasks.reserve(3)?;
+    for (run, k, due) in [(2, 0, 50), (1, 9, 50), (1, 2, 70)] {
+        assert!(&rt; tasks.spare() > 0);
+        tasks.put(pending(rt.alloc(), key(run, k), due, 0), 1);
+    }
+    assert!(&rt; tasks.least_due(49) == None);
+    assert!(&rt; tasks.least_due(50) == Some(key(1, 9)));
+    assert!(&rt; tasks.contains_key(key(1, 9)) && tasks.contains_key(key(1, 2)));
+    tasks.set_claimed(key(1, 9), true);
+    assert!(&rt; tasks.least_due(70) == Some(key(2, 0)));
+    assert!(&rt; tasks.contains_key(key(1, 2)));
+    tasks.requeue(key(1, 2), 40);
+    assert!(&rt; tasks.least_due(70) == Some(key(1, 2)));
+    assert!(&rt; tasks.contains_key(key(1, 2)));
+    tasks.requeue(key(1, 2), 90);
+    assert!(&rt; tasks.least_due(70) == Some(key(2, 0)));
+    assert!(&rt; tasks.contains_key(key(1, 9)));
+    tasks.set_claimed(key(1, 9), false);
+    assert!(&rt; tasks.least_due(70) == Some(key(1, 9)));
+    Ok(())
+}
+
+#[test]
+fn room_is_made_and_kept(rt: HostRuntime) -> Result<(), Fail> {
+    let mut tasks = Tasks::new(rt.alloc());
+    assert!(&rt; tasks.reserve(0).is_ok());
+    assert_eq!(&rt; tasks.spare(), 0);
+    // More than any memory has: refused, and nothing changed.
+    assert!(&rt; tasks.reserve(u64::MAX).is_err());
+    assert_eq!(&rt; tasks.spare(), 0);
+    tasks.reserve(2)?;
+    assert!(&rt; tasks.reserve(u64::MAX).is_err());
+    assert!(&rt; tasks.spare() >= 2 && tasks.is_empty());
+    Ok(())
+}
+
+#[test]
+fn all_are_listed_by_key(rt: HostRuntime) -> Result<(), Fail> {
+    let mut tasks = Tasks::new(rt.alloc());
+    tasks.reserve(3)?;
+    for (run, k, due) in [(5, 1, 10), (3, 7, 30), (5, 0, 20)] {
+        assert!(&rt; tasks.spare() > 0);
+        tasks.put(pending(rt.alloc(), key(run, k), due, 0), 1);
+    }
+    let list = tasks.in_order(rt.alloc())?;
+    assert_eq!(&rt; list.len(), 3);
+    for (at, due) in [30, 20, 10].iter().enumerate() {
+        assert!(&rt; at < list.len());
+        assert_eq!(&rt; list[at].due, *due);
+    }
+    Ok(())
+}
