@@ -1,5 +1,5 @@
 -- Entries whose values are changed by f, each at its key: they stand in the same order, and are found, put and taken out alike.
-use Rattle.std.proofs.Common.{◌≡◌, suc, refl, ap, ◌∙◌, Bool, true, false, cond, not, ◌&&◌, List, [], ◌∷◌, map, length}
+use Rattle.std.proofs.Common.{◌≡◌, suc, refl, ap, ◌∙◌, true, false, cond, not, ◌&&◌, List, [], ◌∷◌, map, length}
 use Rattle.std.specs.Option.{option_map}
 use Rattle.std.specs.Prelude.{Some}
 use Rattle.std.specs.declared.cmp.Ordering.{Ordering}

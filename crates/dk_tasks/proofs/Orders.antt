@@ -1,5 +1,5 @@
 -- The orders of keys, places and due tasks are total, and only equal keys and equal places tie.
-use Rattle.std.proofs.Common.{◌≡◌, ℕ, refl, Bool, true, false}
+use Rattle.std.proofs.Common.{ℕ, refl, true, false}
 use Rattle.std.specs.declared.cmp.Ordering.{Ordering}
 use Rattle.std.specs.Ordering.{nat_cmp, bool_cmp, on, then_cmp}
 use Rattle.std.specs.Cmp.{IsTotalOrder, on_total, then_total, nat_cmp_total, bool_cmp_total}

@@ -1,22 +1,21 @@
 -- The task at the front by place is the least of those that are due, if any is.
-use Rattle.std.proofs.Common.{◌≡◌, ℕ, ◌<◌, ◌≤◌, ◌&&◌, refl, sym, ap, subst, ◌∙◌, Bool, true, false, cond, not, List, [], ◌∷◌, map, Option, None, Some, is_some, ◌⊎◌, inl, inr, nat_le, arith}
+use Rattle.std.proofs.Common.{◌≡◌, ℕ, ◌<◌, ◌≤◌, ◌&&◌, refl, sym, ap, subst, ◌∙◌, Bool, true, false, cond, not, List, [], ◌∷◌, map, Option, None, Some, is_some, inl, inr, nat_le, arith}
 use Rattle.std.proofs.lemmas.Bool.Decides.{nat_tests}
 use Rattle.std.specs.List.{AllByRecursion, filter}
 use Rattle.std.specs.Option.{option_map}
 use Rattle.std.specs.declared.cmp.Ordering.{Ordering}
 use Rattle.std.specs.declared.cmp.Ordering.TheVariants.{Less, Equal, Greater}
-use Rattle.std.specs.Ordering.{is_lt, is_eq, eq_by_cmp, nat_cmp, bool_cmp, ordering_then, ordering_reverse}
-use Rattle.std.specs.Cmp.{tied_itself, ranked}
+use Rattle.std.specs.Ordering.{is_lt, eq_by_cmp, nat_cmp, bool_cmp, ordering_then, ordering_reverse}
+use Rattle.std.specs.Cmp.{ranked}
 use Rattle.std.specs.FinMap.{FinMap, entries, entries_sorted, get, get-entries}
 use Rattle.dk_types.specs.declared.number.TaskKey.{TaskKey}
 use Rattle.dk_map.specs.AsMap.{map_of, IsNext}
-use Rattle.dk_map.specs.Entries.{find, first_entry, entry_after, IsOrdered}
+use Rattle.dk_map.specs.Entries.{find, first_entry}
 use Rattle.dk_map.proofs.Maps.{get-map_of}
 use Rattle.dk_map.proofs.Next.{next-map_of}
 use Rattle.dk_model.specs.Keys.{key_cmp}
-use Rattle.dk_model.specs.DurableWorlds.{Task}
 use Rattle.dk_model.specs.Worlds.{World}
-use Rattle.dk_model.specs.Picks.{least, is_sooner, pick_task, mapped, task_job, is_claimed, is_task_of}
+use Rattle.dk_model.specs.Picks.{least, is_sooner, pick_task, mapped, task_job}
 use Rattle.dk_model.specs.Picks.{is_due as is_due_in}
 use Rattle.dk_tasks.specs.Tasks.{Kept, bare}
 use Rattle.dk_tasks.specs.Due.{is_due, due_tasks, least_due, HasTasks, job_at}

@@ -1,4 +1,4 @@
-// The store answers as a plain list that is searched from end to end.
+// Worked orders, room, and the same calls on a plain list that is searched from end to end.
 use crate::Tasks;
 use dk_types::{Blob, Pending, RunNo, TaskKey};
 use std::alloc::{AllocError, Global};
@@ -50,52 +50,74 @@ fn list_least_due(list: &[Row], at: u64) -> Option<TaskKey> {
     Some(least?.key)
 }
 
+fn put(rt: &impl Abort, tasks: &mut Tasks, task: Pending, stamp: u64) {
+    assert!(rt; tasks.spare() > 0);
+    tasks.put(task, stamp);
+}
+
+fn cancel(rt: &impl Abort, tasks: &mut Tasks, key: TaskKey) {
+    assert!(rt; tasks.contains_key(key));
+    tasks.cancel(key);
+}
+
+fn requeue(rt: &impl Abort, tasks: &mut Tasks, key: TaskKey, due: u64) {
+    assert!(rt; tasks.contains_key(key));
+    tasks.requeue(key, due);
+}
+
+fn set_claimed(rt: &impl Abort, tasks: &mut Tasks, key: TaskKey, claimed: bool) {
+    assert!(rt; tasks.contains_key(key));
+    tasks.set_claimed(key, claimed);
+}
+
 /// One operation on both, chosen by the number.
 fn step(
     rt: &impl Abort,
     alloc: Global,
     tasks: &mut Tasks,
     list: &mut Vec<Row>,
-    n: u64,
+    n: u32,
 ) -> Result<(), AllocError> {
-    let at = key(n * 7 % 5, (n * 11 % 7) as u32);
-    let due = n * 13 % 9;
-    let Some(found) = place(list, at) else {
-        assert!(rt; !tasks.contains_key(at));
-        assert!(rt; tasks.spare() > 0);
-        tasks.put(pending(alloc, at, due, n as u16), n);
-        list.push(Row {
-            key: at,
-            due,
-            kind: n as u16,
-            stamp: n,
-            claimed: false,
-        })?;
+    let row = Row {
+        key: key((n % 5) as u64, n / 5 % 7),
+        due: (n % 9) as u64,
+        kind: (n % 1000) as u16,
+        stamp: n as u64,
+        claimed: false,
+    };
+    let Some(found) = place(list.as_slice(), row.key) else {
+        assert!(rt; !tasks.contains_key(row.key));
+        put(
+            rt,
+            tasks,
+            pending(alloc, row.key, row.due, row.kind),
+            row.stamp,
+        );
+        list.push(row)?;
         return Ok(());
     };
-    assert!(rt; tasks.contains_key(at) && found < list.len());
-    match n % 4 {
+    assert!(rt; found < list.len());
+    match n / 3 % 4 {
         0 => {
-            tasks.cancel(at);
+            cancel(rt, tasks, row.key);
             list.remove(found);
         }
         1 => {
-            tasks.requeue(at, due);
-            list[found].due = due;
+            requeue(rt, tasks, row.key, row.due);
+            list[found].due = row.due;
         }
         2 => {
-            tasks.set_claimed(at, due < 5);
-            list[found].claimed = due < 5;
+            set_claimed(rt, tasks, row.key, row.due < 5);
+            list[found].claimed = row.due < 5;
         }
         _ => {
-            tasks.put(pending(alloc, at, due, n as u16), n);
-            list[found] = Row {
-                key: at,
-                due,
-                kind: n as u16,
-                stamp: n,
-                claimed: false,
-            };
+            put(
+                rt,
+                tasks,
+                pending(alloc, row.key, row.due, row.kind),
+                row.stamp,
+            );
+            list[found] = row;
         }
     }
     Ok(())
@@ -122,10 +144,10 @@ fn answers_as_a_plain_list(rt: HostRuntime) -> Result<(), Fail> {
     let mut tasks = Tasks::new(rt.alloc());
     let mut list = Vec::new(rt.alloc());
     assert_same(&rt, &tasks, list.as_slice(), 0);
-    tasks.reserve(35)?;
+    tasks.reserve(36)?;
     for n in 0..600 {
         step(&rt, rt.alloc(), &mut tasks, &mut list, n)?;
-        assert_same(&rt, &tasks, list.as_slice(), 35);
+        assert_same(&rt, &tasks, list.as_slice(), 36);
     }
     Ok(())
 }
@@ -135,22 +157,17 @@ fn the_soonest_comes_first_and_ties_go_by_key(rt: HostRuntime) -> Result<(), Fai
     let mut tasks = Tasks::new(rt.alloc());
     tasks.reserve(3)?;
     for (run, k, due) in [(2, 0, 50), (1, 9, 50), (1, 2, 70)] {
-        assert!(&rt; tasks.spare() > 0);
-        tasks.put(pending(rt.alloc(), key(run, k), due, 0), 1);
+        put(&rt, &mut tasks, pending(rt.alloc(), key(run, k), due, 0), 1);
     }
     assert!(&rt; tasks.least_due(49) == None);
     assert!(&rt; tasks.least_due(50) == Some(key(1, 9)));
-    assert!(&rt; tasks.contains_key(key(1, 9)) && tasks.contains_key(key(1, 2)));
-    tasks.set_claimed(key(1, 9), true);
+    set_claimed(&rt, &mut tasks, key(1, 9), true);
     assert!(&rt; tasks.least_due(70) == Some(key(2, 0)));
-    assert!(&rt; tasks.contains_key(key(1, 2)));
-    tasks.requeue(key(1, 2), 40);
+    requeue(&rt, &mut tasks, key(1, 2), 40);
     assert!(&rt; tasks.least_due(70) == Some(key(1, 2)));
-    assert!(&rt; tasks.contains_key(key(1, 2)));
-    tasks.requeue(key(1, 2), 90);
+    requeue(&rt, &mut tasks, key(1, 2), 90);
     assert!(&rt; tasks.least_due(70) == Some(key(2, 0)));
-    assert!(&rt; tasks.contains_key(key(1, 9)));
-    tasks.set_claimed(key(1, 9), false);
+    set_claimed(&rt, &mut tasks, key(1, 9), false);
     assert!(&rt; tasks.least_due(70) == Some(key(1, 9)));
     Ok(())
 }
@@ -174,8 +191,7 @@ fn all_are_listed_by_key(rt: HostRuntime) -> Result<(), Fail> {
     let mut tasks = Tasks::new(rt.alloc());
     tasks.reserve(3)?;
     for (run, k, due) in [(5, 1, 10), (3, 7, 30), (5, 0, 20)] {
-        assert!(&rt; tasks.spare() > 0);
-        tasks.put(pending(rt.alloc(), key(run, k), due, 0), 1);
+        put(&rt, &mut tasks, pending(rt.alloc(), key(run, k), due, 0), 1);
     }
     let list = tasks.in_order(rt.alloc())?;
     assert_eq!(&rt; list.len(), 3);
