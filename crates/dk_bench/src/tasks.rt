@@ -101,25 +101,22 @@ fn in_a_store(alloc: Global, work: Work, entries: u64) -> Option<u64> {
 
 /// One call, and whether it found its task.
 fn called(tasks: &mut Tasks, work: Work, number: u64, entries: u64) -> bool {
+    let at = key(number);
     match work {
         Work::Room | Work::Put => false,
-        Work::Get => tasks.get(key(number)).is_some(),
+        Work::Get => tasks.get(at).is_some(),
         Work::LeastDue => tasks.least_due(number).is_some(),
-        Work::Find | Work::Requeue | Work::Claim | Work::Cancel => {
-            tasks.contains_key(key(number)) && changed(tasks, work, number, entries)
+        Work::Find => tasks.contains_key(at),
+        Work::Requeue | Work::Claim | Work::Cancel => {
+            if !tasks.contains_key(at) {
+                return false;
+            }
+            match work {
+                Work::Requeue => tasks.requeue(at, entries.saturating_add(number)),
+                Work::Claim => tasks.set_claimed(at, true),
+                _ => tasks.cancel(at),
+            }
+            true
         }
     }
-}
-
-/// One change of a task that is there.
-fn changed(tasks: &mut Tasks, work: Work, number: u64, entries: u64) -> bool
-    requires { contains_key tasks.old.tasks (record { run = record { 0 = number }; k = 0 }) ≡ true }
-{
-    match work {
-        Work::Requeue => tasks.requeue(key(number), entries.saturating_add(number)),
-        Work::Claim => tasks.set_claimed(key(number), true),
-        Work::Cancel => tasks.cancel(key(number)),
-        _ => {}
-    }
-    true
 }
