@@ -3,6 +3,7 @@
 #![tactic(auto)]
 
 mod first_path;
+mod tasks;
 
 use dk_turn_uses::{empty_turns_anew, locked_adds, tally_in_threads};
 use first_path::first_path;
@@ -11,6 +12,7 @@ use std::process::ExitCode;
 use std::rt::Env;
 use std::sync::Wait;
 use std::thread::Threads;
+use tasks::{tasks_in_stores, Work};
 
 /// What is run.
 #[derive(Clone, Copy)]
@@ -23,11 +25,13 @@ enum Subcommand {
     EmptyTurns,
     /// So many turns of each of two threads at one tally. The tally is told.
     Tally,
+    /// A million tasks in stores of so many. The calls that found their task are told.
+    Tasks(Work),
 }
 
 fn main(rt: HostRuntime) -> ExitCode {
     let Some((subcommand, times)) = asked(&rt) else {
-        let _ = rt.eprintln("dk_bench: first-path|locked-adds|empty-turns|tally TIMES");
+        let _ = rt.eprintln("dk_bench: first-path|locked-adds|empty-turns|tally|tasks-WORK TIMES");
         return ExitCode::from(2);
     };
     match run(&rt, subcommand, times) {
@@ -53,7 +57,7 @@ fn named(word: &str) -> Option<Subcommand> {
         "locked-adds" => Some(Subcommand::LockedAdds),
         "empty-turns" => Some(Subcommand::EmptyTurns),
         "tally" => Some(Subcommand::Tally),
-        _ => None,
+        _ => Work::named(word).map(Subcommand::Tasks),
     }
 }
 
@@ -67,5 +71,6 @@ fn run<R: AllocGlobal + Threads + Wait + Sync>(
         Subcommand::LockedAdds => Some(locked_adds(rt, times as u64)),
         Subcommand::EmptyTurns => empty_turns_anew(rt, rt.alloc(), times as u64),
         Subcommand::Tally => tally_in_threads(rt, rt.alloc(), times as u64),
+        Subcommand::Tasks(work) => tasks_in_stores(rt.alloc(), work, times),
     }
 }

@@ -1,0 +1,10 @@
+pub mod Durable
+pub mod Found
+pub mod Kept
+pub mod Leasts
+pub mod Mapped
+pub mod Orders
+pub mod Rooms
+pub mod Soonest
+pub mod Steps
+pub mod Walk

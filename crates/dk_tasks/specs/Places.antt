@@ -1,0 +1,50 @@
+-- How the store keeps its tasks: in a tree by key, and each once more by its place, which is told by whether a run has it,
+-- its due moment and its key. So those that no run has stand first, the soonest at the front.
+use Rattle.std.specs.Prelude.{◌≡◌, Bool, false, is_some, Option, None, Some, List, map}
+use Rattle.std.specs.List.{AllByRecursion}
+use Rattle.std.specs.declared.cmp.Ordering.{Ordering}
+use Rattle.std.specs.Ordering.{nat_cmp, bool_cmp, on, then_cmp, eq_by_cmp}
+use Rattle.std.specs.FinMap.{FinMap}
+use Rattle.dk_types.specs.declared.number.TaskKey.{TaskKey}
+use Rattle.dk_map.specs.AsMap.{map_of}
+use Rattle.dk_map.specs.Entries.{find, IsOrdered}
+use Rattle.dk_model.specs.Keys.{key_cmp}
+use Rattle.dk_model.specs.Effects.{task_of}
+use Rattle.dk_tasks.specs.Tasks.{Kept}
+use Rattle.dk_tasks.specs.declared.stored.Stored.{Stored}
+use Rattle.dk_tasks.specs.declared.stored.Place.{Place}
+
+-- what is kept of a task, but for its key
+abbrev pub kept_of : Stored → Kept
+kept_of s = record { task = (task_of s.task).1; stamp = s.stamp; claimed = s.claimed }
+
+abbrev pub kept_entry : TaskKey × Stored → TaskKey × Kept
+kept_entry e = (e.0, kept_of e.1)
+
+-- entries in the order of their keys as the map that callers see
+abbrev pub kept_tasks : List (TaskKey × Stored) → FinMap key_cmp Kept
+kept_tasks es = map_of key_cmp (map kept_entry es)
+
+-- by claim, due moment and key, as the derive compares
+abbrev pub place_cmp : Place → Place → Ordering
+place_cmp = then_cmp (on (λ p. p.claimed) bool_cmp) (then_cmp (on (λ p. p.due) nat_cmp) (on (λ p. p.key) key_cmp))
+
+-- where a task stands
+abbrev pub place_of : TaskKey → Stored → Place
+place_of key s = record { claimed = s.claimed; due = s.task.due; key = key }
+
+-- whether what was found at a place's key stands there
+abbrev pub is_placed : Place → Option Stored → Bool
+is_placed p None = false
+is_placed p (Some s) = eq_by_cmp place_cmp p (place_of p.key s)
+
+-- each task is kept at its own key
+abbrev pub IsKeyed : TaskKey × Stored → Type 0
+IsKeyed e = e.1.task.key ≡ e.0
+
+-- the two trees keep the same tasks
+pub record IsInStep (tasks : List (TaskKey × Stored)) (places : List (Place × Unit {0})) : Type 0 where
+  pub ordered : IsOrdered key_cmp tasks
+  pub keyed : AllByRecursion IsKeyed tasks
+  pub places_ordered : IsOrdered place_cmp places
+  pub placed : (p : Place) → is_some (find place_cmp p places) ≡ is_placed p (find key_cmp p.key tasks)
