@@ -3,6 +3,7 @@
 #![tactic(auto)]
 
 mod first_path;
+mod stores;
 
 use dk_turn_uses::{empty_turns_anew, locked_adds, tally_in_threads};
 use first_path::first_path;
@@ -11,6 +12,8 @@ use std::process::ExitCode;
 use std::rt::Env;
 use std::sync::Wait;
 use std::thread::Threads;
+use std::time::Clock;
+use stores::Timed;
 
 /// What is run.
 #[derive(Clone, Copy)]
@@ -23,11 +26,13 @@ enum Subcommand {
     EmptyTurns,
     /// So many turns of each of two threads at one tally. The tally is told.
     Tally,
+    /// Calls of a store. Their nanoseconds are told.
+    Store(Timed),
 }
 
 fn main(rt: HostRuntime) -> ExitCode {
     let Some((subcommand, times)) = asked(&rt) else {
-        let _ = rt.eprintln("dk_bench: first-path|locked-adds|empty-turns|tally TIMES");
+        let _ = rt.eprintln("dk_bench: first-path|locked-adds|empty-turns|tally|STORE-CALL TIMES");
         return ExitCode::from(2);
     };
     match run(&rt, subcommand, times) {
@@ -53,11 +58,11 @@ fn named(word: &str) -> Option<Subcommand> {
         "locked-adds" => Some(Subcommand::LockedAdds),
         "empty-turns" => Some(Subcommand::EmptyTurns),
         "tally" => Some(Subcommand::Tally),
-        _ => None,
+        _ => stores::named(word).map(Subcommand::Store),
     }
 }
 
-fn run<R: AllocGlobal + Threads + Wait + Sync>(
+fn run<R: AllocGlobal + Threads + Wait + Sync + Clock>(
     rt: &R,
     subcommand: Subcommand,
     times: u32,
@@ -67,5 +72,6 @@ fn run<R: AllocGlobal + Threads + Wait + Sync>(
         Subcommand::LockedAdds => Some(locked_adds(rt, times as u64)),
         Subcommand::EmptyTurns => empty_turns_anew(rt, rt.alloc(), times as u64),
         Subcommand::Tally => tally_in_threads(rt, rt.alloc(), times as u64),
+        Subcommand::Store(timed) => stores::time(rt, timed, times),
     }
 }

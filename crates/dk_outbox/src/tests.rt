@@ -19,7 +19,10 @@ fn room_of(alloc: Global, n: u64) -> Result<Ready, Fail> {
 /// Takes the first numbers off, `most` of them or all.
 fn list_hand(list: &mut Vec<u64>, alloc: Global, most: usize) -> Result<Vec<u64>, AllocError> {
     let mut handed = Vec::new(alloc);
-    while handed.len() < most && !list.is_empty() {
+    for _ in 0..most {
+        if list.is_empty() {
+            break;
+        }
         handed.push(list.remove(0))?;
     }
     Ok(handed)
