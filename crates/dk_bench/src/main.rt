@@ -3,6 +3,7 @@
 #![tactic(auto)]
 
 mod first_path;
+mod stores;
 mod tasks;
 
 use dk_turn_uses::{empty_turns_anew, locked_adds, tally_in_threads};
@@ -12,6 +13,8 @@ use std::process::ExitCode;
 use std::rt::Env;
 use std::sync::Wait;
 use std::thread::Threads;
+use std::time::Clock;
+use stores::Timed;
 use tasks::{tasks_in_stores, Work};
 
 /// What is run.
@@ -27,11 +30,13 @@ enum Subcommand {
     Tally,
     /// A million tasks in stores of so many. The calls that found their task are told.
     Tasks(Work),
+    /// Calls of a store. Their nanoseconds are told.
+    Store(Timed),
 }
 
 fn main(rt: HostRuntime) -> ExitCode {
     let Some((subcommand, times)) = asked(&rt) else {
-        let _ = rt.eprintln("dk_bench: first-path|locked-adds|empty-turns|tally|tasks-WORK TIMES");
+        let _ = rt.eprintln("dk_bench: first-path|locked-adds|empty-turns|tally|STORE-CALL|tasks-WORK TIMES");
         return ExitCode::from(2);
     };
     match run(&rt, subcommand, times) {
@@ -57,11 +62,13 @@ fn named(word: &str) -> Option<Subcommand> {
         "locked-adds" => Some(Subcommand::LockedAdds),
         "empty-turns" => Some(Subcommand::EmptyTurns),
         "tally" => Some(Subcommand::Tally),
-        _ => Work::named(word).map(Subcommand::Tasks),
+        _ => stores::named(word)
+            .map(Subcommand::Store)
+            .or(Work::named(word).map(Subcommand::Tasks)),
     }
 }
 
-fn run<R: AllocGlobal + Threads + Wait + Sync>(
+fn run<R: AllocGlobal + Threads + Wait + Sync + Clock>(
     rt: &R,
     subcommand: Subcommand,
     times: u32,
@@ -72,5 +79,6 @@ fn run<R: AllocGlobal + Threads + Wait + Sync>(
         Subcommand::EmptyTurns => empty_turns_anew(rt, rt.alloc(), times as u64),
         Subcommand::Tally => tally_in_threads(rt, rt.alloc(), times as u64),
         Subcommand::Tasks(work) => tasks_in_stores(rt.alloc(), work, times),
+        Subcommand::Store(timed) => stores::time(rt, timed, times),
     }
 }

@@ -7,3 +7,4 @@ pub mod Next
 pub mod Replaced
 pub mod Seen
 pub mod Top
+pub mod Values

@@ -9,7 +9,7 @@ use Rattle.std.specs.FinMap.{FinMap, IsAntisymmetric}
 use Rattle.dk_map.specs.Entries.{find, put, without, entry_after, IsOrdered}
 use Rattle.dk_map.specs.AsMap.{map_of, IsNext}
 use Rattle.dk_map.proofs.Counts.{found_of}
-use Rattle.dk_map.proofs.Maps.{get-map_of, len-map_of, map_of-put, map_of-without}
+use Rattle.dk_map.proofs.Maps.{get-map_of, len-map_of, entries-map_of, map_of-put, map_of-without}
 use Rattle.dk_map.proofs.Next.{next-map_of}
 
 module _ {K V : Type 0} {R : K → K → Ordering} {m : FinMap R V} (es : List (K × V)) (v : map_of R es ≡ m) (h : IsOrdered R es) where
@@ -20,6 +20,10 @@ module _ {K V : Type 0} {R : K → K → Ordering} {m : FinMap R V} (es : List (
   -- how many entries there are
   pub len_seen : length es ≡ map.len m
   len_seen = sym (len-map_of R es h) ∙ ap map.len v
+
+  -- the entries in their order
+  pub entries_seen : es ≡ map.entries m
+  entries_seen = sym (entries-map_of R es h) ∙ ap map.entries v
 
   -- whether `remove` took an entry, by its clause on the value
   pub removed_seen : (q : K) (r : Option (K × V)) → option_map (λ e. e.1) r ≡ find R q es → is_some r ≡ map.contains_key m q

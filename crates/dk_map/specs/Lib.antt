@@ -2,3 +2,4 @@ pub mod AsMap
 pub mod Balance
 pub mod Entries
 pub mod OrderedMap
+pub mod Values
