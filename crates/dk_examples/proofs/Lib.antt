@@ -5,3 +5,5 @@ pub mod SessionRuns
 pub mod ChannelRuns
 pub mod OutboxRuns
 pub mod SwordRuns
+pub mod EventSteps
+pub mod HistoryRuns

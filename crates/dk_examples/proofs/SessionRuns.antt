@@ -13,13 +13,19 @@ use Rattle.dk_model.specs.Records.{session_of, next_session}
 use Rattle.dk_model.specs.Spellings.{next_list}
 use Rattle.dk_model.specs.Platforms.{get_as, is_connected, open_record, close_record}
 use Rattle.dk_examples.specs.Worked.{run, conn, id, listed}
-use Rattle.dk_examples.specs.SessionRows.{LoginIsAccepted, SecondLoginIsRefused, LongLoginFails, GivenUpLoginFails, StrangeMessageIsNothing, DisconnectEnds, accepting, giving_up, alice, alice_record, session_object, nothing, with_alice}
+use Rattle.dk_examples.specs.SessionRows.{FirstRunAccepts, LoginIsAccepted, SecondLoginIsRefused, LongLoginFails, GivenUpLoginFails, StrangeMessageIsNothing, DisconnectEnds, accepting, giving_up, alice, alice_record, session_object, nothing, with_alice}
 use Rattle.dk_examples.proofs.Running.{runs_ok, runs_failed, looks, puts, at_end}
 
 -- alice's record is read back
 pub session_read : session_of (session_object 1).bytes ≡ Some (record { conn = conn 1; channels = [] })
 unfolding session_of next_session next_u64 u64_at next_list next_u32 u32_at next_end end_at
 session_read = refl
+
+pub first_run_accepts : FirstRunAccepts
+unfolding within give
+first_run_accepts = runs_ok accepting job.Initialize (run 0) 0 nothing nothing 0 None (begun (run 0) 0 (listed nothing 0 None))
+    record { objects = refl; names = refl; tasks = refl } refl
+    record { objects = simp puts; names = simp puts; tasks = simp puts; sorted = record { objects = refl; names = refl; tasks = refl } } refl
 
 accepted_end : Run
 accepted_end = at_end

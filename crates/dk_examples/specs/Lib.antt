@@ -6,3 +6,4 @@ pub mod ChannelGame
 pub mod ChannelRows
 pub mod OutboxRows
 pub mod SwordRows
+pub mod HistoryRows

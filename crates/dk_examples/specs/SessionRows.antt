@@ -1,5 +1,5 @@
 -- Sessions: logins that are accepted, refused and failed, and what follows for one that is not connected.
-use Rattle.std.specs.Prelude.{ℕ, true, Some, List, [], ◌∷◌, codes, replicate, Ok, Err}
+use Rattle.std.specs.Prelude.{ℕ, true, Some, None, List, [], ◌∷◌, codes, replicate, Ok, Err}
 use Rattle.dk_types.specs.declared.job.Job.{Job}
 use Rattle.dk_types.specs.declared.job.Job.TheVariants as job
 use Rattle.dk_types.specs.declared.job.Out.TheVariants as out
@@ -45,6 +45,10 @@ no_effects = record { written = []; removed = []; bound = []; unbound = []; adde
 -- a run that ends well and does nothing
 abbrev pub does_nothing : Told
 does_nothing = record { outcome = outcome.Ok; effects = no_effects; touched = []; outs = [] }
+
+-- the first run of a game that has nothing to make
+abbrev pub FirstRunAccepts : Type 0
+FirstRunAccepts = Runs accepting job.Initialize (run 0) 0 (listed nothing 0 None) does_nothing (listed nothing 1 (Some (run 0)))
 
 -- a login is recorded as object 2.0 and accepted
 abbrev pub LoginIsAccepted : Type 0

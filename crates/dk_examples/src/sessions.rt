@@ -1,5 +1,10 @@
 //! Sessions.
-ghost use Rattle.dk_examples.specs.SessionRows.{LoginIsAccepted, SecondLoginIsRefused, LongLoginFails, GivenUpLoginFails, StrangeMessageIsNothing, DisconnectEnds};
+ghost use Rattle.dk_examples.specs.SessionRows.{FirstRunAccepts, LoginIsAccepted, SecondLoginIsRefused, LongLoginFails, GivenUpLoginFails, StrangeMessageIsNothing, DisconnectEnds};
+
+/// The first run of a game that makes nothing.
+pub fn first_run_accepts()
+    ensures { FirstRunAccepts }
+{}
 
 /// A login's session is recorded, and accepted.
 pub fn login_is_accepted()
