@@ -7,3 +7,4 @@ pub mod OutboxRuns
 pub mod SwordRuns
 pub mod EventSteps
 pub mod HistoryRuns
+pub mod PickRuns

@@ -13,7 +13,7 @@ use Rattle.dk_model.specs.Records.{session_of, next_session}
 use Rattle.dk_model.specs.Spellings.{next_list}
 use Rattle.dk_model.specs.Platforms.{get_as, is_connected, open_record, close_record}
 use Rattle.dk_examples.specs.Worked.{run, conn, id, listed}
-use Rattle.dk_examples.specs.SessionRows.{FirstRunAccepts, LoginIsAccepted, SecondLoginIsRefused, LongLoginFails, GivenUpLoginFails, StrangeMessageIsNothing, DisconnectEnds, accepting, giving_up, alice, alice_record, session_object, nothing, with_alice}
+use Rattle.dk_examples.specs.SessionRows.{FirstRunAccepts, LoginIsAccepted, SecondLoginIsRefused, LongLoginFails, GivenUpLoginFails, StrangeMessageIsNothing, DisconnectEnds, StopEnds, accepting, giving_up, alice, alice_record, session_object, nothing, with_alice}
 use Rattle.dk_examples.proofs.Running.{runs_ok, runs_failed, looks, puts, at_end}
 
 -- alice's record is read back
@@ -69,13 +69,20 @@ strange_message_is_nothing rules = runs_ok rules (job.Message (conn 3) alice (co
     record { objects = refl; names = refl; tasks = refl } (simp (looks, session_read))
     record { objects = simp puts; names = simp puts; tasks = simp puts; sorted = record { objects = refl; names = refl; tasks = refl } } refl
 
-ended_end : Run
-ended_end = at_end
-    (record (listed with_alice 3 (Some (run 5))) { objects = remove (from_entries with_alice.objects) (id 2 0); names = remove (from_entries with_alice.names) alice_record })
-    (ask.Bound alice_record ∷ ask.Object (id 2 0) ∷ []) [] (run 5) 0 0 0
+-- the run that has taken the record away
+ended_end : ℕ → Run
+ended_end number = at_end
+    (record (listed with_alice 3 (Some (run number))) { objects = remove (from_entries with_alice.objects) (id 2 0); names = remove (from_entries with_alice.names) alice_record })
+    (ask.Bound alice_record ∷ ask.Object (id 2 0) ∷ []) [] (run number) 0 0 0
 
 pub disconnect_ends : DisconnectEnds
 unfolding within and_then give get get_as is_connected unbind remove_object close_record ended_end
-disconnect_ends = runs_ok accepting (job.Disconnect (conn 1) alice true) (run 5) 0 with_alice nothing 2 (Some (run 2)) ended_end
+disconnect_ends = runs_ok accepting (job.Disconnect (conn 1) alice true) (run 5) 0 with_alice nothing 2 (Some (run 2)) (ended_end 5)
+    record { objects = refl; names = refl; tasks = refl } (simp (looks, session_read))
+    record { objects = simp puts; names = simp puts; tasks = simp puts; sorted = record { objects = refl; names = refl; tasks = refl } } refl
+
+pub stop_ends : StopEnds
+unfolding within and_then give get get_as is_connected unbind remove_object close_record ended_end
+stop_ends = runs_ok accepting (job.Disconnect (conn 1) alice false) (run 3) 0 with_alice nothing 2 (Some (run 2)) (ended_end 3)
     record { objects = refl; names = refl; tasks = refl } (simp (looks, session_read))
     record { objects = simp puts; names = simp puts; tasks = simp puts; sorted = record { objects = refl; names = refl; tasks = refl } } refl

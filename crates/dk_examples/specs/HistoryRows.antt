@@ -23,7 +23,7 @@ use Rattle.sword_world.specs.Rules.{sword_rules}
 use Rattle.dk_examples.specs.Worked.{run, conn, listed}
 use Rattle.dk_examples.specs.TimerGame.{timer_rules}
 use Rattle.dk_examples.specs.TimerRows.{occurrence, counted}
-use Rattle.dk_examples.specs.SessionRows.{accepting, alice, with_alice}
+use Rattle.dk_examples.specs.SessionRows.{accepting, alice, nothing, with_alice}
 use Rattle.dk_examples.specs.SwordRows.{sight, alice_entered}
 
 -- a world without a budget, by its moment, its next number, whether the last claim was of a task, its claims and its connections
@@ -90,3 +90,10 @@ second_login_events =
 
 abbrev pub SecondLoginHistory : Type 0
 SecondLoginHistory = Leads accepting (opening empty_world None) second_login_events (world (listed with_alice 3 (Some (run 4))) 0 5 false [] ((conn 1, of_alice [] [] 2) ∷ []))
+
+-- after a stop alice's recorded session is told of its end by the first run that is claimed, and is gone then
+abbrev pub restart_events : List Event
+restart_events = claim 3 0 (job.Disconnect (conn 1) alice false) ∷ commit 3 3 ∷ idle ∷ []
+
+abbrev pub RestartHistory : Type 0
+RestartHistory = Leads accepting (opening (listed with_alice 2 (Some (run 2))) None) restart_events (world (listed nothing 3 (Some (run 3))) 0 4 false [] [])

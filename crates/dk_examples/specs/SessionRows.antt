@@ -1,5 +1,5 @@
 -- Sessions: logins that are accepted, refused and failed, and what follows for one that is not connected.
-use Rattle.std.specs.Prelude.{ℕ, true, Some, None, List, [], ◌∷◌, codes, replicate, Ok, Err}
+use Rattle.std.specs.Prelude.{ℕ, true, false, Some, None, List, [], ◌∷◌, codes, replicate, Ok, Err}
 use Rattle.dk_types.specs.declared.job.Job.{Job}
 use Rattle.dk_types.specs.declared.job.Job.TheVariants as job
 use Rattle.dk_types.specs.declared.job.Out.TheVariants as out
@@ -89,13 +89,19 @@ StrangeMessageIsNothing =
     (rules : Meaning)
     → Runs rules (job.Message (conn 3) alice (codes "look")) (run 5) 0 (listed with_alice 2 (Some (run 2))) does_nothing (listed with_alice 3 (Some (run 5)))
 
+-- a run that takes alice's record away
+abbrev pub takes_away : Told
+takes_away = record {
+  outcome = outcome.Ok;
+  effects = record no_effects { removed = id 2 0 ∷ []; unbound = alice_record ∷ [] };
+  touched = ask.Bound alice_record ∷ ask.Object (id 2 0) ∷ [];
+  outs = [];
+}
+
 -- the end of a session takes its record away
 abbrev pub DisconnectEnds : Type 0
-DisconnectEnds = Runs accepting (job.Disconnect (conn 1) alice true) (run 5) 0 (listed with_alice 2 (Some (run 2)))
-    (record {
-      outcome = outcome.Ok;
-      effects = record no_effects { removed = id 2 0 ∷ []; unbound = alice_record ∷ [] };
-      touched = ask.Bound alice_record ∷ ask.Object (id 2 0) ∷ [];
-      outs = [];
-    })
-    (listed nothing 3 (Some (run 5)))
+DisconnectEnds = Runs accepting (job.Disconnect (conn 1) alice true) (run 5) 0 (listed with_alice 2 (Some (run 2))) takes_away (listed nothing 3 (Some (run 5)))
+
+-- so does the end that a stop left
+abbrev pub StopEnds : Type 0
+StopEnds = Runs accepting (job.Disconnect (conn 1) alice false) (run 3) 0 (listed with_alice 2 (Some (run 2))) takes_away (listed nothing 3 (Some (run 3)))

@@ -1,5 +1,5 @@
 //! Histories.
-ghost use Rattle.dk_examples.specs.HistoryRows.{TimerHistory, SwordHistory, SecondLoginHistory};
+ghost use Rattle.dk_examples.specs.HistoryRows.{TimerHistory, SwordHistory, SecondLoginHistory, RestartHistory};
 
 /// A task is claimed once its moment has come, and goes on until it is cancelled.
 pub fn timer_history()
@@ -14,4 +14,9 @@ pub fn sword_history()
 /// A second connection of a connected name is refused, and gone once that is handed.
 pub fn second_login_history()
     ensures { SecondLoginHistory }
+{}
+
+/// After a stop a recorded session is told of its end.
+pub fn restart_history()
+    ensures { RestartHistory }
 {}
