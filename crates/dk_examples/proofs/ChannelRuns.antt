@@ -19,10 +19,10 @@ use Rattle.dk_model.specs.Runs.{Run, begun, give, and_then, within, get, create,
 use Rattle.dk_model.specs.Records.{session_of, next_session, channel_of, next_channel, next_member}
 use Rattle.dk_model.specs.Spellings.{next_list}
 use Rattle.dk_model.specs.Platforms.{get_as, is_connected, open_record, close_record, create_channel, join, leave, channel_send}
-use Rattle.dk_examples.specs.Worked.{run, conn, id, object, listed}
-use Rattle.dk_examples.specs.SessionRows.{alice, alice_record, session_object, nothing}
+use Rattle.dk_examples.specs.Worked.{run, conn, id, object, in_eight, in_four, listed, nothing}
+use Rattle.dk_examples.specs.SessionRows.{alice, alice_record, session_object}
 use Rattle.dk_examples.specs.ChannelGame.{channel_rules, foo, bar}
-use Rattle.dk_examples.specs.ChannelRows.{ChannelsBegin, LoginJoins, UnheardGoesToAll, HeardGoesToTheGame, NoChannelIsNothing, JoinOfNoChannelFails, DisconnectLeaves, bob_alone, in_eight, in_four, channel_names, bob, foo_record, bar_record, channel_object, alice_member, bob_member, joined_object, two_channels, one_member, two_members}
+use Rattle.dk_examples.specs.ChannelRows.{ChannelsBegin, LoginJoins, UnheardGoesToAll, HeardGoesToTheGame, NoChannelIsNothing, JoinOfNoChannelFails, DisconnectLeaves, bob_alone, channel_names, bob, foo_record, bar_record, channel_object, alice_member, bob_member, joined_object, two_channels, one_member, two_members}
 use Rattle.dk_examples.proofs.SessionRuns.{session_read}
 use Rattle.dk_examples.proofs.Running.{runs_ok, runs_failed, looks, puts, at_end}
 

@@ -96,15 +96,14 @@ module _ (rules : Meaning) (d : DurableWorld) (m n : ℕ) (t : Bool) (cs : List 
       → is_sorted run_cmp cs' ≡ true → is_sorted conn_cmp ks' ≡ true
       → Happens rules from (event.Commit 0 (run number) (d.commits + 1) told.outcome) (world d' m n t cs' ks')
   commits number c told d' cs' ks' held mine runs cut kept s u =
-      let step = step_of rules from (run number) c in
-      (
+      let step = step_of rules from (run number) c in (
         c,
         held,
         mine,
         refl,
         sym (ap (λ (x : Told). x.outcome) runs.tells),
         is_world d' m n t _ _ cs' ks' cut kept s u
-        ∙ (λ i. swept (record from { durable = sym runs.leaves i; claims = remove from.claims (run number); connections = delivered c.job (sym (ap (λ (x : Told). x.outs) runs.tells) i) from.connections })),
+            ∙ (λ i. swept (record from { durable = sym runs.leaves i; claims = remove from.claims (run number); connections = delivered c.job (sym (ap (λ (x : Told). x.outs) runs.tells) i) from.connections })),
       )
 
   -- a new connection of alice

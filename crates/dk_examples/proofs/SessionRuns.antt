@@ -12,8 +12,8 @@ use Rattle.dk_model.specs.Runs.{Run, begun, give, and_then, within, get, create,
 use Rattle.dk_model.specs.Records.{session_of, next_session}
 use Rattle.dk_model.specs.Spellings.{next_list}
 use Rattle.dk_model.specs.Platforms.{get_as, is_connected, open_record, close_record}
-use Rattle.dk_examples.specs.Worked.{run, conn, id, listed}
-use Rattle.dk_examples.specs.SessionRows.{FirstRunAccepts, LoginIsAccepted, SecondLoginIsRefused, LongLoginFails, GivenUpLoginFails, StrangeMessageIsNothing, DisconnectEnds, StopEnds, accepting, giving_up, alice, alice_record, session_object, nothing, with_alice}
+use Rattle.dk_examples.specs.Worked.{run, conn, id, accepting, giving_up, listed, nothing}
+use Rattle.dk_examples.specs.SessionRows.{FirstRunAccepts, LoginIsAccepted, SecondLoginIsRefused, LongLoginFails, GivenUpLoginFails, StrangeMessageIsNothing, DisconnectEnds, StopEnds, alice, alice_record, session_object, with_alice}
 use Rattle.dk_examples.proofs.Running.{runs_ok, runs_failed, looks, puts, at_end}
 
 -- alice's record is read back

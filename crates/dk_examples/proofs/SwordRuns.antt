@@ -16,8 +16,8 @@ use Rattle.dk_model.specs.Platforms.{get_as, is_connected, open_record}
 use Rattle.sword_world.specs.Things.{room_of, next_room, thing_of, next_thing, player_of, next_player}
 use Rattle.sword_world.specs.Labels.{labels}
 use Rattle.sword_world.specs.Rules.{sword_rules, furnish, initialize, new_player, known_player, enter, login, tell, look_round, look_as, look, message}
-use Rattle.dk_examples.specs.Worked.{run, conn, id, listed}
-use Rattle.dk_examples.specs.SessionRows.{alice, alice_record, session_object, nothing}
+use Rattle.dk_examples.specs.Worked.{run, conn, id, listed, nothing}
+use Rattle.dk_examples.specs.SessionRows.{alice, alice_record, session_object}
 use Rattle.dk_examples.specs.SwordRows.{SwordBegins, SwordLogin, SwordLook, SwordLookInOtherLetters, SwordDance, SwordLookAround, SwordLengths, room, sword_object, room_object, alice_player, bob_player, alice_is, furnished, alice_entered, both_entered, sight}
 use Rattle.dk_examples.proofs.SessionRuns.{session_read}
 use Rattle.dk_examples.proofs.Running.{runs_ok, looks, puts, at_end}

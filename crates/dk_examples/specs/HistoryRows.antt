@@ -20,10 +20,10 @@ use Rattle.dk_model.specs.Worlds.{World, Connection, Claim}
 use Rattle.dk_model.specs.Histories.{Leads}
 use Rattle.dk_model.specs.Openings.{opening}
 use Rattle.sword_world.specs.Rules.{sword_rules}
-use Rattle.dk_examples.specs.Worked.{run, conn, listed}
+use Rattle.dk_examples.specs.Worked.{run, conn, accepting, listed, nothing}
 use Rattle.dk_examples.specs.TimerGame.{timer_rules}
 use Rattle.dk_examples.specs.TimerRows.{occurrence, counted}
-use Rattle.dk_examples.specs.SessionRows.{accepting, alice, nothing, with_alice}
+use Rattle.dk_examples.specs.SessionRows.{alice, with_alice}
 use Rattle.dk_examples.specs.SwordRows.{sight, alice_entered}
 
 -- a world without a budget, by its moment, its next number, whether the last claim was of a task, its claims and its connections
