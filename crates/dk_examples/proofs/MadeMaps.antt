@@ -48,7 +48,7 @@ module _ {K X : Type 0} (R : K → K → Ordering) where
   same_made total m es e s = same_entries_map _ _ (e ∙ sym (entries-made total es s))
 
   module _ (total : IsTotalOrder R) (exact : IsAntisymmetric R) where
-    entries-retained : (m : FinMap R X) (p : K → Bool) → entries (retain_keys m p) ≡ where_key R p (entries m)
+    pub entries-retained : (m : FinMap R X) (p : K → Bool) → entries (retain_keys m p) ≡ where_key R p (entries m)
     entries-retained m p = same_entries R total exact _ _ (entries_sorted _) (is_sorted-where_key R p (entries m) (entries_sorted m)) (λ q.
         let alike : (x : K) → R q x ≡ Equal → p x ≡ p q = λ x t. ap p (sym (exact q x t)) in
         sym (get-entries _ q) ∙ get-retain_keys m p q alike ∙ ap (λ o. cond (p q) o None) (get-entries m q) ∙ sym (find-where_key R p q alike (entries m)))

@@ -11,9 +11,9 @@ use Rattle.dk_wire.specs.Reading.{u32_at, u64_at, end_at}
 use Rattle.dk_model.specs.Runs.{Run, begun, give, and_then, within, get, create, remove as remove_object, bind, unbind, send}
 use Rattle.dk_model.specs.Records.{session_of, next_session}
 use Rattle.dk_wire.specs.Lists.{list_spelling, items_at, list_at}
-use Rattle.dk_model.specs.Platforms.{get_as, is_connected, open_record, close_record}
-use Rattle.dk_examples.specs.Worked.{run, conn, id, listed}
-use Rattle.dk_examples.specs.SessionRows.{LoginIsAccepted, SecondLoginIsRefused, LongLoginFails, GivenUpLoginFails, StrangeMessageIsNothing, DisconnectEnds, accepting, giving_up, alice, alice_record, session_object, nothing, with_alice}
+use Rattle.dk_model.specs.Platforms.{get_as, is_connected, open_record, new_record, close_record}
+use Rattle.dk_examples.specs.Worked.{run, conn, id, accepting, giving_up, listed, nothing}
+use Rattle.dk_examples.specs.SessionRows.{FirstRunAccepts, LoginIsAccepted, SecondLoginIsRefused, LongLoginFails, GivenUpLoginFails, StrangeMessageIsNothing, DisconnectEnds, StopEnds, alice, alice_record, session_object, with_alice}
 use Rattle.dk_examples.proofs.Running.{runs_ok, runs_failed, looks, puts, at_end}
 
 -- alice's record is read back
@@ -21,13 +21,19 @@ pub session_read : session_of (session_object 1).bytes ≡ Some (record { conn =
 unfolding session_of next_session next_u64 u64_at list_at items_at list_spelling next_u32 u32_at next_end end_at
 session_read = refl
 
+pub first_run_accepts : FirstRunAccepts
+unfolding within give
+first_run_accepts = runs_ok accepting job.Initialize (run 0) 0 nothing nothing 0 None (begun (run 0) 0 (listed nothing 0 None))
+    record { objects = refl; names = refl; tasks = refl } refl
+    record { objects = simp puts; names = simp puts; tasks = simp puts; sorted = record { objects = refl; names = refl; tasks = refl } } refl
+
 accepted_end : Run
 accepted_end = at_end
     (record (listed nothing 2 (Some (run 2))) { objects = insert empty (id 2 0) (session_object 1); names = insert empty alice_record (id 2 0) })
     (ask.Object (id 2 0) ∷ ask.Bound alice_record ∷ []) ((conn 1, out.Accepted) ∷ []) (run 2) 0 1 0
 
 pub login_is_accepted : LoginIsAccepted
-unfolding within and_then give open_record create bind send u64_spelling u32_spelling accepted_end
+unfolding within and_then give open_record new_record create bind send u64_spelling u32_spelling list_spelling accepted_end
 login_is_accepted = runs_ok accepting (job.Login (conn 1) alice) (run 2) 0 nothing with_alice 1 (Some (run 0)) accepted_end
     record { objects = refl; names = refl; tasks = refl } (simp looks)
     record { objects = simp puts; names = simp puts; tasks = simp puts; sorted = record { objects = refl; names = refl; tasks = refl } } refl
@@ -42,7 +48,7 @@ second_login_is_refused rules = runs_ok rules (job.Login (conn 3) alice) (run 4)
     record { objects = simp puts; names = simp puts; tasks = simp puts; sorted = record { objects = refl; names = refl; tasks = refl } } refl
 
 pub long_login_fails : LongLoginFails
-unfolding within and_then give open_record
+unfolding within and_then give open_record new_record
 long_login_fails rules =
     let start = begun (run 2) 0 (listed nothing 1 (Some (run 0))) in
     runs_failed rules (job.Login (conn 1) (replicate 255 97)) (run 2) 0 nothing nothing 1 (Some (run 0)) start (fault.Refused 4)
@@ -50,7 +56,7 @@ long_login_fails rules =
     record { objects = simp puts; names = simp puts; tasks = simp puts; sorted = record { objects = refl; names = refl; tasks = refl } }
 
 pub given_up_login_fails : GivenUpLoginFails
-unfolding within and_then give open_record create bind send u64_spelling u32_spelling accepted_end
+unfolding within and_then give open_record new_record create bind send u64_spelling u32_spelling list_spelling accepted_end
 given_up_login_fails =
     let start = begun (run 2) 0 (listed nothing 1 (Some (run 0))) in
     runs_failed giving_up (job.Login (conn 1) alice) (run 2) 0 nothing nothing 1 (Some (run 0)) accepted_end (fault.Game 7)
@@ -63,13 +69,20 @@ strange_message_is_nothing rules = runs_ok rules (job.Message (conn 3) alice (co
     record { objects = refl; names = refl; tasks = refl } (simp (looks, session_read))
     record { objects = simp puts; names = simp puts; tasks = simp puts; sorted = record { objects = refl; names = refl; tasks = refl } } refl
 
-ended_end : Run
-ended_end = at_end
-    (record (listed with_alice 3 (Some (run 5))) { objects = remove (from_entries with_alice.objects) (id 2 0); names = remove (from_entries with_alice.names) alice_record })
-    (ask.Bound alice_record ∷ ask.Object (id 2 0) ∷ []) [] (run 5) 0 0 0
+-- the run that has taken the record away
+ended_end : ℕ → Run
+ended_end number = at_end
+    (record (listed with_alice 3 (Some (run number))) { objects = remove (from_entries with_alice.objects) (id 2 0); names = remove (from_entries with_alice.names) alice_record })
+    (ask.Bound alice_record ∷ ask.Object (id 2 0) ∷ []) [] (run number) 0 0 0
 
 pub disconnect_ends : DisconnectEnds
 unfolding within and_then give get get_as is_connected unbind remove_object close_record ended_end
-disconnect_ends = runs_ok accepting (job.Disconnect (conn 1) alice true) (run 5) 0 with_alice nothing 2 (Some (run 2)) ended_end
+disconnect_ends = runs_ok accepting (job.Disconnect (conn 1) alice true) (run 5) 0 with_alice nothing 2 (Some (run 2)) (ended_end 5)
+    record { objects = refl; names = refl; tasks = refl } (simp (looks, session_read))
+    record { objects = simp puts; names = simp puts; tasks = simp puts; sorted = record { objects = refl; names = refl; tasks = refl } } refl
+
+pub stop_ends : StopEnds
+unfolding within and_then give get get_as is_connected unbind remove_object close_record ended_end
+stop_ends = runs_ok accepting (job.Disconnect (conn 1) alice false) (run 3) 0 with_alice nothing 2 (Some (run 2)) (ended_end 3)
     record { objects = refl; names = refl; tasks = refl } (simp (looks, session_read))
     record { objects = simp puts; names = simp puts; tasks = simp puts; sorted = record { objects = refl; names = refl; tasks = refl } } refl

@@ -12,18 +12,18 @@ use Rattle.dk_wire.specs.Payload.{next_u8, next_u32, next_name, next_id, next_en
 use Rattle.dk_wire.specs.Reading.{u8_at, u32_at, name_at, id_at, end_at}
 use Rattle.dk_wire.specs.Lists.{list_spelling, items_at, list_at}
 use Rattle.dk_model.specs.Runs.{Run, begun, give, and_then, within, get, create, save, bound, bind, send}
-use Rattle.dk_model.specs.Platforms.{get_as, is_connected, open_record}
+use Rattle.dk_model.specs.Platforms.{get_as, is_connected, open_record, new_record}
 use Rattle.sword_world.specs.Things.{room_of, next_room, thing_of, next_thing, player_of, next_player}
 use Rattle.sword_world.specs.Labels.{labels}
 use Rattle.sword_world.specs.Rules.{sword_rules, furnish, initialize, new_player, known_player, enter, login, tell, look_round, look_as, look, message}
-use Rattle.dk_examples.specs.Worked.{run, conn, id, listed}
-use Rattle.dk_examples.specs.SessionRows.{alice, alice_record, session_object, nothing}
+use Rattle.dk_examples.specs.Worked.{run, conn, id, listed, nothing}
+use Rattle.dk_examples.specs.SessionRows.{alice, alice_record, session_object}
 use Rattle.dk_examples.specs.SwordRows.{SwordBegins, SwordLogin, SwordLook, SwordLookInOtherLetters, SwordDance, SwordLookAround, SwordLengths, room, sword_object, room_object, alice_player, bob_player, alice_is, furnished, alice_entered, both_entered, sight}
 use Rattle.dk_examples.proofs.SessionRuns.{session_read}
 use Rattle.dk_examples.proofs.Running.{runs_ok, looks, puts, at_end}
 
 pub sword_begins : SwordBegins
-unfolding within and_then give create bind initialize furnish u64_spelling u32_spelling name_spelling id_spelling
+unfolding within and_then give create bind initialize furnish u64_spelling u32_spelling list_spelling name_spelling id_spelling
 sword_begins = runs_ok sword_rules job.Initialize (run 0) 0 nothing furnished 0 None
     (at_end (record (listed nothing 1 (Some (run 0))) { objects = insert (insert empty (id 0 0) sword_object) (id 0 1) (room_object 0 []); names = insert empty room (id 0 1) })
     (ask.Object (id 0 0) ∷ ask.Object (id 0 1) ∷ ask.Bound room ∷ []) [] (run 0) 0 2 0)
@@ -55,7 +55,7 @@ unfolding player_of next_player next_u8 u8_at next_name name_at next_end end_at 
 bob_plays = refl
 
 pub sword_login : SwordLogin
-unfolding within and_then give get get_as create save bound bind send open_record login known_player new_player enter u64_spelling u32_spelling name_spelling id_spelling
+unfolding within and_then give get get_as create save bound bind send open_record new_record login known_player new_player enter u64_spelling u32_spelling list_spelling name_spelling id_spelling
 sword_login = runs_ok sword_rules (job.Login (conn 1) alice) (run 2) 0 furnished alice_entered 1 (Some (run 0))
     (at_end
     (record (listed furnished 2 (Some (run 2))) {

@@ -18,9 +18,9 @@ use Rattle.dk_model.specs.Steps.{own_task, work}
 use Rattle.dk_model.specs.Records.{value_of}
 use Rattle.dk_model.specs.Platforms.{get_as}
 use Rattle.dk_model.proofs.Maps.{ids_total, keys_total, names_total}
-use Rattle.dk_examples.specs.Worked.{run, id, key, object, listed}
+use Rattle.dk_examples.specs.Worked.{run, id, key, object, in_eight, giving_up, listed}
 use Rattle.dk_examples.specs.TimerGame.{timer_rules, begin_counting, count_name}
-use Rattle.dk_examples.specs.TimerRows.{TimerBegins, TimerSkips, TimerGoesOn, TimerEnds, TimerIsOver, TimerFails, OnceFails, giving_up, one_task, two_tasks, counted, occurrence, counter, each_100_ms, counting}
+use Rattle.dk_examples.specs.TimerRows.{TimerBegins, TimerSkips, TimerGoesOn, TimerEnds, TimerIsOver, TimerFails, OnceFails, one_task, two_tasks, counted, occurrence, each_100_ms, counting}
 use Rattle.dk_examples.proofs.Running.{runs_ok, runs_failed, looks, puts, at_end}
 
 pub timer_begins : TimerBegins
@@ -30,15 +30,15 @@ timer_begins = runs_ok timer_rules job.Initialize (run 0) 0 (record { objects = 
     record { objects = simp puts; names = simp puts; tasks = simp puts; sorted = record { objects = refl; names = refl; tasks = refl } } refl
 
 -- the counter is read back
-read_0 : value_of next_u64 (counter 0) ≡ Some 0
+read_0 : value_of next_u64 (in_eight 0) ≡ Some 0
 unfolding next_u64 next_end u64_at end_at
 read_0 = refl
 
-read_1 : value_of next_u64 (counter 1) ≡ Some 1
+read_1 : value_of next_u64 (in_eight 1) ≡ Some 1
 unfolding next_u64 next_end u64_at end_at
 read_1 = refl
 
-read_2 : value_of next_u64 (counter 2) ≡ Some 2
+read_2 : value_of next_u64 (in_eight 2) ≡ Some 2
 unfolding next_u64 next_end u64_at end_at
 read_2 = refl
 
@@ -46,7 +46,7 @@ read_2 = refl
 count_end : ℕ → ℕ → ℕ → ℕ → ℕ → ℕ → Run
 count_end n due next commits number at = at_end
     (record (listed (counting n due) commits (Some (run number))) {
-      objects = insert (from_entries (counting n due).objects) (id 0 0) (object 1 (counter (n + 1)));
+      objects = insert (from_entries (counting n due).objects) (id 0 0) (object 1 (in_eight (n + 1)));
       tasks = insert (from_entries (counting n due).tasks) (key 0 0) (each_100_ms next);
     })
     (ask.Object (id 0 0) ∷ []) [] (run number) at 0 0
@@ -90,7 +90,7 @@ own_moved = simp looks
 
 pub timer_fails : TimerFails
 unfolding within and_then give own_task moved_end
-timer_fails = runs_failed giving_up (occurrence 100) (run 1) 350 (counting 0 100) (counting 0 400) 1 (Some (run 0)) moved_end (fault.Game 1)
+timer_fails = runs_failed giving_up (occurrence 100) (run 1) 350 (counting 0 100) (counting 0 400) 1 (Some (run 0)) moved_end (fault.Game 7)
     record { objects = refl; names = refl; tasks = refl } (simp looks) moved_end (ap (λ (p : Result Bool AppFault × Run). p.1) own_moved)
     record { objects = simp puts; names = simp puts; tasks = simp puts; sorted = record { objects = refl; names = refl; tasks = refl } }
 
@@ -104,6 +104,6 @@ own_gone = simp looks
 
 pub once_fails : OnceFails
 unfolding within and_then give own_task gone_end
-once_fails = runs_failed giving_up (job.Task (key 0 1) 20 0 7 (1 ∷ 2 ∷ [])) (run 5) 30 two_tasks one_task 1 (Some (run 0)) gone_end (fault.Game 1)
+once_fails = runs_failed giving_up (job.Task (key 0 1) 20 0 7 (1 ∷ 2 ∷ [])) (run 5) 30 two_tasks one_task 1 (Some (run 0)) gone_end (fault.Game 7)
     record { objects = refl; names = refl; tasks = refl } (simp looks) gone_end (ap (λ (p : Result Bool AppFault × Run). p.1) own_gone)
     record { objects = simp puts; names = simp puts; tasks = simp puts; sorted = record { objects = refl; names = refl; tasks = refl } }

@@ -7,9 +7,9 @@ use Rattle.dk_types.specs.declared.number.ObjectId.{ObjectId}
 use Rattle.dk_types.specs.declared.object.Object.{Object}
 use Rattle.dk_types.specs.declared.fault.AppFault.TheVariants as fault
 use Rattle.dk_types.specs.declared.fault.Outcome.TheVariants as outcome
-use Rattle.dk_examples.specs.Worked.{run, conn, id, object, Lists, listed, Runs}
+use Rattle.dk_examples.specs.Worked.{run, conn, id, object, in_eight, in_four, Lists, listed, nothing, no_effects, does_nothing, Runs}
 use Rattle.dk_examples.specs.ChannelGame.{channel_rules, foo, bar}
-use Rattle.dk_examples.specs.SessionRows.{alice, alice_record, nothing, no_effects, does_nothing}
+use Rattle.dk_examples.specs.SessionRows.{alice, alice_record}
 
 abbrev pub bob : List ℕ
 bob = codes "bob"
@@ -22,13 +22,6 @@ foo_record = codes "$c.Foo"
 
 abbrev pub bar_record : List ℕ
 bar_record = codes "$c.Bar"
-
--- a number below 256 in eight bytes, and in four
-abbrev pub in_eight : ℕ → List ℕ
-in_eight n = 0 ∷ 0 ∷ 0 ∷ 0 ∷ 0 ∷ 0 ∷ 0 ∷ n ∷ []
-
-abbrev pub in_four : ℕ → List ℕ
-in_four n = 0 ∷ 0 ∷ 0 ∷ n ∷ []
 
 -- a channel's record: whether a game listens, reliable delivery, how many members, and these
 abbrev pub channel_object : ℕ → ℕ → List ℕ → Object

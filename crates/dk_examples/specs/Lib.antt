@@ -6,3 +6,5 @@ pub mod ChannelGame
 pub mod ChannelRows
 pub mod OutboxRows
 pub mod SwordRows
+pub mod HistoryRows
+pub mod PickRows

@@ -1,25 +1,14 @@
 -- Sessions: logins that are accepted, refused and failed, and what follows for one that is not connected.
-use Rattle.std.specs.Prelude.{ℕ, true, Some, List, [], ◌∷◌, codes, replicate, Ok, Err}
-use Rattle.dk_types.specs.declared.job.Job.{Job}
+use Rattle.std.specs.Prelude.{ℕ, true, false, Some, None, List, [], ◌∷◌, ◌++◌, codes, replicate}
 use Rattle.dk_types.specs.declared.job.Job.TheVariants as job
 use Rattle.dk_types.specs.declared.job.Out.TheVariants as out
 use Rattle.dk_types.specs.declared.item.Item.TheVariants as ask
 use Rattle.dk_types.specs.declared.object.Object.{Object}
-use Rattle.dk_types.specs.declared.durable.Effects.{Effects}
 use Rattle.dk_types.specs.declared.fault.AppFault.TheVariants as fault
 use Rattle.dk_types.specs.declared.fault.Outcome.TheVariants as outcome
-use Rattle.dk_model.specs.Runs.{Act, give}
 use Rattle.dk_model.specs.Events.{Meaning}
 use Rattle.dk_model.specs.Finishes.{Told}
-use Rattle.dk_examples.specs.Worked.{run, conn, id, object, Lists, listed, Runs}
-
--- rules by which every job accepts
-abbrev pub accepting : Job → Act (Unit {0})
-accepting job = give (Ok tt)
-
--- rules by which every job gives up with the code 7
-abbrev pub giving_up : Job → Act (Unit {0})
-giving_up job = give (Err (fault.Game 7))
+use Rattle.dk_examples.specs.Worked.{run, conn, id, object, in_eight, in_four, accepting, giving_up, Lists, listed, nothing, no_effects, does_nothing, Runs}
 
 abbrev pub alice : List ℕ
 alice = codes "alice"
@@ -30,21 +19,15 @@ alice_record = codes "$s.alice"
 
 -- the record of a session with this connection, below 256, which is on no channel
 abbrev pub session_object : ℕ → Object
-session_object number = object 0xFF01 (0 ∷ 0 ∷ 0 ∷ 0 ∷ 0 ∷ 0 ∷ 0 ∷ number ∷ 0 ∷ 0 ∷ 0 ∷ 0 ∷ [])
-
-abbrev pub nothing : Lists
-nothing = record { objects = []; names = []; tasks = [] }
+session_object number = object 0xFF01 (in_eight number ++ in_four 0)
 
 -- alice is recorded by run 2 with connection 1
 abbrev pub with_alice : Lists
 with_alice = record { objects = (id 2 0, session_object 1) ∷ []; names = (alice_record, id 2 0) ∷ []; tasks = [] }
 
-abbrev pub no_effects : Effects
-no_effects = record { written = []; removed = []; bound = []; unbound = []; added = []; dropped = []; requeued = [] }
-
--- a run that ends well and does nothing
-abbrev pub does_nothing : Told
-does_nothing = record { outcome = outcome.Ok; effects = no_effects; touched = []; outs = [] }
+-- the first run of a game that has nothing to make
+abbrev pub FirstRunAccepts : Type 0
+FirstRunAccepts = Runs accepting job.Initialize (run 0) 0 (listed nothing 0 None) does_nothing (listed nothing 1 (Some (run 0)))
 
 -- a login is recorded as object 2.0 and accepted
 abbrev pub LoginIsAccepted : Type 0
@@ -85,13 +68,19 @@ StrangeMessageIsNothing =
     (rules : Meaning)
     → Runs rules (job.Message (conn 3) alice (codes "look")) (run 5) 0 (listed with_alice 2 (Some (run 2))) does_nothing (listed with_alice 3 (Some (run 5)))
 
+-- a run that takes alice's record away
+abbrev pub takes_away : Told
+takes_away = record {
+  outcome = outcome.Ok;
+  effects = record no_effects { removed = id 2 0 ∷ []; unbound = alice_record ∷ [] };
+  touched = ask.Bound alice_record ∷ ask.Object (id 2 0) ∷ [];
+  outs = [];
+}
+
 -- the end of a session takes its record away
 abbrev pub DisconnectEnds : Type 0
-DisconnectEnds = Runs accepting (job.Disconnect (conn 1) alice true) (run 5) 0 (listed with_alice 2 (Some (run 2)))
-    (record {
-      outcome = outcome.Ok;
-      effects = record no_effects { removed = id 2 0 ∷ []; unbound = alice_record ∷ [] };
-      touched = ask.Bound alice_record ∷ ask.Object (id 2 0) ∷ [];
-      outs = [];
-    })
-    (listed nothing 3 (Some (run 5)))
+DisconnectEnds = Runs accepting (job.Disconnect (conn 1) alice true) (run 5) 0 (listed with_alice 2 (Some (run 2))) takes_away (listed nothing 3 (Some (run 5)))
+
+-- so does the end that a stop left
+abbrev pub StopEnds : Type 0
+StopEnds = Runs accepting (job.Disconnect (conn 1) alice false) (run 3) 0 (listed with_alice 2 (Some (run 2))) takes_away (listed nothing 3 (Some (run 3)))

@@ -9,9 +9,9 @@ use Rattle.dk_types.specs.declared.item.Item.TheVariants as ask
 use Rattle.dk_types.specs.declared.fault.Outcome.TheVariants as outcome
 use Rattle.dk_model.specs.Effects.{effects_length}
 use Rattle.sword_world.specs.Rules.{sword_rules}
-use Rattle.dk_examples.specs.Worked.{run, conn, id, object, Lists, listed, Runs}
-use Rattle.dk_examples.specs.SessionRows.{alice, alice_record, session_object, nothing, no_effects, does_nothing}
-use Rattle.dk_examples.specs.ChannelRows.{bob, bob_record, in_eight, in_four}
+use Rattle.dk_examples.specs.Worked.{run, conn, id, object, in_eight, in_four, Lists, listed, nothing, no_effects, does_nothing, Runs}
+use Rattle.dk_examples.specs.SessionRows.{alice, alice_record, session_object}
+use Rattle.dk_examples.specs.ChannelRows.{bob, bob_record}
 
 abbrev pub room : List ℕ
 room = codes "Room"

@@ -1,19 +1,14 @@
 -- Timers: missed occurrences are skipped, and the due moments stay on their grid.
-use Rattle.std.specs.Prelude.{ℕ, Some, List, [], ◌∷◌, Err}
+use Rattle.std.specs.Prelude.{ℕ, Some, List, [], ◌∷◌}
 use Rattle.dk_types.specs.declared.job.Job.{Job}
 use Rattle.dk_types.specs.declared.job.Job.TheVariants as job
 use Rattle.dk_types.specs.declared.item.Item.TheVariants as ask
 use Rattle.dk_types.specs.declared.fault.AppFault.TheVariants as fault
 use Rattle.dk_types.specs.declared.fault.Outcome.TheVariants as outcome
 use Rattle.dk_model.specs.DurableWorlds.{Task, empty_world}
-use Rattle.dk_model.specs.Runs.{Act, give}
 use Rattle.dk_model.specs.Finishes.{Told}
-use Rattle.dk_examples.specs.Worked.{run, id, key, object, Lists, listed, Runs}
+use Rattle.dk_examples.specs.Worked.{run, id, key, object, in_eight, giving_up, Lists, listed, no_effects, does_nothing, Runs}
 use Rattle.dk_examples.specs.TimerGame.{timer_rules, count_name}
-
--- the counter's bytes
-abbrev pub counter : ℕ → List ℕ
-counter n = 0 ∷ 0 ∷ 0 ∷ 0 ∷ 0 ∷ 0 ∷ 0 ∷ n ∷ []
 
 -- every 100 ms, next at this moment
 abbrev pub each_100_ms : ℕ → Task
@@ -21,22 +16,14 @@ each_100_ms due = record { due = due; period = 100; kind = 1; arg = [] }
 
 -- a counter with this count, and the task with this next due moment
 abbrev pub counting : ℕ → ℕ → Lists
-counting n due = record { objects = (id 0 0, object 1 (counter n)) ∷ []; names = (count_name, id 0 0) ∷ []; tasks = (key 0 0, each_100_ms due) ∷ [] }
+counting n due = record { objects = (id 0 0, object 1 (in_eight n)) ∷ []; names = (count_name, id 0 0) ∷ []; tasks = (key 0 0, each_100_ms due) ∷ [] }
 
 -- run 0 makes object 0.0 and task 0.0, which is first due at 100
 abbrev pub TimerBegins : Type 0
 TimerBegins = Runs timer_rules job.Initialize (run 0) 0 empty_world
     (record {
       outcome = outcome.Ok;
-      effects = record {
-        written = (id 0 0, object 1 (counter 0)) ∷ [];
-        removed = [];
-        bound = (count_name, id 0 0) ∷ [];
-        unbound = [];
-        added = record { key = key 0 0; due = 100; period = 100; kind = 1; arg = [] } ∷ [];
-        dropped = [];
-        requeued = [];
-      };
+      effects = record no_effects { written = (id 0 0, object 1 (in_eight 0)) ∷ []; bound = (count_name, id 0 0) ∷ []; added = record { key = key 0 0; due = 100; period = 100; kind = 1; arg = [] } ∷ [] };
       touched = ask.Object (id 0 0) ∷ ask.Bound count_name ∷ ask.Task (key 0 0) ∷ [];
       outs = [];
     })
@@ -50,15 +37,7 @@ occurrence due = job.Task (key 0 0) due 100 1 []
 abbrev pub counts_to : ℕ → ℕ → Told
 counts_to n next = record {
   outcome = outcome.Ok;
-  effects = record {
-    written = (id 0 0, object 1 (counter n)) ∷ [];
-    removed = [];
-    bound = [];
-    unbound = [];
-    added = [];
-    dropped = [];
-    requeued = (key 0 0, next) ∷ [];
-  };
+  effects = record no_effects { written = (id 0 0, object 1 (in_eight n)) ∷ []; requeued = (key 0 0, next) ∷ [] };
   touched = ask.Object (id 0 0) ∷ [];
   outs = [];
 }
@@ -73,49 +52,28 @@ TimerGoesOn = Runs timer_rules (occurrence 400) (run 2) 400 (listed (counting 1 
 
 -- after the third occurrence, which cancelled the task
 abbrev pub counted : Lists
-counted = record { objects = (id 0 0, object 1 (counter 3)) ∷ []; names = (count_name, id 0 0) ∷ []; tasks = [] }
+counted = record { objects = (id 0 0, object 1 (in_eight 3)) ∷ []; names = (count_name, id 0 0) ∷ []; tasks = [] }
 
 abbrev pub TimerEnds : Type 0
 TimerEnds = Runs timer_rules (occurrence 500) (run 3) 500 (listed (counting 2 500) 3 (Some (run 2)))
     (record {
       outcome = outcome.Ok;
-      effects = record {
-        written = (id 0 0, object 1 (counter 3)) ∷ [];
-        removed = [];
-        bound = [];
-        unbound = [];
-        added = [];
-        dropped = key 0 0 ∷ [];
-        requeued = [];
-      };
+      effects = record no_effects { written = (id 0 0, object 1 (in_eight 3)) ∷ []; dropped = key 0 0 ∷ [] };
       touched = ask.Object (id 0 0) ∷ ask.Task (key 0 0) ∷ [];
       outs = [];
     })
     (listed counted 4 (Some (run 3)))
 
--- a run that tells no effects and sends nothing
-abbrev pub tells_nothing : Told
-tells_nothing = record {
-  outcome = outcome.Ok;
-  effects = record { written = []; removed = []; bound = []; unbound = []; added = []; dropped = []; requeued = [] };
-  touched = [];
-  outs = [];
-}
-
 -- an occurrence of a task that is no longer pending does nothing
 abbrev pub TimerIsOver : Type 0
-TimerIsOver = Runs timer_rules (occurrence 600) (run 4) 600 (listed counted 4 (Some (run 3))) tells_nothing (listed counted 5 (Some (run 4)))
-
--- rules by which every job gives up with the code 1
-abbrev pub giving_up : Job → Act (Unit {0})
-giving_up job = give (Err (fault.Game 1))
+TimerIsOver = Runs timer_rules (occurrence 600) (run 4) 600 (listed counted 4 (Some (run 3))) does_nothing (listed counted 5 (Some (run 4)))
 
 -- of a periodic occurrence that gives up the next due moment alone is kept
 abbrev pub TimerFails : Type 0
 TimerFails = Runs giving_up (occurrence 100) (run 1) 350 (listed (counting 0 100) 1 (Some (run 0)))
     (record {
-      outcome = outcome.Fail (fault.Game 1);
-      effects = record { written = []; removed = []; bound = []; unbound = []; added = []; dropped = []; requeued = (key 0 0, 400) ∷ [] };
+      outcome = outcome.Fail (fault.Game 7);
+      effects = record no_effects { requeued = (key 0 0, 400) ∷ [] };
       touched = [];
       outs = [];
     })
@@ -133,8 +91,8 @@ two_tasks = record { objects = []; names = []; tasks = (key 0 0, each_100_ms 100
 abbrev pub OnceFails : Type 0
 OnceFails = Runs giving_up (job.Task (key 0 1) 20 0 7 (1 ∷ 2 ∷ [])) (run 5) 30 (listed two_tasks 1 (Some (run 0)))
     (record {
-      outcome = outcome.Fail (fault.Game 1);
-      effects = record { written = []; removed = []; bound = []; unbound = []; added = []; dropped = key 0 1 ∷ []; requeued = [] };
+      outcome = outcome.Fail (fault.Game 7);
+      effects = record no_effects { dropped = key 0 1 ∷ [] };
       touched = ask.Task (key 0 1) ∷ [];
       outs = [];
     })

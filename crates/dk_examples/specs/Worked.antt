@@ -1,13 +1,17 @@
 -- How a worked example is written: a world by its lists, and what a job's run tells of it.
-use Rattle.std.specs.Prelude.{◌≡◌, ℕ, Option, List}
+use Rattle.std.specs.Prelude.{◌≡◌, ℕ, Option, List, [], ◌∷◌, Ok, Err}
 use Rattle.std.specs.FinMap.{from_entries}
 use Rattle.dk_types.specs.declared.number.RunNo.{RunNo}
 use Rattle.dk_types.specs.declared.number.ConnNo.{ConnNo}
 use Rattle.dk_types.specs.declared.number.ObjectId.{ObjectId}
 use Rattle.dk_types.specs.declared.number.TaskKey.{TaskKey}
 use Rattle.dk_types.specs.declared.object.Object.{Object}
+use Rattle.dk_types.specs.declared.durable.Effects.{Effects}
+use Rattle.dk_types.specs.declared.fault.AppFault.TheVariants as fault
+use Rattle.dk_types.specs.declared.fault.Outcome.TheVariants as outcome
 use Rattle.dk_types.specs.declared.job.Job.{Job}
 use Rattle.dk_model.specs.DurableWorlds.{DurableWorld, Task}
+use Rattle.dk_model.specs.Runs.{Act, give}
 use Rattle.dk_model.specs.Steps.{step}
 use Rattle.dk_model.specs.Events.{Meaning}
 use Rattle.dk_model.specs.Finishes.{Told, told_step}
@@ -29,6 +33,21 @@ key number k = record { run = run number; k = k }
 abbrev pub object : ℕ → List ℕ → Object
 object kind bytes = record { kind = kind; bytes = bytes }
 
+-- a number below 256 in eight bytes, and in four
+abbrev pub in_eight : ℕ → List ℕ
+in_eight n = 0 ∷ 0 ∷ 0 ∷ 0 ∷ 0 ∷ 0 ∷ 0 ∷ n ∷ []
+
+abbrev pub in_four : ℕ → List ℕ
+in_four n = 0 ∷ 0 ∷ 0 ∷ n ∷ []
+
+-- rules by which every job accepts
+abbrev pub accepting : Job → Act (Unit {0})
+accepting job = give (Ok tt)
+
+-- rules by which every job gives up with the code 7
+abbrev pub giving_up : Job → Act (Unit {0})
+giving_up job = give (Err (fault.Game 7))
+
 -- what a durable world holds, each list in the order of its keys
 pub record Lists : Type 0 where
   pub objects : List (ObjectId × Object)
@@ -44,6 +63,16 @@ listed l commits last = record {
   commits = commits;
   last = last;
 }
+
+abbrev pub nothing : Lists
+nothing = record { objects = []; names = []; tasks = [] }
+
+abbrev pub no_effects : Effects
+no_effects = record { written = []; removed = []; bound = []; unbound = []; added = []; dropped = []; requeued = [] }
+
+-- a run that ends well and does nothing
+abbrev pub does_nothing : Told
+does_nothing = record { outcome = outcome.Ok; effects = no_effects; touched = []; outs = [] }
 
 -- the job's run on the one world tells this, and leaves the other
 pub record Runs (rules : Meaning) (job : Job) (run : RunNo) (at : ℕ) (before : DurableWorld) (told : Told) (after : DurableWorld) : Type 0 where

@@ -2,14 +2,34 @@
 //! computed from the definitions alone, each the contract of a function that does nothing.
 #![tactic(auto)]
 
-pub use timers::{once_fails, timer_begins, timer_ends, timer_fails, timer_goes_on, timer_is_over, timer_skips};
-pub use sessions::{disconnect_ends, given_up_login_fails, login_is_accepted, long_login_fails, second_login_is_refused, strange_message_is_nothing};
-pub use channels::{channels_begin, disconnect_leaves, heard_goes_to_the_game, join_of_no_channel_fails, login_joins, no_channel_is_nothing, unheard_goes_to_all};
-pub use outboxes::{as_many_wait, cut_gets_no_more, hand_gives_all, one_more_cuts, one_more_in_the_run_cuts};
-pub use swords::{sword_begins, sword_dance, sword_lengths, sword_login, sword_look, sword_look_around, sword_look_in_other_letters};
+pub use channels::{
+    channels_begin, disconnect_leaves, heard_goes_to_the_game, join_of_no_channel_fails,
+    login_joins, no_channel_is_nothing, unheard_goes_to_all,
+};
+pub use histories::{restart_history, second_login_history, sword_history, timer_history};
+pub use outboxes::{
+    as_many_wait, cut_gets_no_more, hand_gives_all, one_more_cuts, one_more_in_the_run_cuts,
+};
+pub use picks::{
+    claimed_is_not_runnable, closed_takes_nothing, disconnect_is_taken, full_queue_refuses,
+    names_in_order, picks_in_turn, queue_takes, ties_go_by_key,
+};
+pub use sessions::{
+    disconnect_ends, first_run_accepts, given_up_login_fails, login_is_accepted, long_login_fails,
+    second_login_is_refused, stop_ends, strange_message_is_nothing,
+};
+pub use swords::{
+    sword_begins, sword_dance, sword_lengths, sword_login, sword_look, sword_look_around,
+    sword_look_in_other_letters,
+};
+pub use timers::{
+    once_fails, timer_begins, timer_ends, timer_fails, timer_goes_on, timer_is_over, timer_skips,
+};
 
-mod timers;
-mod sessions;
 mod channels;
+mod histories;
 mod outboxes;
+mod picks;
+mod sessions;
 mod swords;
+mod timers;

@@ -1,5 +1,10 @@
 //! Sessions.
-ghost use Rattle.dk_examples.specs.SessionRows.{LoginIsAccepted, SecondLoginIsRefused, LongLoginFails, GivenUpLoginFails, StrangeMessageIsNothing, DisconnectEnds};
+ghost use Rattle.dk_examples.specs.SessionRows.{FirstRunAccepts, LoginIsAccepted, SecondLoginIsRefused, LongLoginFails, GivenUpLoginFails, StrangeMessageIsNothing, DisconnectEnds, StopEnds};
+
+/// The first run of a game that makes nothing.
+pub fn first_run_accepts()
+    ensures { FirstRunAccepts }
+{}
 
 /// A login's session is recorded, and accepted.
 pub fn login_is_accepted()
@@ -29,4 +34,9 @@ pub fn strange_message_is_nothing()
 /// The end of a session takes its record and its name away.
 pub fn disconnect_ends()
     ensures { DisconnectEnds }
+{}
+
+/// So does the end that a stop left.
+pub fn stop_ends()
+    ensures { StopEnds }
 {}

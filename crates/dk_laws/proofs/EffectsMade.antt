@@ -16,7 +16,7 @@ use Rattle.dk_model.specs.Keys.{id_cmp, key_cmp}
 use Rattle.dk_model.specs.DurableWorlds.{DurableWorld, Task}
 use Rattle.dk_model.specs.Effects.{same_id, same_object, same_value, set_in, gone_in, new_in, with_set, without_keys, pending_of, task_of, is_moved, moved_in, effects, moved_at, with_moved, apply}
 use Rattle.dk_laws.specs.EffectsLaw.{DifferInDue}
-use Rattle.dk_laws.proofs.NumberedMaps.{id_total, id_exact, key_total, key_exact, name_total, name_exact}
+use Rattle.dk_model.proofs.Maps.{ids_total, exact_ids, keys_total, exact_keys, names_total, exact_names}
 
 pub and_left : (a b : Bool) → (a && b) ≡ true → a ≡ true
 and_left true b h = refl
@@ -153,12 +153,12 @@ moved-get : (o : Option Task) (key : TaskKey) (due : ℕ) (m : FinMap key_cmp Ta
     → get (moved_at o key due m) q ≡ cond (eq_by_cmp key_cmp q key) (option_map (λ (t : Task). record t { due = due }) (get m q)) (get m q)
 moved-get None key due m q e = elim (key_cmp q key) as (λ o. key_cmp q key ≡ o → get m q ≡ cond (is_eq o) (option_map (λ (t : Task). record t { due = due }) (get m q)) (get m q)) [
   | Less ↦ λ _. refl
-  | Equal ↦ λ t. let none : get m q ≡ None = ap (get m) (key_exact q key t) ∙ e in rw none refl
+  | Equal ↦ λ t. let none : get m q ≡ None = ap (get m) (exact_keys q key t) ∙ e in rw none refl
   | Greater ↦ λ _. refl
 ] refl
-moved-get (Some x) key due m q e = get-insert key_total m key (record x { due = due }) q ∙ elim (key_cmp q key) as (λ o. key_cmp q key ≡ o → cond (is_eq o) (Some (record x { due = due })) (get m q) ≡ cond (is_eq o) (option_map (λ (t : Task). record t { due = due }) (get m q)) (get m q)) [
+moved-get (Some x) key due m q e = get-insert keys_total m key (record x { due = due }) q ∙ elim (key_cmp q key) as (λ o. key_cmp q key ≡ o → cond (is_eq o) (Some (record x { due = due })) (get m q) ≡ cond (is_eq o) (option_map (λ (t : Task). record t { due = due }) (get m q)) (get m q)) [
   | Less ↦ λ _. refl
-  | Equal ↦ λ t. let some : get m q ≡ Some x = ap (get m) (key_exact q key t) ∙ e in rw some refl
+  | Equal ↦ λ t. let some : get m q ≡ Some x = ap (get m) (exact_keys q key t) ∙ e in rw some refl
   | Greater ↦ λ _. refl
 ] refl
 
@@ -172,7 +172,7 @@ get-with_moved (e ∷ es) s m q =
     ∙ elim (key_cmp q e.0) as (λ o. key_cmp q e.0 ≡ o → due_of (find key_cmp q es) (cond (is_eq o) (option_map (λ (t : Task). record t { due = e.1.due }) (get m q)) (get m q)) ≡ due_of (cond (is_eq o) (Some e.1) (find key_cmp q es)) (get m q)) [
       | Less ↦ λ _. refl
       | Equal ↦ λ t.
-          let none : find key_cmp q es ≡ None = ap (λ x. find key_cmp x es) (key_exact q e.0 t) ∙ above_none key_cmp key_total key_exact e.0 es (first_of_and _ _ s) in
+          let none : find key_cmp q es ≡ None = ap (λ x. find key_cmp x es) (exact_keys q e.0 t) ∙ above_none key_cmp keys_total exact_keys e.0 es (first_of_and _ _ s) in
           rw none (set_due (get m q) e.1)
       | Greater ↦ λ _. refl
     ] refl
@@ -201,20 +201,20 @@ tasks_made a b d =
     let added = with_set (Kept b.tasks fresh) a.tasks in
     let left = without_keys (gone_in a.tasks b.tasks) added in
     ap (λ es. with_moved (moved_in a.tasks b.tasks) (without_keys (gone_in a.tasks b.tasks) (with_set es a.tasks))) (tasks_back (Kept b.tasks fresh))
-    ∙ same_map key_total key_exact _ _ (λ q.
+    ∙ same_map keys_total exact_keys _ _ (λ q.
     get-with_moved (Kept b.tasks moved) (entries_sorted _) left q
-    ∙ ap (λ o. due_of o (get left q)) (find-kept key_cmp key_total key_exact b.tasks moved q)
-    ∙ ap (due_of (cond (moved q) (get b.tasks q) None)) (get-without_keys key_cmp key_total key_exact (gone_in a.tasks b.tasks) added q
-    ∙ ap (λ t. cond t None (get added q)) (gone_there key_cmp key_total key_exact a.tasks b.tasks q)
-    ∙ ap (cond (is_some (cond (not (is_some (get b.tasks q))) (get a.tasks q) None)) None) (get-with_set key_cmp key_total key_exact (Kept b.tasks fresh) (entries_sorted _) a.tasks q
-    ∙ ap (λ o. first_some o (get a.tasks q)) (find-kept key_cmp key_total key_exact b.tasks fresh q)))
+    ∙ ap (λ o. due_of o (get left q)) (find-kept key_cmp keys_total exact_keys b.tasks moved q)
+    ∙ ap (due_of (cond (moved q) (get b.tasks q) None)) (get-without_keys key_cmp keys_total exact_keys (gone_in a.tasks b.tasks) added q
+    ∙ ap (λ t. cond t None (get added q)) (gone_there key_cmp keys_total exact_keys a.tasks b.tasks q)
+    ∙ ap (cond (is_some (cond (not (is_some (get b.tasks q))) (get a.tasks q) None)) None) (get-with_set key_cmp keys_total exact_keys (Kept b.tasks fresh) (entries_sorted _) a.tasks q
+    ∙ ap (λ o. first_some o (get a.tasks q)) (find-kept key_cmp keys_total exact_keys b.tasks fresh q)))
     ∙ task_made (get a.tasks q) (get b.tasks q) (d q))
 
 -- but for the number of commits and the largest run, the effects from a to b make a into b
 pub apply-effects : (a b : DurableWorld) → DifferInDue a b → apply (effects a b) a ≡ record b { commits = a.commits; last = a.last }
 apply-effects a b d = λ i. record {
-  objects = effects_made id_cmp id_total id_exact same_object objects_told a.objects b.objects i;
-  names = effects_made bytes_cmp name_total name_exact same_id ids_told a.names b.names i;
+  objects = effects_made id_cmp ids_total exact_ids same_object objects_told a.objects b.objects i;
+  names = effects_made bytes_cmp names_total exact_names same_id ids_told a.names b.names i;
   tasks = tasks_made a b d i;
   commits = a.commits;
   last = a.last;

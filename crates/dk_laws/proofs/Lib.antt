@@ -15,3 +15,4 @@ pub mod SoundCommits
 pub mod SoundEvents
 pub mod SoundOpenings
 pub mod SoundHistories
+pub mod Lawfuls

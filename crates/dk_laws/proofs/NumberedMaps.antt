@@ -1,52 +1,17 @@
--- The orders of keys, and maps under the numbers of runs and connections.
+-- Maps under the numbers of runs and connections.
 use Rattle.std.proofs.Common.{◌≡◌, ℕ, true, false, cond, not, nat_eq, Option, Some, None, inl, inr, refl, sym, ap, ◌∙◌, arith}
 use Rattle.std.specs.declared.cmp.Ordering.TheVariants.{Less, Equal, Greater}
 use Rattle.std.specs.Ordering.{is_eq, nat_cmp}
 use Rattle.std.specs.Option.{option_map}
-use Rattle.std.specs.Cmp.{IsTotalOrder, nat_cmp_total, ranked}
-use Rattle.std.specs.FinMap.{FinMap, IsAntisymmetric, nat_cmp-IsAntisymmetric, slice_cmp-IsAntisymmetric, get, insert, remove, get-insert, get-remove, get-retain_keys}
+use Rattle.std.specs.Cmp.{ranked}
+use Rattle.std.specs.FinMap.{FinMap, get, insert, remove, get-insert, get-remove, get-retain_keys}
 use Rattle.std.proofs.lemmas.Bool.Decides.{eqb_tells}
-use Rattle.std.proofs.lemmas.Cmp.{on_total, then_total}
-use Rattle.std.proofs.lemmas.Map.Lookups.{exact_pairs, exact_unsigned}
-use Rattle.std.specs.Cmp.Lexicographic.{nat_list_cmp_total}
 use Rattle.dk_types.specs.declared.number.RunNo.{RunNo}
 use Rattle.dk_types.specs.declared.number.ConnNo.{ConnNo}
-use Rattle.dk_types.specs.Names.{bytes_cmp}
-use Rattle.dk_model.specs.Keys.{run_cmp, conn_cmp, id_cmp, key_cmp}
+use Rattle.dk_model.specs.Keys.{run_cmp, conn_cmp}
+use Rattle.dk_model.proofs.Maps.{runs_total, conns_total, exact_conns}
 use Rattle.dk_model.specs.Worlds.{Connection}
 use Rattle.dk_model.specs.Deliveries.{Connections, changed_at, change_connection, for_conn, is_done, without_done}
-
-pub run_total : IsTotalOrder run_cmp
-run_total = on_total (λ r. r.0) nat_cmp_total
-
-pub run_exact : IsAntisymmetric run_cmp
-run_exact a b e = ap (λ (n : ℕ). record { 0 = n }) (nat_cmp-IsAntisymmetric a.0 b.0 e)
-
-pub conn_total : IsTotalOrder conn_cmp
-conn_total = on_total (λ c. c.0) nat_cmp_total
-
-pub conn_exact : IsAntisymmetric conn_cmp
-conn_exact a b e = ap (λ (n : ℕ). record { 0 = n }) (nat_cmp-IsAntisymmetric a.0 b.0 e)
-
-pub id_total : IsTotalOrder id_cmp
-id_total = then_total (on_total (λ s. s.run.0) nat_cmp_total) (on_total (λ s. s.k) nat_cmp_total)
-
--- ids that compare alike are one
-pub id_exact : IsAntisymmetric id_cmp
-id_exact a b h = ap (λ (p : ℕ × ℕ). record { run = record { 0 = p.0 }; k = p.1 }) (exact_pairs nat_cmp nat_cmp exact_unsigned exact_unsigned (a.run.0, a.k) (b.run.0, b.k) h)
-
-pub key_total : IsTotalOrder key_cmp
-key_total = then_total (on_total (λ s. s.run.0) nat_cmp_total) (on_total (λ s. s.k) nat_cmp_total)
-
--- and so are keys
-pub key_exact : IsAntisymmetric key_cmp
-key_exact a b h = ap (λ (p : ℕ × ℕ). record { run = record { 0 = p.0 }; k = p.1 }) (exact_pairs nat_cmp nat_cmp exact_unsigned exact_unsigned (a.run.0, a.k) (b.run.0, b.k) h)
-
-pub name_total : IsTotalOrder bytes_cmp
-name_total = nat_list_cmp_total
-
-pub name_exact : IsAntisymmetric bytes_cmp
-name_exact = slice_cmp-IsAntisymmetric nat_cmp-IsAntisymmetric
 
 -- equal numbers pass the test
 pub equal : (a b : ℕ) → a ≡ b → nat_eq a b ≡ true
@@ -67,13 +32,13 @@ is_eq-nat_cmp a b =
 
 module _ {X : Type 0} where
   pub run-insert : (m : FinMap run_cmp X) (k : RunNo) (v : X) (q : RunNo) → get (insert m k v) q ≡ cond (nat_eq q.0 k.0) (Some v) (get m q)
-  run-insert m k v q = get-insert run_total m k v q ∙ ap (λ b. cond b (Some v) (get m q)) (is_eq-nat_cmp q.0 k.0)
+  run-insert m k v q = get-insert runs_total m k v q ∙ ap (λ b. cond b (Some v) (get m q)) (is_eq-nat_cmp q.0 k.0)
 
   pub run-remove : (m : FinMap run_cmp X) (k q : RunNo) → get (remove m k) q ≡ cond (nat_eq q.0 k.0) None (get m q)
-  run-remove m k q = get-remove run_total m k q ∙ ap (λ b. cond b None (get m q)) (is_eq-nat_cmp q.0 k.0)
+  run-remove m k q = get-remove runs_total m k q ∙ ap (λ b. cond b None (get m q)) (is_eq-nat_cmp q.0 k.0)
 
   pub conn-insert : (m : FinMap conn_cmp X) (k : ConnNo) (v : X) (q : ConnNo) → get (insert m k v) q ≡ cond (nat_eq q.0 k.0) (Some v) (get m q)
-  conn-insert m k v q = get-insert conn_total m k v q ∙ ap (λ b. cond b (Some v) (get m q)) (is_eq-nat_cmp q.0 k.0)
+  conn-insert m k v q = get-insert conns_total m k v q ∙ ap (λ b. cond b (Some v) (get m q)) (is_eq-nat_cmp q.0 k.0)
 
 -- connections with one number are one
 pub one_conn : (a b : ConnNo) → a.0 ≡ b.0 → a ≡ b
@@ -101,7 +66,7 @@ get-change k f all q = changed_there (get all k) k f all q refl
 
 -- what stands at a connection after those that are done went
 pub get-without_done : (all : Connections) (q : ConnNo) → get (without_done all) q ≡ cond (not (is_done (get all q))) (get all q) None
-get-without_done all q = get-retain_keys all (λ conn. not (is_done (get all conn))) q (λ x t. ap (λ conn. not (is_done (get all conn))) (sym (conn_exact q x t)))
+get-without_done all q = get-retain_keys all (λ conn. not (is_done (get all conn))) q (λ x t. ap (λ conn. not (is_done (get all conn))) (sym (exact_conns q x t)))
 
 -- where no connection stands, none stands after a change
 pub change-none : (k : ConnNo) (f : Connection → Connection) (all : Connections) (q : ConnNo) → get all q ≡ None → get (change_connection k f all) q ≡ None

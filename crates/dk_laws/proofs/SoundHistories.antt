@@ -24,11 +24,12 @@ use Rattle.dk_model.specs.Lawful.{AreLawful, IsWithinLimits}
 use Rattle.dk_model.proofs.StepLaws.{step_goes_on}
 use Rattle.dk_model.proofs.OnceTasks.{once_gone}
 use Rattle.dk_model.proofs.Works.{IsOwnKey}
-use Rattle.dk_laws.specs.HistoryLaws.{WorldsStayValid, IsOnce, KeysDoNotReturn, Draws, Knows, NumbersAreNew}
+use Rattle.dk_laws.specs.HistoryLaws.{WorldsStayValid, ClaimsStandReady, IsOnce, KeysDoNotReturn, Draws, Knows, NumbersAreNew}
 use Rattle.dk_laws.proofs.OneWorld.{events_lead, parted}
 use Rattle.dk_laws.proofs.Numbers.{leads_grow}
 use Rattle.dk_laws.proofs.Sound.{IsSpent, IsSound}
 use Rattle.dk_laws.proofs.SoundClaims.{spent_insert, spent_remove}
+use Rattle.dk_laws.proofs.SoundCommits.{claim_ready}
 use Rattle.dk_laws.proofs.SoundEvents.{spent_more, leads_sound}
 use Rattle.dk_laws.proofs.SoundOpenings.{IsOfBefore, counting_before, opening_sound}
 
@@ -38,6 +39,13 @@ history_sound rules d budget events w lawful v within h = leads_sound rules lawf
 
 pub worlds_valid : WorldsStayValid
 worlds_valid rules d budget events w lawful v within h = (history_sound rules d budget events w lawful v within h).valid
+
+pub claims_ready : ClaimsStandReady
+claims_ready rules d budget events w run claim lawful v within h held =
+    let s = history_sound rules d budget events w lawful v within h in
+    let c = s.claims run claim held in
+    let ready = claim_ready w run claim s held in
+    (ready.new, c.job, c.own)
 
 -- ---- keys of once-tasks
 

@@ -21,7 +21,8 @@ use Rattle.dk_model.specs.Histories.{Leads}
 use Rattle.dk_model.specs.Successors.{after_event}
 use Rattle.dk_model.specs.Openings.{opening, counting}
 use Rattle.dk_model.specs.Sights.{grants}
-use Rattle.dk_model.specs.Lawful.{AreLawful, IsWithinLimits}
+use Rattle.dk_model.specs.Lawful.{AreLawful, IsJob, IsWithinLimits}
+use Rattle.dk_model.specs.Finishes.{IsNew, HasOwnTask}
 
 abbrev pub EventsLeadToOneWorld : Type 0
 EventsLeadToOneWorld = (rules : Meaning) (w : World) (e : Event) (after : World) → Happens rules w e after → after ≡ after_event rules w e
@@ -31,6 +32,12 @@ abbrev pub WorldsStayValid : Type 0
 WorldsStayValid =
     (rules : Meaning) (d : DurableWorld) (budget : Option ℕ) (events : List Event) (w : World) → AreLawful rules → IsValid d → AllByRecursion IsWithinLimits events
     → Leads rules (opening d budget) events w → IsValid w.durable
+
+-- a claimed run's number is nowhere in the durable world, its job is within its limits, and its own task stands as the job has it, where it stands
+abbrev pub ClaimsStandReady : Type 0
+ClaimsStandReady =
+    (rules : Meaning) (d : DurableWorld) (budget : Option ℕ) (events : List Event) (w : World) (run : RunNo) (claim : Claim) → AreLawful rules → IsValid d → AllByRecursion IsWithinLimits events
+    → Leads rules (opening d budget) events w → get w.claims run ≡ Some claim → IsNew w.durable run × IsJob claim.job × HasOwnTask w.durable claim.job
 
 -- the claimed run is an occurrence of this task, which is run once
 abbrev pub IsOnce : TaskKey → Job → Type 0

@@ -1,3 +1,4 @@
+pub mod OperationsLaw
 pub mod EffectsLaw
 pub mod MessagesLaw
 pub mod HistoryLaws

@@ -1,5 +1,5 @@
 //! Histories.
-ghost use Rattle.dk_laws.specs.HistoryLaws.{EventsLeadToOneWorld, WorldsStayValid, KeysDoNotReturn, NumbersAreNew, EachCommitWasClaimedOnce};
+ghost use Rattle.dk_laws.specs.HistoryLaws.{EventsLeadToOneWorld, WorldsStayValid, ClaimsStandReady, KeysDoNotReturn, NumbersAreNew, EachCommitWasClaimedOnce};
 
 /// An event that may happen leads to one world.
 pub fn events_lead_to_one_world()
@@ -9,6 +9,11 @@ pub fn events_lead_to_one_world()
 /// A history keeps the durable world valid.
 pub fn worlds_stay_valid()
     ensures { WorldsStayValid }
+{}
+
+/// A claimed run meets what its commit asks of it, for as long as it is claimed.
+pub fn claims_stand_ready()
+    ensures { ClaimsStandReady }
 {}
 
 /// The key of a once-task that was committed is never pending again.

@@ -81,7 +81,7 @@ pub lawful_then : {A B Needs : Type 0} {P : A → Type 0} {Q : B → Type 0} {f 
 unfolding and_then
 lawful_then {f = f} {g = g} p h = record { at = λ s. at_then s ((f s).0) ((f s).1) g (p.at s) h }
 
--- `within`: in another mode
+-- `within`: a lawful act in another mode
 pub lawful_within : {A Needs : Type 0} {Has : A → Type 0} {f : Act A} (mode : Mode) → IsLawful Needs Has f → IsLawful Needs Has (within mode f)
 unfolding within
 lawful_within {f = f} mode p = record {

@@ -35,12 +35,15 @@ high_bytes : (k n : ℕ) → AreBytes (bytes_high_first k n)
 high_bytes zero n = All-nil (λ b. b < 256)
 high_bytes (suc k) n = All-cons (λ b. b < 256) _ _ (byte_below k n) (high_bytes k n)
 
+-- bytes behind bytes
 pub bytes_append : (xs ys : List ℕ) → AreBytes xs → AreBytes ys → AreBytes (xs ++ ys)
 bytes_append xs ys p q = All-append (λ b. b < 256) xs ys p q
 
+-- a byte before bytes
 pub bytes_cons : (x : ℕ) (xs : List ℕ) → x < 256 → AreBytes xs → AreBytes (x ∷ xs)
 bytes_cons x xs p q = All-cons (λ b. b < 256) x xs p q
 
+-- no bytes
 pub bytes_nil : AreBytes []
 bytes_nil = All-nil (λ b. b < 256)
 
@@ -49,6 +52,7 @@ pub bytes_of_u64 : (n : ℕ) → AreBytes (u64_spelling n)
 unfolding u64_spelling
 bytes_of_u64 n = high_bytes 8 n
 
+-- a number in 32 bits is bytes
 pub bytes_of_u32 : (n : ℕ) → AreBytes (u32_spelling n)
 unfolding u32_spelling
 bytes_of_u32 n = high_bytes 4 n

@@ -23,7 +23,7 @@ use Rattle.dk_model.proofs.Acts.{Anything, AreBytes, IsId, IsKey, HasIfOk, Lawfu
 same_left : {X : Type 0} (o : Option X) (x y : X) → o ≡ Some x → o ≡ Some y → y ≡ x
 same_left o x y e g = some_is y x (sym g ∙ e)
 
--- `get`: an object of a valid world is within its limits
+-- `get` needs nothing; its object is within its limits
 pub lawful_get : {Needs : Type 0} (id : ObjectId) → IsLawful Needs IsObject (act.get id)
 unfolding act.get
 lawful_get id = record {
@@ -36,7 +36,7 @@ lawful_get id = record {
 below_few : (a most : ℕ) → most ≤ 65536 → a < most → a < 2 ^ 32
 below_few a most h k = omega arith
 
--- `create`: the kind fits in 16 bits, and bytes are bytes; the id is a number's
+-- `create` needs a kind of 16 bits, and bytes; its id has a run's number and a place
 pub lawful_create : {Needs : Type 0} (kind : ℕ) (bytes : List ℕ) → (Needs → (kind < 2 ^ 16) × AreBytes bytes) → IsLawful Needs IsId (act.create kind bytes)
 unfolding act.create
 lawful_create {Needs = Needs} kind bytes why = record {
@@ -74,23 +74,23 @@ changed_at s id change (Some object) e why = at_if (act.is_reserved_kind s.mode 
 lawful_change : {Needs : Type 0} (id : ObjectId) (change : Object → Option Object) → (Needs → (object new : Object) → IsObject object → change object ≡ Some new → IsObject new) → IsLawful Needs Anything (act.change_object id change)
 lawful_change id change why = record { at = λ s. changed_at s id change (map.get s.world.objects id) refl why }
 
--- `save`: bytes are bytes
+-- `save` needs bytes
 pub lawful_save : {Needs : Type 0} (id : ObjectId) (bytes : List ℕ) → (Needs → AreBytes bytes) → IsLawful Needs Anything (act.save id bytes)
 unfolding act.save
 lawful_save id bytes why = lawful_if_at (act.is_too_long bytes) (lawful_refuse act.TOO_LONG) (lawful_change id (λ object. Some (record { kind = object.kind; bytes = bytes })) (λ n object new is e.
     subst IsObject (some_is _ new e) (record { kind = is.kind; body = record { short = ltb-false _ _ n.1; bytes = why n.0 } })))
 
--- `mark`
+-- `mark` needs nothing
 pub lawful_mark : {Needs : Type 0} (id : ObjectId) → IsLawful Needs Anything (act.mark id)
 unfolding act.mark
 lawful_mark id = lawful_change id (λ object. Some object) (λ n object new is e. subst IsObject (some_is _ new e) is)
 
--- `remove`
+-- `remove` needs nothing
 pub lawful_remove : {Needs : Type 0} (id : ObjectId) → IsLawful Needs Anything (act.remove id)
 unfolding act.remove
 lawful_remove id = lawful_change id (λ object. None) (λ n object new is e. absurd cc)
 
--- `bound`: the id is a number's
+-- `bound` needs nothing; its id has a run's number and a place
 pub lawful_bound : {Needs : Type 0} (name : List ℕ) → IsLawful Needs IsId (act.bound name)
 unfolding act.bound
 lawful_bound name = record {
@@ -108,7 +108,7 @@ named s name new why = record {
   has = λ n f. tt;
 }
 
--- `bind`: the name is one, and the id is a number's
+-- `bind` needs a name, and an id with a run's number and a place
 pub lawful_bind : {Needs : Type 0} (name : List ℕ) (id : ObjectId) → (Needs → IsName name × IsId id) → IsLawful Needs Anything (act.bind name id)
 unfolding act.bind
 lawful_bind name id why = record {
@@ -119,7 +119,7 @@ unbound_at : {Needs : Type 0} (s : Run) (name : List ℕ) (o : Option ObjectId) 
 unbound_at s name None = refused s _
 unbound_at s name (Some id) = named s name None (λ n f other e. absurd cc)
 
--- `unbind`
+-- `unbind` needs nothing
 pub lawful_unbind : {Needs : Type 0} (name : List ℕ) → IsLawful Needs Anything (act.unbind name)
 unfolding act.unbind
 lawful_unbind name = record { at = λ s. at_if (act.is_reserved_name s.mode name) (λ _. refused s _) (λ _. unbound_at s name (map.get s.world.names name)) }
@@ -148,7 +148,7 @@ next_named s f after (Some name) e =
     let there = first_found bytes_cmp names_total (is_above after) (map.entries s.world.names) name e in
     (f.world.names name there.0 (map.get-entries s.world.names name ∙ there.1)).0
 
--- `next_bound`: a bound name is one
+-- `next_bound` needs nothing; what it answers is a name, where it answers one
 pub lawful_next_bound : {Needs : Type 0} (after : Option (List ℕ)) → IsLawful Needs IsSomeName (act.next_bound after)
 unfolding act.next_bound
 lawful_next_bound after = record { at = λ s. stays s _ (λ n f. next_named s f after (next_name s.world.names after) refl) }
@@ -175,7 +175,7 @@ lawful_scheduled kind arg delay period why = record {
       });
 }
 
--- `schedule`: the kind fits in 16 bits, and bytes are bytes; the key is a number's
+-- `schedule` needs a kind of 16 bits, and bytes; its key has a run's number and a place
 pub lawful_schedule : {Needs : Type 0} (kind : ℕ) (arg : List ℕ) (delay : ℕ) → (Needs → (kind < 2 ^ 16) × AreBytes arg) → IsLawful Needs IsKey (act.schedule kind arg delay)
 unfolding act.schedule
 lawful_schedule kind arg delay why = lawful_if_at (act.is_too_long arg) (lawful_refuse act.TOO_LONG) (lawful_if_at (nat_lt DELAY_MOST_MS delay) (lawful_refuse act.BAD_DELAY)
@@ -189,7 +189,7 @@ or_right : (a b : Bool) → (a || b) ≡ false → b ≡ false
 or_right true b h = cc
 or_right false b h = h
 
--- `schedule_periodic`: as `schedule`
+-- `schedule_periodic` needs what `schedule` does
 pub lawful_schedule_periodic : {Needs : Type 0} (kind : ℕ) (arg : List ℕ) (delay period : ℕ) → (Needs → (kind < 2 ^ 16) × AreBytes arg) → IsLawful Needs IsKey (act.schedule_periodic kind arg delay period)
 unfolding act.schedule_periodic
 lawful_schedule_periodic kind arg delay period why =
@@ -210,7 +210,7 @@ cancelled_at s key (Some task) e = record {
   has = λ n f. tt;
 }
 
--- `cancel`
+-- `cancel` needs nothing
 pub lawful_cancel : {Needs : Type 0} (key : TaskKey) → IsLawful Needs Anything (act.cancel key)
 unfolding act.cancel
 lawful_cancel key = record { at = λ s. cancelled_at s key (map.get s.world.tasks key) refl }
@@ -224,7 +224,7 @@ sent_at s outs = record {
   has = λ n f. tt;
 }
 
--- `send`
+-- `send` needs nothing
 pub lawful_send : {Needs : Type 0} (to : ConnNo) (message : Out) → IsLawful Needs Anything (act.send to message)
 unfolding act.send
 lawful_send to message = record { at = λ s. at_if (act.is_too_long (act.body_of message)) (λ _. refused s _) (λ _. at_if (nat_le MESSAGES_MOST_COUNT (length s.outs)) (λ _. refused s _) (λ _. sent_at s _)) }

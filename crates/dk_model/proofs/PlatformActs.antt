@@ -41,7 +41,7 @@ platform_says s name f = elim (is_name_too_long name) as (λ b. IsSomeId (cond b
   | false ↦ bound_says s name f
 ]
 
--- `get_as`: the value that bytes are read as has what each such value has
+-- `get_as` needs nothing; its value has what each has that is read from bytes
 pub lawful_get_as : {A Needs : Type 0} {Has : A → Type 0} (kind : ℕ) (read : List ℕ → Option A) (id : ObjectId) → ((bytes : List ℕ) (x : A) → AreBytes bytes → read bytes ≡ Some x → Has x) → IsLawful Needs Has (does.get_as kind read id)
 unfolding does.get_as
 lawful_get_as {Has = Has} kind read id why = lawful_then (lawful_get id) (λ object. record {
@@ -58,17 +58,20 @@ lawful_found_as : {A Needs : Type 0} {Has : A → Type 0} (o : Option ObjectId) 
 lawful_found_as None kind read why = lawful_refuse NAME_NOT_BOUND
 lawful_found_as (Some id) kind read why = lawful_then (lawful_get_as kind read id why) (λ x. lawful_give (id, x) (λ n. (n.0.1, n.1)))
 
--- the record under a platform name
+-- `record_under` needs nothing; its id has a run's number and a place, and its record has what each has that is read from bytes
 pub lawful_record_under : {A Needs : Type 0} {Has : A → Type 0} (name : List ℕ) (kind : ℕ) (read : List ℕ → Option A) → ((bytes : List ℕ) (x : A) → AreBytes bytes → read bytes ≡ Some x → Has x)
     → IsLawful Needs (λ (p : ObjectId × A). IsId p.0 × Has p.1) (does.record_under name kind read)
 lawful_record_under name kind read why = lawful_looks (λ s. platform_bound s name) (λ o. found_as o kind read) IsSomeId (λ s f. platform_says s name f) (λ o. lawful_found_as o kind read why)
 
+-- `session_under` needs nothing; the channels of its record are names
 pub lawful_session_under : {Needs : Type 0} (name : List ℕ) → IsLawful Needs (λ (p : ObjectId × SessionRecord). IsId p.0 × HasChannels p.1) (does.session_under name)
 lawful_session_under name = lawful_record_under (session_name name) SESSION_KIND session_of session_fits
 
+-- `channel_under` needs nothing; the members of its record have names
 pub lawful_channel_under : {Needs : Type 0} (name : List ℕ) → IsLawful Needs (λ (p : ObjectId × ChannelRecord). IsId p.0 × HasMembers p.1) (does.channel_under name)
 lawful_channel_under name = lawful_record_under (channel_name name) CHANNEL_KIND channel_of channel_fits
 
+-- `own_record` needs nothing; the channels of its record are names
 pub lawful_own_record : {Needs : Type 0} (session : Session) → IsLawful Needs (λ (p : ObjectId × SessionRecord). IsId p.0 × HasChannels p.1) (does.own_record session)
 lawful_own_record session = lawful_then (lawful_session_under session.name) (λ r. lawful_if (nat_eq r.1.conn.0 session.conn.0) (lawful_give r (λ n. n.0.1)) (lawful_refuse NAME_NOT_BOUND))
 
@@ -76,17 +79,17 @@ lawful_numbered : {Needs : Type 0} (o : Option ObjectId) (conn : ConnNo) → IsL
 lawful_numbered None conn = record { at = λ s. stays s _ (λ n f. tt) }
 lawful_numbered (Some id) conn = lawful_then (lawful_get_as SESSION_KIND session_of id session_fits) (λ r. lawful_done (nat_eq r.conn.0 conn.0))
 
--- `is_connected`
+-- `is_connected` needs nothing
 pub lawful_is_connected : {Needs : Type 0} (session : Session) → IsLawful Needs Anything (does.is_connected session)
 unfolding does.is_connected
 lawful_is_connected session = lawful_looks (λ s. platform_bound s (session_name session.name)) (λ o. numbered o session.conn) IsSomeId (λ s f. platform_says s (session_name session.name) f) (λ o. lawful_numbered o session.conn)
 
--- `find_session`: the session has the name that was asked for
+-- `find_session` needs nothing; its session has the name that was asked for
 pub lawful_find_session : {Needs : Type 0} (name : List ℕ) → IsLawful Needs (λ (session : Session). session.name ≡ name) (does.find_session name)
 unfolding does.find_session
 lawful_find_session name = lawful_if_at (is_name_too_long (session_name name)) (lawful_refuse TOO_LONG) (lawful_then (lawful_session_under name) (λ r. lawful_give (record { name = name; conn = r.1.conn }) (λ _. refl)))
 
--- `session_send`
+-- `session_send` needs nothing
 pub lawful_session_send : {Needs : Type 0} (session : Session) (body : List ℕ) → IsLawful Needs Anything (does.session_send session body)
 unfolding does.session_send
 lawful_session_send session body = lawful_then (lawful_is_connected session) (λ connected. lawful_if connected (lawful_send session.conn (out.Message body)) (lawful_refuse NAME_NOT_BOUND))
@@ -103,12 +106,12 @@ lawful_new_record session why = lawful_if_at (is_name_too_long (session_name ses
     (lawful_made (session_name session.name) SESSION_KIND (session_bytes (record { conn = session.conn; channels = [] })) (λ n.
     (session_named session.name (why n.0) n.1, omega arith, bytes_of_session (record { conn = session.conn; channels = [] }) (All-nil IsName))))
 
--- `open_record`: the session has a name
+-- `open_record` needs a session's name
 pub lawful_open_record : {Needs : Type 0} (session : Session) → (Needs → IsNamed session) → IsLawful Needs Anything (does.open_record session)
 unfolding does.open_record
 lawful_open_record session why = lawful_within Platform (lawful_new_record session why)
 
--- `close_record`
+-- `close_record` needs nothing
 pub lawful_close_record : {Needs : Type 0} (session : Session) → IsLawful Needs Anything (does.close_record session)
 unfolding does.close_record
 lawful_close_record session = lawful_within Platform (lawful_then (lawful_own_record session) (λ r. lawful_then (lawful_unbind (session_name session.name)) (λ _. lawful_remove r.0)))
@@ -119,12 +122,12 @@ lawful_new_channel name listener delivery why = lawful_if_at (is_name_too_long (
     (lawful_made (channel_name name) CHANNEL_KIND (channel_bytes (record { listener = listener; delivery = delivery; members = [] })) (λ n.
     (channel_named name (why n.0) n.1, omega arith, bytes_of_channel (record { listener = listener; delivery = delivery; members = [] }) (All-nil IsNamed))))
 
--- `create_channel`: the name is one
+-- `create_channel` needs a name
 pub lawful_create_channel : {Needs : Type 0} (name : List ℕ) (listener : Bool) (delivery : Delivery) → (Needs → IsName name) → IsLawful Needs Anything (does.create_channel name listener delivery)
 unfolding does.create_channel
 lawful_create_channel name listener delivery why = lawful_within Platform (lawful_new_channel name listener delivery why)
 
--- `get_channel`
+-- `get_channel` needs nothing
 pub lawful_get_channel : {Needs : Type 0} (name : List ℕ) → IsLawful Needs Anything (does.get_channel name)
 unfolding does.get_channel
 lawful_get_channel name = lawful_if_at (is_name_too_long (channel_name name)) (lawful_refuse TOO_LONG) (lawful_then (lawful_bound (channel_name name)) (λ _. lawful_done tt))
@@ -132,7 +135,7 @@ lawful_get_channel name = lawful_if_at (is_name_too_long (channel_name name)) (l
 lawful_save_both : {Needs : Type 0} (a : ObjectId) (x : List ℕ) (b : ObjectId) (y : List ℕ) → (Needs → AreBytes x × AreBytes y) → IsLawful Needs Anything (does.save_both a x b y)
 lawful_save_both a x b y why = lawful_if (is_too_long x || is_too_long y) (lawful_refuse TOO_LONG) (lawful_then (lawful_save a x (λ n. (why n.0).0)) (λ _. lawful_save b y (λ n. (why n.0.0).1)))
 
--- `join`: the channel and the session have names
+-- `join` needs the channel's name and the session's
 pub lawful_join : {Needs : Type 0} (name : List ℕ) (session : Session) → (Needs → IsName name × IsNamed session) → IsLawful Needs Anything (does.join name session)
 unfolding does.join
 lawful_join name session why = lawful_within Platform (lawful_then (lawful_channel_under name) (λ c. lawful_then (lawful_own_record session) (λ r.
@@ -141,7 +144,7 @@ lawful_join name session why = lawful_within Platform (lawful_then (lawful_chann
       bytes_of_session (record (r.1) { channels = r.1.channels ++ name ∷ [] }) (All-push IsName r.1.channels name n.0.1.1 (why n.0.0.0).0),
     ))))))
 
--- `leave`
+-- `leave` needs nothing
 pub lawful_leave : {Needs : Type 0} (name : List ℕ) (session : Session) → IsLawful Needs Anything (does.leave name session)
 unfolding does.leave
 lawful_leave name session = lawful_within Platform (lawful_then (lawful_channel_under name) (λ c. lawful_then (lawful_own_record session) (λ r.
@@ -161,12 +164,12 @@ lawful_leave_each : {Needs : Type 0} (name : List ℕ) (members : List Session) 
 lawful_leave_each name [] = lawful_done tt
 lawful_leave_each name (m ∷ members) = lawful_then (lawful_leave_member name m) (λ _. lawful_leave_each name members)
 
--- `leave_all`
+-- `leave_all` needs nothing
 pub lawful_leave_all : {Needs : Type 0} (name : List ℕ) → IsLawful Needs Anything (does.leave_all name)
 unfolding does.leave_all
 lawful_leave_all name = lawful_within Platform (lawful_then (lawful_channel_under name) (λ c. lawful_leave_each name c.1.members))
 
--- `members`: each has a name
+-- `members` needs nothing; each of them has a name
 pub lawful_members : {Needs : Type 0} (name : List ℕ) → IsLawful Needs (All IsNamed) (does.members name)
 unfolding does.members
 lawful_members name = lawful_then (lawful_channel_under name) (λ c. lawful_give c.1.members (λ n. n.1.1))
@@ -174,7 +177,7 @@ lawful_members name = lawful_then (lawful_channel_under name) (λ c. lawful_give
 lawful_send_each : {Needs : Type 0} (members : List Session) (message : Out) → IsLawful Needs Anything (does.send_each members message)
 lawful_send_each members message = record { at = λ s. at_if (nat_lt MESSAGES_MOST_COUNT (length s.outs + length members)) (λ _. refused s _) (λ _. sent_at s _) }
 
--- `channel_send`
+-- `channel_send` needs nothing
 pub lawful_channel_send : {Needs : Type 0} (name : List ℕ) (sender : Option Session) (body : List ℕ) → IsLawful Needs Anything (does.channel_send name sender body)
 unfolding does.channel_send
 lawful_channel_send name sender body = lawful_then (lawful_channel_under name) (λ c.

@@ -1,4 +1,4 @@
--- SwordWorld's rules are lawful: each part of them, in their shape.
+-- SwordWorld's rules are lawful: each part of them, in their shape. The impl of `Rules` names the last lemma, so it stands here.
 use Rattle.std.proofs.Common.{◌≡◌, ℕ, ◌<◌, ◌^◌, Bool, false, All, Option, Some, None, List, [], ◌∷◌, ◌++◌, codes, refl, lit<}
 use Rattle.std.specs.FinMap as maps
 use Rattle.std.proofs.lemmas.List.Elements.{All-nil, All-from_get_or}

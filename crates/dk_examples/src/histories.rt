@@ -1,0 +1,22 @@
+//! Histories.
+ghost use Rattle.dk_examples.specs.HistoryRows.{TimerHistory, SwordHistory, SecondLoginHistory, RestartHistory};
+
+/// A task is claimed once its moment has come, and goes on until it is cancelled.
+pub fn timer_history()
+    ensures { TimerHistory }
+{}
+
+/// A login and a look of one client are run in their order, and what they send is handed.
+pub fn sword_history()
+    ensures { SwordHistory }
+{}
+
+/// A second connection of a connected name is refused, and gone once that is handed.
+pub fn second_login_history()
+    ensures { SecondLoginHistory }
+{}
+
+/// After a stop a recorded session is told of its end.
+pub fn restart_history()
+    ensures { RestartHistory }
+{}
