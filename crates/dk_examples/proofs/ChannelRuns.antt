@@ -1,5 +1,5 @@
 -- The runs of channels.
-use Rattle.std.proofs.Common.{◌≡◌, ℕ, Bool, true, false, Option, Some, None, List, [], ◌∷◌, ◌++◌, codes, Ok, Err, refl, ap, ◌∙◌}
+use Rattle.std.proofs.Common.{◌≡◌, ℕ, Bool, true, false, Some, None, List, [], ◌∷◌, ◌++◌, codes, refl}
 use Rattle.std.specs.FinMap.{empty, insert, remove, from_entries}
 use Rattle.dk_types.specs.declared.fault.AppFault.TheVariants as fault
 use Rattle.dk_types.specs.declared.job.Session.{Session}
@@ -15,7 +15,7 @@ use Rattle.dk_wire.specs.Payload.{next_u8, next_u32, next_u64, next_name, next_e
 use Rattle.dk_wire.specs.Reading.{u8_at, u32_at, u64_at, name_at, end_at}
 use Rattle.dk_model.specs.declared.records.ChannelRecord.{ChannelRecord}
 use Rattle.dk_model.specs.declared.records.Delivery.TheVariants.{Reliable}
-use Rattle.dk_model.specs.Runs.{Run, begun, give, and_then, within, get, create, save, remove as remove_object, bind, unbind, send}
+use Rattle.dk_model.specs.Runs.{begun, give, and_then, within, get, create, save, remove as remove_object, bind, unbind, send}
 use Rattle.dk_model.specs.Records.{session_of, next_session, channel_of, next_channel, next_member}
 use Rattle.dk_model.specs.Spellings.{next_list}
 use Rattle.dk_model.specs.Platforms.{get_as, is_connected, open_record, close_record, create_channel, join, leave, channel_send}
