@@ -1,5 +1,5 @@
 -- The runs of channels.
-use Rattle.std.proofs.Common.{◌≡◌, ℕ, Bool, true, false, Option, Some, None, List, [], ◌∷◌, ◌++◌, codes, Ok, Err, refl, ap, ◌∙◌}
+use Rattle.std.proofs.Common.{◌≡◌, ℕ, Bool, true, false, Some, None, List, [], ◌∷◌, ◌++◌, codes, refl}
 use Rattle.std.specs.FinMap.{empty, insert, remove, from_entries}
 use Rattle.dk_types.specs.declared.fault.AppFault.TheVariants as fault
 use Rattle.dk_types.specs.declared.job.Session.{Session}
@@ -10,12 +10,12 @@ use Rattle.std.specs.Str.{is_utf8, chars}
 use Rattle.std.specs.Str.Lossy.{utf8_valid_len}
 use lib.Utf8.{encode}
 use Rattle.dk_types.specs.declared.object.Object.{Object}
-use Rattle.dk_wire.specs.Fields.{u64_spelling, u32_spelling, name_spelling}
+use Rattle.dk_wire.specs.Fields.{u8_spelling, u64_spelling, u32_spelling, name_spelling}
 use Rattle.dk_wire.specs.Payload.{next_u8, next_u32, next_u64, next_name, next_end}
 use Rattle.dk_wire.specs.Reading.{u8_at, u32_at, u64_at, name_at, end_at}
 use Rattle.dk_model.specs.declared.records.ChannelRecord.{ChannelRecord}
 use Rattle.dk_model.specs.declared.records.Delivery.TheVariants.{Reliable}
-use Rattle.dk_model.specs.Runs.{Run, begun, give, and_then, within, get, create, save, remove as remove_object, bind, unbind, send}
+use Rattle.dk_model.specs.Runs.{begun, give, and_then, within, get, create, save, remove as remove_object, bind, unbind, send}
 use Rattle.dk_model.specs.Records.{session_of, next_session, channel_of, next_channel, next_member}
 use Rattle.dk_wire.specs.Lists.{list_spelling, items_at, list_at}
 use Rattle.dk_model.specs.Platforms.{get_as, is_connected, open_record, new_record, close_record, create_channel, new_channel, join, leave, channel_send}
@@ -27,7 +27,7 @@ use Rattle.dk_examples.proofs.SessionRuns.{session_read}
 use Rattle.dk_examples.proofs.Running.{runs_ok, runs_failed, looks, puts, at_end}
 
 pub channels_begin : ChannelsBegin
-unfolding within and_then give create bind create_channel new_channel u32_spelling list_spelling
+unfolding within and_then give create bind create_channel new_channel u32_spelling list_spelling u8_spelling
 channels_begin = runs_ok channel_rules job.Initialize (run 0) 0 nothing two_channels 0 None
     (at_end
     (record (listed nothing 1 (Some (run 0))) {
@@ -82,7 +82,7 @@ unfolding session_of next_session u8_at list_at items_at list_spelling next_u32 
 alice_on_foo = refl
 
 pub login_joins : LoginJoins
-unfolding within and_then give get get_as create save bind send open_record new_record join u64_spelling u32_spelling list_spelling name_spelling one_object
+unfolding within and_then give get get_as create save bind send open_record new_record join u64_spelling u32_spelling list_spelling name_spelling one_object u8_spelling
 login_joins = runs_ok channel_rules (job.Login (conn 1) alice) (run 3) 0 two_channels one_member 1 (Some (run 0))
     (at_end
     (record (listed two_channels 2 (Some (run 3))) {
@@ -127,7 +127,7 @@ unfolding session_of next_session u8_at list_at items_at list_spelling next_u32 
 alice_on_bar = refl
 
 pub disconnect_leaves : DisconnectLeaves
-unfolding within and_then give get get_as save is_connected leave unbind remove_object close_record u64_spelling u32_spelling list_spelling name_spelling one_object
+unfolding within and_then give get get_as save is_connected leave unbind remove_object close_record u64_spelling u32_spelling list_spelling name_spelling one_object u8_spelling
 disconnect_leaves = runs_ok channel_rules (job.Disconnect (conn 1) alice true) (run 9) 0 two_members bob_alone 7 (Some (run 8))
     (at_end
     (record (listed two_members 8 (Some (run 9))) {

@@ -1,8 +1,8 @@
 -- The worlds of worked histories, and what a commit leads to.
-use Rattle.std.proofs.Common.{◌≡◌, ℕ, ◌+◌, ◌<◌, max, min, take, drop, is_none, Bool, true, false, cond, not, Option, Some, None, List, [], ◌∷◌, refl, sym, ap, subst, ◌∙◌}
+use Rattle.std.proofs.Common.{◌≡◌, ℕ, ◌+◌, ◌<◌, max, min, take, drop, is_none, Bool, true, false, cond, not, Some, None, List, [], refl, sym, ap, ◌∙◌}
 use Rattle.std.specs.Ordering.{eq_by_cmp}
 use Rattle.std.specs.List.{filter_map}
-use Rattle.std.specs.FinMap.{FinMap, empty, get, insert, remove, retain_keys, entries, from_entries, get-insert, get-empty, get-remove, entries-insert}
+use Rattle.std.specs.FinMap.{FinMap, empty, get, insert, remove, retain_keys, entries, from_entries, get-insert, get-empty, entries-insert}
 use Rattle.std.specs.FinMap.Entries.{put, where_key, is_sorted}
 use Rattle.dk_types.specs.declared.number.RunNo.{RunNo}
 use Rattle.dk_types.specs.declared.number.ConnNo.{ConnNo}
@@ -17,7 +17,7 @@ use Rattle.dk_types.specs.declared.event.Event.TheVariants as event
 use Rattle.dk_model.specs.Keys.{run_cmp, conn_cmp}
 use Rattle.dk_model.specs.DurableWorlds.{DurableWorld, empty_world}
 use Rattle.dk_model.specs.Worlds.{World, Connection, Claim, new_connection}
-use Rattle.dk_model.specs.Deliveries.{Connections, change_connection, conn_of, for_conn, delivered, is_done, without_done}
+use Rattle.dk_model.specs.Deliveries.{Connections, change_connection, conn_of, for_conn, delivered, without_done}
 use Rattle.dk_model.specs.Picks.{pick}
 use Rattle.dk_model.specs.Events.{Meaning, Happens, swept, is_open, has_no_place, put_last, is_task, outbox, step_of}
 use Rattle.dk_model.specs.Openings.{opening, login_of, session_at, first_of_each, with_sessions}

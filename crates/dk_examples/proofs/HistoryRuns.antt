@@ -3,11 +3,9 @@ use Rattle.std.proofs.Common.{◌≡◌, ℕ, Bool, true, false, Some, None, Lis
 use Rattle.dk_types.specs.declared.number.RunNo.{RunNo}
 use Rattle.dk_types.specs.declared.job.Job.{Job}
 use Rattle.dk_types.specs.declared.job.Job.TheVariants as job
-use Rattle.dk_types.specs.declared.event.Event.{Event}
 use Rattle.dk_model.specs.DurableWorlds.{DurableWorld}
 use Rattle.dk_model.specs.Worlds.{World, Connection, Claim}
 use Rattle.dk_model.specs.Openings.{opening, ended_connection}
-use Rattle.dk_model.specs.Events.{Happens}
 use Rattle.dk_model.specs.Histories.{Leads}
 use Rattle.dk_examples.specs.Worked.{run, conn, accepting, listed, nothing}
 use Rattle.dk_examples.specs.TimerGame.{timer_rules}

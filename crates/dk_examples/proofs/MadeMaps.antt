@@ -1,10 +1,10 @@
 -- Maps that lists of entries make.
-use Rattle.std.proofs.Common.{◌≡◌, ℕ, Bool, true, false, cond, not, ◌&&◌, T, map, is_some, Option, Some, None, List, [], ◌∷◌, length, refl, sym, ap, subst, ◌∙◌}
+use Rattle.std.proofs.Common.{◌≡◌, Bool, true, false, cond, not, ◌&&◌, map, is_some, Option, None, List, [], ◌∷◌, length, refl, sym, ap, ◌∙◌}
 use Rattle.std.specs.declared.cmp.Ordering.{Ordering}
 use Rattle.std.specs.declared.cmp.Ordering.TheVariants.{Less, Equal, Greater}
 use Rattle.std.specs.Ordering.{is_lt, eq_by_cmp}
 use Rattle.std.specs.Cmp.{IsTotalOrder, eq_by_cmp_equiv}
-use Rattle.std.specs.FinMap.{FinMap, IsAntisymmetric, empty, get, insert, remove, retain_keys, entries, from_entries, entries-insert, entries_sorted, get-entries, get-from_entries, get-remove, get-retain_keys, same_entries_map, len-empty, len-entries}
+use Rattle.std.specs.FinMap.{FinMap, IsAntisymmetric, empty, get, remove, retain_keys, entries, from_entries, entries-insert, entries_sorted, get-entries, get-from_entries, get-remove, get-retain_keys, same_entries_map, len-empty, len-entries}
 use Rattle.std.specs.FinMap.Entries.{find, put, by_order, where_key, below_all, is_sorted, is_sorted-where_key, find-where_key, same_entries}
 use Rattle.dk_model.specs.Effects.{same_value, set_in, gone_in, new_in}
 

@@ -1,7 +1,7 @@
 -- Outboxes that fill, and are cut.
-use Rattle.std.proofs.Common.{◌≡◌, ℕ, ◌+◌, ◌<◌, ◌≤◌, Bool, true, false, ◌&&◌, ◌||◌, if◌then◌else◌, nat_le, Option, Some, None, List, [], ◌∷◌, ◌++◌, ◌⊎◌, inl, inr, map, length, take, refl, sym, ap, ◌∙◌, arith, append_assoc, length-append}
+use Rattle.std.proofs.Common.{◌≡◌, ◌+◌, ◌<◌, ◌≤◌, Bool, true, false, ◌&&◌, ◌||◌, if◌then◌else◌, Option, Some, List, [], ◌∷◌, ◌++◌, inl, inr, length, take, refl, sym, ap, ◌∙◌, arith, append_assoc, length-append}
 use Rattle.std.specs.List.{list_any}
-use Rattle.std.specs.FinMap.{get, insert}
+use Rattle.std.specs.FinMap.{get}
 use Rattle.std.proofs.Math.Seq.{take-length}
 use Rattle.std.proofs.lemmas.List.{append-nil}
 use Rattle.std.proofs.lemmas.Bool.Decides.{leb_tells}
@@ -11,10 +11,10 @@ use Rattle.dk_types.specs.declared.job.Input.TheVariants as input
 use Rattle.dk_model.specs.declared.waiting.Waiting.{Waiting}
 use Rattle.dk_model.specs.declared.waiting.Waiting.TheVariants as waits
 use Rattle.dk_model.specs.Worlds.{Connection}
-use Rattle.dk_model.specs.Deliveries.{Connections, changed_at, change_connection, with_disconnect, cut_off, is_full, with_out, with_outs, is_close, takes, closed_by, with_closed, delivered}
+use Rattle.dk_model.specs.Deliveries.{Connections, changed_at, change_connection, with_disconnect, cut_off, is_full, with_out, with_outs, is_close, takes, closed_by, with_closed}
 use Rattle.dk_model.specs.Events.{outbox}
 use Rattle.dk_model.proofs.Maps.{conns_total, get-with_value_here}
-use Rattle.dk_examples.specs.OutboxRows.{some_task, to_one, IsLive, AsManyWait, OneMoreCuts, OneMoreInTheRunCuts, CutGetsNoMore, HandGivesAll}
+use Rattle.dk_examples.specs.OutboxRows.{to_one, IsLive, AsManyWait, OneMoreCuts, OneMoreInTheRunCuts, CutGetsNoMore, HandGivesAll}
 
 or_left : (a b : Bool) → (a || b) ≡ false → a ≡ false
 or_left true b h = cc

@@ -1,5 +1,5 @@
 -- What a run on listed worlds tells, from where its work ends.
-use Rattle.std.proofs.Common.{◌≡◌, ℕ, Bool, true, false, cond, not, nat_lt, map, is_some, Option, Some, None, List, [], ◌∷◌, Result, Ok, Err, refl, sym, ap, subst, ◌∙◌}
+use Rattle.std.proofs.Common.{◌≡◌, ℕ, true, false, cond, not, nat_lt, map, is_some, Option, Some, None, List, [], Ok, Err, ap, ◌∙◌}
 use Rattle.std.specs.Ordering.{eq_by_cmp}
 use Rattle.std.specs.FinMap.{FinMap, empty, get, insert, remove, entries, from_entries, get-insert, get-empty, entries-insert}
 use Rattle.std.specs.FinMap.Entries.{find, put, where_key, is_sorted}
@@ -13,7 +13,6 @@ use Rattle.dk_types.specs.declared.object.Object.{Object}
 use Rattle.dk_types.specs.declared.durable.Effects.{Effects}
 use Rattle.dk_types.specs.declared.fault.AppFault.{AppFault}
 use Rattle.dk_types.specs.declared.fault.AppFault.TheVariants.{TooLarge}
-use Rattle.dk_types.specs.declared.fault.Outcome.{Outcome}
 use Rattle.dk_types.specs.declared.fault.Outcome.TheVariants as outcome
 use Rattle.dk_types.specs.declared.job.Job.{Job}
 use Rattle.dk_types.specs.declared.limits.TheConstants.{EFFECTS_MOST_BYTES}
@@ -25,7 +24,7 @@ use Rattle.dk_model.specs.Effects.{same_id, same_object, same_value, pending_of,
 use Rattle.dk_model.specs.Runs.{Run, begun, within}
 use Rattle.dk_model.specs.Steps.{Stepped, work, kept_by, failed, failed_outs, ended, is_too_large, step}
 use Rattle.dk_model.specs.Events.{Meaning}
-use Rattle.dk_model.specs.Finishes.{Told, told_step}
+use Rattle.dk_model.specs.Finishes.{told_step}
 use Rattle.dk_model.proofs.Maps.{ids_total, exact_ids, keys_total, exact_keys, names_total, exact_names}
 use Rattle.dk_examples.specs.Worked.{Lists, listed, Runs}
 use Rattle.dk_examples.proofs.MadeMaps.{entries-empty, entries-removed, same_made, retained-made, set_in-made, gone_in-made, new_in-made, made_get}

@@ -1,5 +1,5 @@
 -- The runs of sessions.
-use Rattle.std.proofs.Common.{◌≡◌, ℕ, true, false, Some, None, List, [], ◌∷◌, codes, replicate, Ok, Err, refl, ap, ◌∙◌}
+use Rattle.std.proofs.Common.{◌≡◌, ℕ, true, false, Some, None, [], ◌∷◌, codes, replicate, refl}
 use Rattle.std.specs.FinMap.{empty, insert, remove, from_entries}
 use Rattle.dk_types.specs.declared.fault.AppFault.TheVariants as fault
 use Rattle.dk_types.specs.declared.job.Job.TheVariants as job

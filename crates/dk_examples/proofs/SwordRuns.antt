@@ -1,5 +1,5 @@
 -- The runs of SwordWorld.
-use Rattle.std.proofs.Common.{◌≡◌, ℕ, true, false, Some, None, List, [], ◌∷◌, ◌++◌, codes, Ok, refl}
+use Rattle.std.proofs.Common.{◌≡◌, Some, None, [], ◌∷◌, codes, refl}
 use Rattle.std.specs.FinMap.{empty, insert, from_entries}
 use Rattle.std.specs.Str.{is_utf8, chars}
 use Rattle.std.specs.Str.Lossy.{utf8_valid_len}
@@ -11,7 +11,7 @@ use Rattle.dk_wire.specs.Fields.{u64_spelling, u32_spelling, name_spelling, id_s
 use Rattle.dk_wire.specs.Payload.{next_u8, next_u32, next_name, next_id, next_end}
 use Rattle.dk_wire.specs.Reading.{u8_at, u32_at, name_at, id_at, end_at}
 use Rattle.dk_wire.specs.Lists.{list_spelling, items_at, list_at}
-use Rattle.dk_model.specs.Runs.{Run, begun, give, and_then, within, get, create, save, bound, bind, send}
+use Rattle.dk_model.specs.Runs.{begun, give, and_then, within, get, create, save, bound, bind, send}
 use Rattle.dk_model.specs.Platforms.{get_as, is_connected, open_record, new_record}
 use Rattle.sword_world.specs.Things.{room_of, next_room, thing_of, next_thing, player_of, next_player}
 use Rattle.sword_world.specs.Labels.{labels}

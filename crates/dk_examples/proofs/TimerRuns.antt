@@ -1,25 +1,19 @@
 -- The runs of the timer.
-use Rattle.std.proofs.Common.{◌≡◌, ℕ, ◌+◌, true, Some, None, Bool, List, [], ◌∷◌, Result, Ok, refl, ap, ◌∙◌}
-use Rattle.std.specs.FinMap.{empty, insert, remove, from_entries, get-insert, get-empty}
+use Rattle.std.proofs.Common.{◌≡◌, ℕ, ◌+◌, true, Some, None, Bool, [], ◌∷◌, Result, Ok, refl, ap}
+use Rattle.std.specs.FinMap.{insert, remove, from_entries}
 use Rattle.dk_types.specs.declared.job.Job.TheVariants as job
 use Rattle.dk_types.specs.declared.item.Item.TheVariants as ask
 use Rattle.dk_types.specs.declared.fault.AppFault.{AppFault}
 use Rattle.dk_types.specs.declared.fault.AppFault.TheVariants as fault
-use Rattle.dk_types.specs.declared.number.ObjectId.{ObjectId}
-use Rattle.dk_types.specs.declared.number.TaskKey.{TaskKey}
 use Rattle.dk_wire.specs.Fields.{u64_spelling}
 use Rattle.dk_wire.specs.Payload.{next_u64, next_end}
 use Rattle.dk_wire.specs.Reading.{u64_at, end_at}
-use Rattle.dk_model.specs.declared.mode.Mode.TheVariants.{Game}
-use Rattle.dk_model.specs.Keys.{id_cmp, key_cmp}
-use Rattle.dk_model.specs.DurableWorlds.{Task, empty_world}
 use Rattle.dk_model.specs.Runs.{Run, begun, give, and_then, within, get, create, save, bound, bind, schedule_periodic, cancel}
-use Rattle.dk_model.specs.Steps.{own_task, work}
+use Rattle.dk_model.specs.Steps.{own_task}
 use Rattle.dk_model.specs.Records.{value_of}
 use Rattle.dk_model.specs.Platforms.{get_as}
-use Rattle.dk_model.proofs.Maps.{ids_total, keys_total, names_total}
 use Rattle.dk_examples.specs.Worked.{run, id, key, object, in_eight, giving_up, listed}
-use Rattle.dk_examples.specs.TimerGame.{timer_rules, begin_counting, count_name}
+use Rattle.dk_examples.specs.TimerGame.{timer_rules}
 use Rattle.dk_examples.specs.TimerRows.{TimerBegins, TimerSkips, TimerGoesOn, TimerEnds, TimerIsOver, TimerFails, OnceFails, one_task, two_tasks, counted, occurrence, each_100_ms, counting}
 use Rattle.dk_examples.proofs.Running.{runs_ok, runs_failed, looks, puts, at_end}
 

@@ -1,5 +1,5 @@
 -- Histories: which jobs are claimed and when, what is committed, and what is handed.
-use Rattle.std.specs.Prelude.{◌≡◌, ℕ, Bool, true, false, Some, None, List, [], ◌∷◌, codes}
+use Rattle.std.specs.Prelude.{ℕ, Bool, true, false, Some, None, List, [], ◌∷◌, codes}
 use Rattle.std.specs.FinMap.{from_entries}
 use Rattle.dk_types.specs.declared.number.RunNo.{RunNo}
 use Rattle.dk_types.specs.declared.number.ConnNo.{ConnNo}

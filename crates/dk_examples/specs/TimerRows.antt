@@ -1,5 +1,5 @@
 -- Timers: missed occurrences are skipped, and the due moments stay on their grid.
-use Rattle.std.specs.Prelude.{ℕ, Some, List, [], ◌∷◌}
+use Rattle.std.specs.Prelude.{ℕ, Some, [], ◌∷◌}
 use Rattle.dk_types.specs.declared.job.Job.{Job}
 use Rattle.dk_types.specs.declared.job.Job.TheVariants as job
 use Rattle.dk_types.specs.declared.item.Item.TheVariants as ask
