@@ -1,10 +1,11 @@
 -- The runs of channels.
-use Rattle.std.proofs.Common.{◌≡◌, ℕ, Bool, true, false, Some, None, List, [], ◌∷◌, ◌++◌, codes, refl}
-use Rattle.std.specs.FinMap.{empty, insert, remove, from_entries}
+use Rattle.std.proofs.Common.{◌≡◌, ℕ, Bool, true, false, Some, None, List, [], ◌∷◌, ◌++◌, codes, Ok, refl}
+use Rattle.std.specs.FinMap.{FinMap, empty, insert, remove, from_entries}
 use Rattle.dk_types.specs.declared.fault.AppFault.TheVariants as fault
 use Rattle.dk_types.specs.declared.job.Session.{Session}
 use Rattle.dk_types.specs.declared.job.Job.TheVariants as job
 use Rattle.dk_types.specs.declared.job.Out.TheVariants as out
+use Rattle.dk_types.specs.declared.item.Item.{Item}
 use Rattle.dk_types.specs.declared.item.Item.TheVariants as ask
 use Rattle.std.specs.Str.{is_utf8, chars}
 use Rattle.std.specs.Str.Lossy.{utf8_valid_len}
@@ -15,7 +16,9 @@ use Rattle.dk_wire.specs.Payload.{next_u8, next_u32, next_u64, next_name, next_e
 use Rattle.dk_wire.specs.Reading.{u8_at, u32_at, u64_at, name_at, end_at}
 use Rattle.dk_model.specs.declared.records.ChannelRecord.{ChannelRecord}
 use Rattle.dk_model.specs.declared.records.Delivery.TheVariants.{Reliable}
-use Rattle.dk_model.specs.Runs.{begun, give, and_then, within, get, create, save, remove as remove_object, bind, unbind, send}
+use Rattle.dk_model.specs.declared.mode.Mode.TheVariants.{Platform, Game}
+use Rattle.dk_model.specs.Keys.{id_cmp}
+use Rattle.dk_model.specs.Runs.{Run, begun, give, and_then, within, get, create, save, remove as remove_object, bind, unbind, send}
 use Rattle.dk_model.specs.Records.{session_of, next_session, channel_of, next_channel, next_member}
 use Rattle.dk_wire.specs.Lists.{list_spelling, items_at, list_at}
 use Rattle.dk_model.specs.Platforms.{get_as, is_connected, open_record, new_record, close_record, create_channel, new_channel, join, leave, channel_send}
@@ -24,6 +27,7 @@ use Rattle.dk_examples.specs.SessionRows.{alice, alice_record, session_object}
 use Rattle.dk_examples.specs.ChannelGame.{channel_rules, foo, bar}
 use Rattle.dk_examples.specs.ChannelRows.{ChannelsBegin, LoginJoins, UnheardGoesToAll, HeardGoesToTheGame, NoChannelIsNothing, JoinOfNoChannelFails, DisconnectLeaves, bob_alone, channel_names, bob, foo_record, bar_record, channel_object, alice_member, bob_member, joined_object, two_channels, one_member, two_members}
 use Rattle.dk_examples.proofs.SessionRuns.{session_read}
+use Rattle.dk_examples.proofs.Memberships.{joins, leaves}
 use Rattle.dk_examples.proofs.Running.{runs_ok, runs_failed, looks, puts, at_end}
 
 pub channels_begin : ChannelsBegin
@@ -81,16 +85,46 @@ alice_on_foo : session_of (one_object 1 foo).bytes ≡ Some (record { conn = con
 unfolding session_of next_session u8_at list_at items_at list_spelling next_u32 u32_at next_end end_at next_name name_at next_u64 u64_at utf8_valid_len is_utf8 chars encode one_object
 alice_on_foo = refl
 
+-- alice's login: her record and its binding are written, and then records of both kinds
+abbrev entered : FinMap id_cmp Object → List Item → Run
+entered objects written = record {
+  world = record (listed two_channels 2 (Some (run 3))) { objects = objects; names = insert (from_entries channel_names) alice_record (id 3 0) };
+  touched = ask.Object (id 3 0) ∷ ask.Bound alice_record ∷ written;
+  outs = (conn 1, out.Accepted) ∷ [];
+  number = run 3;
+  at = 0;
+  objects_made = 1;
+  tasks_made = 0;
+  mode = Game;
+}
+
+abbrev opened_objects : FinMap id_cmp Object
+opened_objects = insert (from_entries two_channels.objects) (id 3 0) (session_object 1)
+
+abbrev on_foo_objects : FinMap id_cmp Object
+on_foo_objects = insert (insert opened_objects (id 0 0) (channel_object 0 1 alice_member)) (id 3 0) (one_object 1 foo)
+
+abbrev on_both_objects : FinMap id_cmp Object
+on_both_objects = insert (insert on_foo_objects (id 0 1) (channel_object 1 1 alice_member)) (id 3 0) (joined_object 1)
+
+join_foo : join foo alice_session (entered opened_objects []) ≡ (Ok tt, entered on_foo_objects (ask.Object (id 0 0) ∷ ask.Object (id 3 0) ∷ []))
+unfolding u8_spelling u32_spelling u64_spelling name_spelling list_spelling one_object
+join_foo = joins foo alice_session (entered opened_objects []) (id 0 0) (id 3 0) _ _ (channel_object 0 0 []).bytes (session_object 1).bytes (channel_object 0 1 alice_member).bytes (one_object 1 foo).bytes
+    record { channel_bound = simp looks; channel_there = simp looks; channel_read = foo_empty; session_bound = simp looks; session_there = simp looks; session_read = session_read; same = refl }
+    (simp looks) refl refl refl refl refl
+
+join_bar : join bar alice_session (entered on_foo_objects (ask.Object (id 0 0) ∷ ask.Object (id 3 0) ∷ []))
+    ≡ (Ok tt, entered on_both_objects (ask.Object (id 0 0) ∷ ask.Object (id 3 0) ∷ ask.Object (id 0 1) ∷ ask.Object (id 3 0) ∷ []))
+unfolding u8_spelling u32_spelling u64_spelling name_spelling list_spelling one_object
+join_bar = joins bar alice_session (entered on_foo_objects (ask.Object (id 0 0) ∷ ask.Object (id 3 0) ∷ [])) (id 0 1) (id 3 0) _ _ (channel_object 1 0 []).bytes (one_object 1 foo).bytes (channel_object 1 1 alice_member).bytes (joined_object 1).bytes
+    record { channel_bound = simp looks; channel_there = simp looks; channel_read = bar_empty; session_bound = simp looks; session_there = simp looks; session_read = alice_on_foo; same = refl }
+    (simp looks) refl refl refl refl refl
+
 pub login_joins : LoginJoins
-unfolding within and_then give get get_as create save bind send open_record new_record join u64_spelling u32_spelling list_spelling name_spelling one_object u8_spelling
+unfolding within and_then give create bind send open_record new_record u64_spelling u32_spelling list_spelling
 login_joins = runs_ok channel_rules (job.Login (conn 1) alice) (run 3) 0 two_channels one_member 1 (Some (run 0))
-    (at_end
-    (record (listed two_channels 2 (Some (run 3))) {
-      objects = insert (insert (insert (insert (insert (from_entries two_channels.objects) (id 3 0) (session_object 1)) (id 0 0) (channel_object 0 1 alice_member)) (id 3 0) (one_object 1 foo)) (id 0 1) (channel_object 1 1 alice_member)) (id 3 0) (joined_object 1);
-      names = insert (from_entries channel_names) alice_record (id 3 0);
-    })
-    (ask.Object (id 3 0) ∷ ask.Bound alice_record ∷ ask.Object (id 0 0) ∷ ask.Object (id 3 0) ∷ ask.Object (id 0 1) ∷ ask.Object (id 3 0) ∷ []) ((conn 1, out.Accepted) ∷ []) (run 3) 0 1 0)
-    record { objects = refl; names = refl; tasks = refl } (simp (looks, foo_empty, bar_empty, session_read, alice_on_foo))
+    (record (entered on_both_objects (ask.Object (id 0 0) ∷ ask.Object (id 3 0) ∷ ask.Object (id 0 1) ∷ ask.Object (id 3 0) ∷ [])) { mode = Platform })
+    record { objects = refl; names = refl; tasks = refl } (simp (looks, join_foo, join_bar))
     record { objects = simp puts; names = simp puts; tasks = simp puts; sorted = record { objects = refl; names = refl; tasks = refl } } refl
 
 pub unheard_goes_to_all : UnheardGoesToAll
@@ -126,17 +160,43 @@ alice_on_bar : session_of (one_object 1 bar).bytes ≡ Some (record { conn = con
 unfolding session_of next_session u8_at list_at items_at list_spelling next_u32 u32_at next_end end_at next_name name_at next_u64 u64_at utf8_valid_len is_utf8 chars encode one_object
 alice_on_bar = refl
 
+-- alice's end: she leaves Foo and then Bar, and her record goes
+abbrev leaving : FinMap id_cmp Object → List Item → Run
+leaving objects written = record {
+  world = record (listed two_members 8 (Some (run 9))) { objects = objects };
+  touched = written;
+  outs = [];
+  number = run 9;
+  at = 0;
+  objects_made = 0;
+  tasks_made = 0;
+  mode = Platform;
+}
+
+abbrev off_foo_objects : FinMap id_cmp Object
+off_foo_objects = insert (insert (from_entries two_members.objects) (id 0 0) (channel_object 0 1 bob_member)) (id 3 0) (one_object 1 bar)
+
+abbrev off_both_objects : FinMap id_cmp Object
+off_both_objects = insert (insert off_foo_objects (id 0 1) (channel_object 1 1 bob_member)) (id 3 0) (session_object 1)
+
+leave_foo : leave foo alice_session (leaving (from_entries two_members.objects) []) ≡ (Ok tt, leaving off_foo_objects (ask.Object (id 0 0) ∷ ask.Object (id 3 0) ∷ []))
+unfolding u8_spelling u32_spelling u64_spelling name_spelling list_spelling one_object
+leave_foo = leaves foo alice_session (leaving (from_entries two_members.objects) []) (id 0 0) (id 3 0) _ _ (channel_object 0 2 (alice_member ++ bob_member)).bytes (joined_object 1).bytes (channel_object 0 1 bob_member).bytes (one_object 1 bar).bytes
+    record { channel_bound = simp looks; channel_there = simp looks; channel_read = foo_two; session_bound = simp looks; session_there = simp looks; session_read = alice_on_both; same = refl }
+    (simp looks) refl refl refl refl refl
+
+leave_bar : leave bar alice_session (leaving off_foo_objects (ask.Object (id 0 0) ∷ ask.Object (id 3 0) ∷ []))
+    ≡ (Ok tt, leaving off_both_objects (ask.Object (id 0 0) ∷ ask.Object (id 3 0) ∷ ask.Object (id 0 1) ∷ ask.Object (id 3 0) ∷ []))
+unfolding u8_spelling u32_spelling u64_spelling name_spelling list_spelling one_object
+leave_bar = leaves bar alice_session (leaving off_foo_objects (ask.Object (id 0 0) ∷ ask.Object (id 3 0) ∷ [])) (id 0 1) (id 3 0) _ _ (channel_object 1 2 (alice_member ++ bob_member)).bytes (one_object 1 bar).bytes (channel_object 1 1 bob_member).bytes (session_object 1).bytes
+    record { channel_bound = simp looks; channel_there = simp looks; channel_read = bar_two; session_bound = simp looks; session_there = simp looks; session_read = alice_on_bar; same = refl }
+    (simp looks) refl refl refl refl refl
+
 pub disconnect_leaves : DisconnectLeaves
-unfolding within and_then give get get_as save is_connected leave unbind remove_object close_record u64_spelling u32_spelling list_spelling name_spelling one_object u8_spelling
+unfolding within and_then give get get_as is_connected unbind remove_object close_record
 disconnect_leaves = runs_ok channel_rules (job.Disconnect (conn 1) alice true) (run 9) 0 two_members bob_alone 7 (Some (run 8))
-    (at_end
-    (record (listed two_members 8 (Some (run 9))) {
-      objects =
-          remove
-          (insert (insert (insert (insert (from_entries two_members.objects) (id 0 0) (channel_object 0 1 bob_member)) (id 3 0) (one_object 1 bar)) (id 0 1) (channel_object 1 1 bob_member)) (id 3 0) (session_object 1))
-          (id 3 0);
-      names = remove (from_entries two_members.names) alice_record;
+    (record (leaving (remove off_both_objects (id 3 0)) (ask.Object (id 0 0) ∷ ask.Object (id 3 0) ∷ ask.Object (id 0 1) ∷ ask.Object (id 3 0) ∷ ask.Bound alice_record ∷ ask.Object (id 3 0) ∷ [])) {
+      world = record (listed two_members 8 (Some (run 9))) { objects = remove off_both_objects (id 3 0); names = remove (from_entries two_members.names) alice_record };
     })
-    (ask.Object (id 0 0) ∷ ask.Object (id 3 0) ∷ ask.Object (id 0 1) ∷ ask.Object (id 3 0) ∷ ask.Bound alice_record ∷ ask.Object (id 3 0) ∷ []) [] (run 9) 0 0 0)
-    record { objects = refl; names = refl; tasks = refl } (simp (looks, foo_two, bar_two, alice_on_both, alice_on_bar, session_read))
+    record { objects = refl; names = refl; tasks = refl } (simp (looks, leave_foo, leave_bar, alice_on_both, session_read))
     record { objects = simp puts; names = simp puts; tasks = simp puts; sorted = record { objects = refl; names = refl; tasks = refl } } refl

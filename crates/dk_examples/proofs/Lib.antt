@@ -1,5 +1,6 @@
 pub mod MadeMaps
 pub mod Running
+pub mod Memberships
 pub mod TimerRuns
 pub mod SessionRuns
 pub mod ChannelRuns
