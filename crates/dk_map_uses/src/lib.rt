@@ -4,6 +4,8 @@
 
 mod counts;
 mod schedule;
+#[cfg(test)]
+mod tests;
 mod word;
 mod words;
 

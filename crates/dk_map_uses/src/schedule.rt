@@ -1,11 +1,11 @@
 // Tickets by their moments: the key is the pair, in the order of the moment and then of the ticket.
-ghost use Rattle.std.specs.Prelude.{◌≡◌, ℕ, true, None, Some};
+ghost use Rattle.std.specs.Prelude.{◌≡◌, ℕ, ◌+◌, ◌<◌, ◌≤◌, true, None, Some, OnOk, OnErr, if◌then◌else◌};
 ghost use Rattle.std.specs.FinMap as map;
 ghost use Rattle.std.specs.Option.{option_map};
 ghost use Rattle.dk_map.specs.AsMap.{IsNext};
 
 use dk_map::OrderedMap;
-use std::alloc::Global;
+use std::alloc::{AllocError, Global};
 use std::marker::Model;
 
 #[derive(Clone, Copy, PartialEq, Eq, PartialOrd, Ord)]
@@ -44,6 +44,22 @@ impl Schedule {
         Schedule {
             tickets: OrderedMap::new(alloc),
         }
+    }
+
+    pub fn reserve(&mut self, more: usize) -> Result<(), AllocError>
+        ensures map { self.new.map ≡ self.old.map }
+        ensures room { OnOk result (more ≤ self.new.spare) }
+        ensures refused { OnErr result (self.new ≡ self.old) }
+    {
+        self.tickets.reserve(more)
+    }
+
+    pub fn put(&mut self, at: u64, ticket: Ticket, kind: u32)
+        requires room { 0 < self.old.spare }
+        ensures map { self.new.map ≡ map.insert self.old.map (at, ticket) kind }
+        ensures spare { self.new.spare + (if map.contains_key self.old.map (at, ticket) then 0 else 1) ≡ self.old.spare }
+    {
+        self.tickets.insert((at, ticket), kind);
     }
 
     /// The ticket of the least moment.

@@ -18,5 +18,7 @@ pub mod records;
 pub mod run;
 pub mod sessions;
 pub mod stored;
+#[cfg(test)]
+mod tests;
 pub mod world;
 pub mod writes;

@@ -1,3 +1,4 @@
+pub mod Alls
 pub mod Singles
 pub mod Hearing
 pub mod Delivering

@@ -20,13 +20,10 @@ use Rattle.dk_model.specs.Transcripts.{Hands, Follows, IsQuiet, Plays, playing, 
 use Rattle.dk_play.specs.declared.visitor.Visitor.{Visitor}
 use Rattle.dk_play.specs.Visits.{connection_of, single, unclaimed, hand_of, unvisited, Serves, Begins, VisitsAll}
 use Rattle.dk_play.specs.Entering.{post_of, connect_of, entered}
+use Rattle.dk_play.proofs.Alls.{all-append}
 use Rattle.dk_play.proofs.Enterings.{enters-session, visited}
 use Rattle.dk_play.proofs.Handing.{handed, hands-all}
 use Rattle.dk_play.proofs.Picking.{quiet-alone}
-
-all-append : {X : Type 0} (P : X → Type 0) (xs ys : List X) → AllByRecursion P xs → AllByRecursion P ys → AllByRecursion P (xs ++ ys)
-all-append P [] ys p q = q
-all-append P (x ∷ xs) ys p q = (p.0, all-append P xs ys p.1 q)
 
 -- posts have no numbers of runs
 small-posts : (conn : ConnNo) (sends : List Line) → AllByRecursion IsSmall (map (post_of conn) sends)

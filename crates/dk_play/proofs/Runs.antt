@@ -27,6 +27,7 @@ use Rattle.dk_play.specs.declared.visitor.Pending.TheVariants as pending
 use Rattle.dk_play.specs.declared.visitor.Visitor.{Visitor}
 use Rattle.dk_play.specs.declared.serve.Play.{Play}
 use Rattle.dk_play.specs.Visits.{waiting_of, connection_of, single, unclaimed, world_of, after_outs, claim_of, commit_of, IsFit, Serves, Begins}
+use Rattle.dk_play.proofs.Alls.{all-append}
 use Rattle.dk_play.proofs.Serving.{not_done, serves-input, serves-first}
 use Rattle.dk_play.proofs.Picking.{pick-first, quiet-alone}
 
@@ -38,10 +39,6 @@ plain-input (pending.Message body) conn name = tt
 -- nothing is served yet
 pub serves-none : (rules : Meaning) (w : World) (events : List Event) → Serves rules w events events w
 serves-none rules w events = record { served = []; items = []; all = sym (append-nil events); follows = refl; small = tt }
-
-all-append : {X : Type 0} (P : X → Type 0) (xs ys : List X) → AllByRecursion P xs → AllByRecursion P ys → AllByRecursion P (xs ++ ys)
-all-append P [] ys p q = q
-all-append P (x ∷ xs) ys p q = (p.0, all-append P xs ys p.1 q)
 
 follows-on : (rules : Meaning) (a b c : World) (is js : List OrderItem) (es fs : List Event) → Follows rules a is es b → Follows rules b js fs c → Follows rules a (is ++ js) (es ++ fs) c
 follows-on rules a b c [] js [] fs f g = subst (λ w. Follows rules w js fs c) f g

@@ -8,4 +8,6 @@ pub use play::{Played, play_session};
 
 pub mod play;
 pub mod serve;
+#[cfg(test)]
+mod tests;
 pub mod visitor;

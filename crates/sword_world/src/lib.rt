@@ -10,5 +10,7 @@ pub use things::{Player, Room, Thing};
 pub mod game;
 pub mod labels;
 pub mod reads;
+#[cfg(test)]
+mod tests;
 pub mod texts;
 pub mod things;

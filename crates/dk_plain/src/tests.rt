@@ -1,0 +1,195 @@
+//! Jobs on a plain world, by a game of one step. What they write and send is worked by hand.
+ghost use Rattle.std.specs.Prelude.{◌≡◌, IfOk};
+ghost use Rattle.dk_plain.specs.PlainJobs.{IsPlain};
+
+use crate::{Halt, PlainGame, PlainRun, PlainWorld, Stepped};
+use dk_model::{Mode, Rules, SessionRecord};
+use dk_types::{
+    AppFault, Blob, ConnNo, Item, Job, Name, NameRefused, NoMemory, ObjectId, Out, Outcome, RunNo,
+    Session,
+};
+use std::alloc::Global;
+use std::process::Abort;
+use std::test::Fail;
+
+/// A game that in every job binds one name to the first object of run 0.
+#[derive(Drop)]
+struct Porter {
+    door: Name,
+}
+
+impl Rules for Porter {
+    ghost use Rattle.dk_model.specs.Runs.{bind};
+
+    ghost rules = { λ porter _. bind porter.door (record { run = record { 0 = 0 }; k = 0 }) };
+}
+
+impl PlainGame for Porter {
+    fn run(&self, _alloc: Global, _job: &Job, run: &mut PlainRun) -> Result<(), Halt> {
+        run.bind(&self.door, id(0, 0))
+    }
+}
+
+fn id(run: u64, k: u32) -> ObjectId
+    ensures { result ≡ record { run = record { 0 = run }; k = k } }
+{
+    ObjectId { run: RunNo(run), k }
+}
+
+fn name(alloc: Global, text: &str) -> Result<Name, NameRefused> {
+    Name::new(alloc, text.as_bytes())
+}
+
+fn bound(alloc: Global, text: &str) -> Result<Item, NameRefused> {
+    Ok(Item::Bound(name(alloc, text)?))
+}
+
+fn login(alloc: Global, conn: u64) -> Result<Job, NameRefused>
+    ensures { IfOk result IsPlain }
+{
+    Ok(Job::Login {
+        conn: ConnNo(conn),
+        name: name(alloc, "alice")?,
+    })
+}
+
+fn message(alloc: Global, conn: u64) -> Result<Job, Fail>
+    ensures { IfOk result IsPlain }
+{
+    Ok(Job::Message {
+        conn: ConnNo(conn),
+        name: name(alloc, "alice")?,
+        body: Blob::copy_of(alloc, b"hi")?,
+    })
+}
+
+fn worked<A: Abort>(
+    rt: &A,
+    alloc: Global,
+    world: &mut PlainWorld,
+    game: &Porter,
+    job: &Job,
+    number: u64,
+) -> Result<Stepped, NoMemory>
+    requires { IsPlain job.now }
+{
+    assert!(rt; world.commits < 1_000);
+    world.run(alloc, game, job, RunNo(number), 0)
+}
+
+#[test]
+fn a_first_run_a_login_and_messages_are_worked(rt: HostRuntime) -> Result<(), Fail> {
+    let alloc = rt.alloc();
+    let mut world = PlainWorld::new(alloc);
+    let game = Porter {
+        door: name(alloc, "Door")?,
+    };
+
+    let first = worked(&rt, alloc, &mut world, &game, &Job::Initialize, 0)?;
+    assert_eq!(rt; first.outcome, Outcome::Ok);
+    assert_eq!(rt;
+        first.touched.as_slice(),
+        [bound(alloc, "Door")?].as_slice()
+    );
+    assert!(rt; first.outs.is_empty());
+
+    let login_1 = login(alloc, 1)?;
+    let entered = worked(&rt, alloc, &mut world, &game, &login_1, 2)?;
+    assert_eq!(rt; entered.outcome, Outcome::Ok);
+    let written = [
+        Item::Object(id(2, 0)),
+        bound(alloc, "$s.alice")?,
+        bound(alloc, "Door")?,
+    ];
+    assert_eq!(rt; entered.touched.as_slice(), written.as_slice());
+    assert_eq!(rt;
+        entered.outs.as_slice(),
+        [(ConnNo(1), Out::Accepted)].as_slice()
+    );
+
+    let told = worked(&rt, alloc, &mut world, &game, &message(alloc, 1)?, 3)?;
+    assert_eq!(rt; told.outcome, Outcome::Ok);
+    assert_eq!(rt; told.touched.as_slice(), [bound(alloc, "Door")?].as_slice());
+
+    let stranger = worked(&rt, alloc, &mut world, &game, &message(alloc, 9)?, 4)?;
+    assert_eq!(rt; stranger.outcome, Outcome::Ok);
+    assert!(rt; stranger.touched.is_empty());
+
+    let login_5 = login(alloc, 5)?;
+    let again = worked(&rt, alloc, &mut world, &game, &login_5, 6)?;
+    assert_eq!(rt; again.outcome, Outcome::Ok);
+    assert!(rt; again.touched.is_empty());
+    let refused = [(ConnNo(5), Out::Refused), (ConnNo(5), Out::Close)];
+    assert_eq!(rt; again.outs.as_slice(), refused.as_slice());
+
+    assert_eq!(rt; world.commits, 5);
+    assert_eq!(rt; world.last, Some(RunNo(6)));
+    Ok(())
+}
+
+#[test]
+fn a_failed_run_is_counted_and_writes_nothing(rt: HostRuntime) -> Result<(), Fail> {
+    let alloc = rt.alloc();
+    let mut world = PlainWorld::new(alloc);
+    let game = Porter {
+        door: name(alloc, "$Door")?,
+    };
+    let refused = Outcome::Fail(AppFault::Refused(6));
+
+    let first = worked(&rt, alloc, &mut world, &game, &Job::Initialize, 0)?;
+    assert_eq!(rt; first.outcome, refused);
+    assert!(rt; first.outs.is_empty());
+
+    let login_1 = login(alloc, 1)?;
+    let entered = worked(&rt, alloc, &mut world, &game, &login_1, 2)?;
+    assert_eq!(rt; entered.outcome, refused);
+    assert!(rt; entered.touched.is_empty());
+    let outs = [(ConnNo(1), Out::Refused), (ConnNo(1), Out::Close)];
+    assert_eq!(rt; entered.outs.as_slice(), outs.as_slice());
+
+    assert!(rt; world.objects.is_empty());
+    assert!(rt; world.names.is_empty());
+    assert_eq!(rt; world.commits, 2);
+    Ok(())
+}
+
+#[test]
+fn with_memory_each_call_of_a_run_succeeds(rt: HostRuntime) -> Result<(), Fail> {
+    let alloc = rt.alloc();
+    let mut run = PlainRun {
+        objects: Vec::new(alloc),
+        names: Vec::new(alloc),
+        touched: Vec::new(alloc),
+        outs: Vec::new(alloc),
+        number: RunNo(7),
+        at: 0,
+        objects_made: 0,
+        mode: Mode::Platform,
+        commits: 1,
+        last: None,
+    };
+    let door = name(alloc, "Door")?;
+    let made = run.create(1, Blob::copy_of(alloc, b"shut")?)?;
+    assert_eq!(rt; made, id(7, 0));
+    run.save(made, Blob::copy_of(alloc, b"open")?)?;
+    assert_eq!(rt; run.get(made)?.bytes.as_slice(), b"open".as_slice());
+    assert_eq!(rt; run.named(&door), None);
+    run.bind(&door, made)?;
+    assert_eq!(rt; run.named(&door), Some(made));
+    assert_eq!(rt; run.bound(&door)?, made);
+    run.send(ConnNo(1), Out::Accepted)?;
+    assert_eq!(rt; run.outs.len(), 1);
+
+    let session = Session {
+        name: name(alloc, "alice")?,
+        conn: ConnNo(1),
+    };
+    run.open_record(alloc, &session)?;
+    assert_eq!(rt; run.recorded(alloc, &session.name)?, Some(id(7, 1)));
+    assert!(rt; run.is_connected(alloc, &session)?);
+    assert_eq!(rt;
+        run.get_as::<SessionRecord>(alloc, id(7, 1))?.conn,
+        ConnNo(1)
+    );
+    Ok(())
+}
