@@ -1,0 +1,66 @@
+-- A home in memory.
+use Rattle.std.specs.Prelude.{◌≡◌, ◌⊎◌, ◌↔◌, ℕ, ◌+◌, ◌<◌, ◌≤◌, Bool, not, List, [], ◌∷◌, ◌++◌, length, Result, IsErr, IsTrue}
+use Rattle.dk_types.specs.Faults.{COUNT_END}
+use Rattle.dk_types.specs.declared.fault.Failed.{Failed}
+use Rattle.dk_types.specs.declared.side.Side.{Side}
+use Rattle.dk_types.specs.declared.side.Side.TheVariants.{Zero, One}
+use Rattle.dk_disk.specs.Disk.{settled}
+use Rattle.dk_disk.specs.Past.{Past}
+use Rattle.dk_disk.specs.Opening.{Opening}
+use Rattle.dk_disk.specs.Plan.{Plan, fails_next, counted_up, after_call, after_fault}
+use Rattle.dk_disk.specs.Record.{Call, Change, replayed}
+
+-- room for so many more calls in the record, and so many more bytes
+pub record Room : Type 0 where
+  pub calls : ℕ
+  pub bytes : ℕ
+
+-- what the two files held at first, the calls since, which calls fail, whether it was opened, and the room
+pub record Memory : Type 0 where
+  pub zero : List ℕ
+  pub one : List ℕ
+  pub calls : List Call
+  pub plan : Plan
+  pub opening : Opening
+  pub room : Room
+
+abbrev pub first_of : Memory → Side → List ℕ
+first_of memory Zero = memory.zero
+first_of memory One = memory.one
+
+-- its moments are the numbers of its calls
+abbrev pub past_of : Memory → Past
+past_of memory = record { clock = memory.plan.calls; disks = λ t side. replayed t side memory.calls (settled (first_of memory side)) }
+
+-- the next call, and whether it is to fail
+abbrev pub next_call : Plan → Side → Change → Call
+next_call plan side change = record { number = counted_up plan.calls; side = side; change = change; is_made = not (fails_next plan) }
+
+-- there is room for one more call with so many bytes, and a number for it
+pub record HasRoom (memory : Memory) (n : ℕ) : Type 0 where
+  pub calls : 1 ≤ memory.room.calls
+  pub bytes : n ≤ memory.room.bytes
+  pub number : memory.plan.calls < COUNT_END
+
+-- the call was numbered and recorded, and took no more than its own room
+pub record IsRecorded (old new : Memory) (side : Side) (change : Change) (n : ℕ) : Type 0 where
+  pub memory : new ≡ record { zero = old.zero; one = old.one; calls = old.calls ++ next_call old.plan side change ∷ []; plan = after_call old.plan; opening = old.opening; room = new.room }
+  pub calls : old.room.calls ≤ new.room.calls + 1
+  pub bytes : old.room.bytes ≤ new.room.bytes + n
+  pub number : old.plan.calls < COUNT_END
+
+-- the call found no room, which is a fault and nothing else
+pub record IsRefused (old new : Memory) (n : ℕ) : Type 0 where
+  pub memory : new ≡ record { zero = old.zero; one = old.one; calls = old.calls; plan = after_fault old.plan; opening = old.opening; room = new.room }
+  pub calls : old.room.calls ≤ new.room.calls
+  pub bytes : old.room.bytes ≤ new.room.bytes
+  pub full : HasRoom old n → ⊥
+
+-- A call with n bytes fails by its number, or for want of room.
+abbrev pub Changes : Memory → Memory → Side → Change → ℕ → Result (Unit {0}) Failed → Type 0
+Changes old new side change n result =
+    (IsRecorded old new side change n × (IsErr result ↔ IsTrue (fails_next old.plan))) ⊎ (IsRefused old new n × IsErr result)
+
+-- a call that only looks is numbered, and not recorded
+abbrev pub looked : Memory → Memory
+looked memory = record { zero = memory.zero; one = memory.one; calls = memory.calls; plan = after_call memory.plan; opening = memory.opening; room = memory.room }

@@ -1,0 +1,18 @@
+//! The two files of a store, and what a stop at any moment may leave of them.
+//!
+//! The layers above are generic over `Home` and cite what it says of reads, of images and of faults.
+//! `MemoryHome` tells its content, fails where a test says so, and gives the images of a crash.
+//! `FolderHome` is a trusted edge over a folder: it tells nothing, and counts each fault.
+#![tactic(auto)]
+
+pub use home::Home;
+pub use torn::Torn;
+
+mod call_record;
+mod drive;
+mod drives;
+mod fault_count;
+mod fault_plan;
+pub mod home;
+mod step;
+pub mod torn;
