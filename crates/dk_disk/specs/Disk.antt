@@ -37,11 +37,11 @@ overwritten at bytes file = take at file ++ bytes ++ drop (at + length bytes) fi
 
 -- after a write of n bytes that failed
 abbrev pub after_failed_write : ℕ → ℕ → Disk → Disk
-after_failed_write at n disk = record { reads = disk.reads; synced = disk.synced; least = disk.least; greatest = max disk.greatest (at + n); touched = (at, n) ∷ disk.touched }
+after_failed_write at n disk = record { reads = disk.reads; synced = disk.synced; least = disk.least; greatest = max disk.greatest (at + n); touched = disk.touched ++ (at, n) ∷ [] }
 
 -- after a write
 abbrev pub after_write : ℕ → List ℕ → Disk → Disk
-after_write at bytes disk = record { reads = overwritten at bytes disk.reads; synced = disk.synced; least = disk.least; greatest = max disk.greatest (at + length bytes); touched = (at, length bytes) ∷ disk.touched }
+after_write at bytes disk = record { reads = overwritten at bytes disk.reads; synced = disk.synced; least = disk.least; greatest = max disk.greatest (at + length bytes); touched = disk.touched ++ (at, length bytes) ∷ [] }
 
 -- after a cut that failed
 abbrev pub after_failed_cut : ℕ → Disk → Disk

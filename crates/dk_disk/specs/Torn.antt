@@ -4,11 +4,15 @@ use Rattle.dk_disk.specs.Disk.{Disk, IsTouched, IsUntouched}
 use Rattle.dk_disk.specs.declared.torn.Torn.{Torn}
 use Rattle.dk_disk.specs.declared.torn.Torn.TheVariants.{Old, New, Zeros, Ones}
 
--- of this length, the synced byte where no write touched, and this byte elsewhere
-pub record IsFilled (fill size : ℕ) (disk : Disk) (image : List ℕ) : Type 0 where
+-- of this length, the byte of the first list where no range is, and this byte elsewhere
+pub record IsFilledOver (fill size : ℕ) (synced : List ℕ) (touched : List (ℕ × ℕ)) (image : List ℕ) : Type 0 where
   pub length_is : length image ≡ size
-  pub kept : (i : ℕ) → i < size → i < length disk.synced → IsUntouched disk.touched i → slice_index image i ≡ slice_index disk.synced i
-  pub filled : (i : ℕ) → i < size → (length disk.synced ≤ i) ⊎ IsTouched disk.touched i → slice_index image i ≡ fill
+  pub kept : (i : ℕ) → i < size → i < length synced → IsUntouched touched i → slice_index image i ≡ slice_index synced i
+  pub filled : (i : ℕ) → i < size → (length synced ≤ i) ⊎ IsTouched touched i → slice_index image i ≡ fill
+
+-- the safe bytes of a file at this length, and this byte elsewhere
+abbrev pub IsFilled : ℕ → ℕ → Disk → List ℕ → Type 0
+IsFilled fill size disk image = IsFilledOver fill size disk.synced disk.touched image
 
 -- the image that was asked for
 abbrev pub IsTorn : Torn → Disk → List ℕ → Type 0
@@ -16,3 +20,9 @@ IsTorn Old disk image = image ≡ disk.synced
 IsTorn New disk image = image ≡ disk.reads
 IsTorn Zeros disk image = IsFilled 0 disk.least disk image
 IsTorn Ones disk image = IsFilled 255 disk.greatest disk image
+
+-- this byte at the places from start to before end, and elsewhere what was there
+pub record IsPainted (start end fill : ℕ) (old new : List ℕ) : Type 0 where
+  pub length_is : length new ≡ length old
+  pub inside : (i : ℕ) → start ≤ i → i < end → slice_index new i ≡ fill
+  pub outside : (i : ℕ) → (i < start) ⊎ (end ≤ i) → slice_index new i ≡ slice_index old i

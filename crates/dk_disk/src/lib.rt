@@ -14,5 +14,6 @@ mod drives;
 mod fault_count;
 mod fault_plan;
 pub mod home;
+mod replay;
 mod step;
 pub mod torn;

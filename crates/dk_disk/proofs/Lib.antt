@@ -1,0 +1,4 @@
+pub mod Calls
+pub mod Images
+pub mod Replays
+pub mod Fills
