@@ -6,13 +6,8 @@ use Rattle.dk_types.specs.declared.side.Side.{Side}
 use Rattle.dk_types.specs.declared.side.Side.TheVariants.{Zero, One}
 use Rattle.dk_disk.specs.Disk.{Disk, IsImage, settled, after_write}
 use Rattle.dk_disk.specs.Past.{other_side}
-use Rattle.dk_disk.specs.Record.{Call, Change, Write, Cut, Sync, changed, is_side, after_one, replayed}
+use Rattle.dk_disk.specs.Record.{Call, Change, Write, Cut, Sync, AreUpTo, changed, made, failed, is_side, after_one, replayed}
 use Rattle.dk_disk.proofs.Images.{settled_image, failed_write_image, write_image, failed_cut_image, cut_image}
-
--- each call has at most this number
-abbrev pub AreUpTo : ℕ → List Call → Type 0
-AreUpTo n [] = Unit {0}
-AreUpTo n (call ∷ calls) = (call.number ≤ n) × AreUpTo n calls
 
 pub up_to_more : (n m : ℕ) (calls : List Call) → n ≤ m → AreUpTo n calls → AreUpTo m calls
 up_to_more n m [] le up = tt
@@ -86,3 +81,19 @@ next_is (c ∷ cs) (suc i) call is = next_is cs i call is
 -- a replay goes on with the next call
 pub replayed_next : (t : ℕ) (side : Side) (calls : List Call) (i : ℕ) (call : Call) (disk next : Disk) → slice_get calls i ≡ Some call → next ≡ after_one t side call disk → replayed t side (drop (i + 1) calls) next ≡ replayed t side (drop i calls) disk
 replayed_next t side calls i call disk next got is = rw (add-one i, is, next_is calls i call got) refl
+
+-- it leaves no gap
+abbrev pub Fits : Change → Disk → Type 0
+Fits (Write at bytes) disk = at ≤ length disk.reads
+Fits (Cut to) disk = Unit {0}
+Fits Sync disk = Unit {0}
+
+pub changed_made : (change : Change) (disk : Disk) → Fits change disk → changed change true disk ≡ made change disk
+changed_made (Write at bytes) disk fits = grind (arith, nat_tests)
+changed_made (Cut to) disk fits = refl
+changed_made Sync disk fits = refl
+
+pub changed_failed : (change : Change) (disk : Disk) → changed change false disk ≡ failed change disk
+changed_failed (Write at bytes) disk = refl
+changed_failed (Cut to) disk = refl
+changed_failed Sync disk = refl

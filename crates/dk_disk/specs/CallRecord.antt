@@ -1,5 +1,5 @@
 -- The record of calls, as the code has it.
-use Rattle.std.specs.Prelude.{◌≡◌, ℕ, ◌+◌, ◌≤◌, ◌<◌, ◌^◌, ⊤, List, [], ◌∷◌, length, take, drop}
+use Rattle.std.specs.Prelude.{◌≡◌, ℕ, ◌+◌, ◌≤◌, ◌<◌, ◌^◌, ⊤, List, [], ◌∷◌, ◌++◌, length, take, drop}
 use Rattle.dk_disk.specs.Record.{Call, Change, Write, Cut, Sync}
 use Rattle.dk_disk.specs.Step.{change_of}
 use Rattle.dk_disk.specs.declared.call_record.Entry.{Entry}
@@ -45,3 +45,9 @@ pub record IsSpared (old new : Calls) : Type 0 where
   pub same : new.calls ≡ old.calls
   pub calls_fit : old.spare_calls ≤ new.spare_calls
   pub bytes_fit : old.spare_bytes ≤ new.spare_bytes
+
+-- one more call stands last, and took no more than the room of n bytes
+pub record IsPushed (old new : Calls) (call : Call) (n : ℕ) : Type 0 where
+  pub pushed : new.calls ≡ old.calls ++ call ∷ []
+  pub calls_left : old.spare_calls ≤ new.spare_calls + 1
+  pub bytes_left : old.spare_bytes ≤ new.spare_bytes + n

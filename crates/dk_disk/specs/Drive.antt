@@ -38,3 +38,13 @@ pub record Files : Type 0 where
 abbrev pub file_of : Files → Side → File
 file_of files Zero = files.zero
 file_of files One = files.one
+
+-- both files have their bytes, and no less room
+abbrev pub AreReserved : Files → Files → Type 0
+AreReserved old new = (side : Side) → IsReserved (file_of old side) (file_of new side)
+
+-- a change of a file takes at most so much room, and leaves the first contents
+pub record Takes (old new : File) (n : ℕ) : Type 0 where
+  pub first : new.first ≡ old.first
+  pub kept : new.is_kept ≡ old.is_kept
+  pub room : old.room ≤ new.room + n

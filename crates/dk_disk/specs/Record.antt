@@ -1,5 +1,5 @@
 -- The record of the calls that change a file or sync it.
-use Rattle.std.specs.Prelude.{ℕ, ◌≤◌, ◌+◌, Bool, true, false, not, nat_le, if◌then◌else◌, List, [], ◌∷◌, length, take, drop}
+use Rattle.std.specs.Prelude.{⊤, ℕ, ◌≤◌, Bool, true, false, nat_le, if◌then◌else◌, List, [], ◌∷◌, length}
 use Rattle.dk_types.specs.declared.side.Side.{Side}
 use Rattle.dk_types.specs.declared.side.Side.TheVariants.{Zero, One}
 use Rattle.dk_disk.specs.Disk.{Disk, after_write, after_failed_write, after_cut, after_failed_cut, after_sync, settled}
@@ -39,3 +39,20 @@ after_one t side call disk = if nat_le call.number t then (if is_side call.side 
 abbrev pub replayed : ℕ → Side → List Call → Disk → Disk
 replayed t side [] disk = disk
 replayed t side (call ∷ calls) disk = replayed t side calls (after_one t side call disk)
+
+-- each call has at most this number
+abbrev pub AreUpTo : ℕ → List Call → Type 0
+AreUpTo n [] = ⊤
+AreUpTo n (call ∷ calls) = (call.number ≤ n) × AreUpTo n calls
+
+-- a file after a call on it that succeeded and left no gap
+abbrev pub made : Change → Disk → Disk
+made (Write at bytes) disk = after_write at bytes disk
+made (Cut to) disk = after_cut to disk
+made Sync disk = after_sync disk
+
+-- a file after a call on it that failed
+abbrev pub failed : Change → Disk → Disk
+failed (Write at bytes) disk = after_failed_write at (length bytes) disk
+failed (Cut to) disk = after_failed_cut to disk
+failed Sync disk = disk

@@ -54,7 +54,7 @@ impl Model for CallRecord {
 }
 
 impl CallRecord {
-    ghost use Rattle.dk_disk.specs.CallRecord.{as_call, HasSpare, IsSpared};
+    ghost use Rattle.dk_disk.specs.CallRecord.{as_call, HasSpare, IsSpared, IsPushed};
 
     pub(crate) fn new(alloc: Global) -> CallRecord
         ensures { result.calls ≡ [] }
@@ -80,9 +80,7 @@ impl CallRecord {
     pub(crate) fn push(&mut self, call: &Recorded<'_>)
         requires room { HasSpare self.old 1 (step_size call.now.step) }
         requires range { IsAddressable call.now.step }
-        ensures pushed { self.new.calls ≡ self.old.calls ++ as_call call.now ∷ [] }
-        ensures calls { self.old.spare_calls ≤ self.new.spare_calls + 1 }
-        ensures bytes { self.old.spare_bytes ≤ self.new.spare_bytes + step_size call.now.step }
+        ensures { IsPushed self.old self.new (as_call call.now) (step_size call.now.step) }
     {
         let kept = keep(&mut self.bytes, &call.step);
         self.entries.push_reserved(Entry {

@@ -1,5 +1,5 @@
 //! A file in memory, with what it held at first.
-ghost use Rattle.std.specs.Prelude.{◌≡◌, ◌+◌, ◌-◌, ◌≤◌, length, vec_len, OnOk, OnErr};
+ghost use Rattle.std.specs.Prelude.{◌≡◌, ◌+◌, ◌-◌, ◌<◌, ◌≤◌, ◌^◌, length, vec_len, OnOk, OnErr};
 ghost use Rattle.std.specs.Vec.{vec_capacity};
 ghost use Rattle.dk_disk.specs.Disk.{overwritten};
 
@@ -49,6 +49,7 @@ impl Drive {
         ensures ok { OnOk result (HasPlace self.new bytes) }
         ensures err { OnErr result (HasPlace self.old bytes → ⊥) }
         ensures kept { IsReserved self.old self.new }
+        ensures small { OnOk result (length self.new.reads < 2 ^ 63) }
     {
         if !self.is_kept {
             self.first = self.bytes.to_vec(self.alloc)?;

@@ -1,5 +1,5 @@
 //! The two files of a home in memory.
-ghost use Rattle.std.specs.Prelude.{◌≡◌, OnOk, OnErr};
+ghost use Rattle.std.specs.Prelude.{◌≡◌, ◌<◌, ◌^◌, length, OnOk, OnErr};
 ghost use Rattle.dk_types.specs.declared.side.Side.{Side as Which};
 ghost use Rattle.dk_disk.specs.Past.{other_side};
 ghost use Rattle.dk_disk.specs.Drive.{file_of, HasPlace, IsReserved, IsChanged};
@@ -44,6 +44,7 @@ impl Drives {
         ensures ok { OnOk result (HasPlace (file_of self.new side) bytes) }
         ensures err { OnErr result (HasPlace (file_of self.old side) bytes → ⊥) }
         ensures kept { (s : Which) → IsReserved (file_of self.old s) (file_of self.new s) }
+        ensures small { OnOk result (length (file_of self.new side).reads < 2 ^ 63) }
     {
         match side {
             Side::Zero => self.zero.reserve(bytes),

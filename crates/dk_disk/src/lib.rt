@@ -6,14 +6,17 @@
 #![tactic(auto)]
 
 pub use home::Home;
+pub use memory_home::MemoryHome;
 pub use torn::Torn;
 
 mod call_record;
 mod drive;
 mod drives;
+mod entrance;
 mod fault_count;
 mod fault_plan;
 pub mod home;
 mod replay;
 mod step;
+pub mod memory_home;
 pub mod torn;

@@ -9,12 +9,13 @@ pub(crate) enum Step<'a> {
 }
 
 impl Step<'_> {
-    ghost use Rattle.std.specs.Prelude.{◌≡◌};
+    ghost use Rattle.std.specs.Prelude.{◌≡◌, ◌<◌, ◌^◌};
     ghost use Rattle.dk_disk.specs.Step.{step_size};
 
     /// For how many bytes it needs room.
     pub(crate) fn size(&self) -> usize
-        ensures { result ≡ step_size self.now }
+        ensures size { result ≡ step_size self.now }
+        ensures small { result < 2 ^ 63 }
     {
         match self {
             Step::Write { at: _, bytes } => bytes.len(),
