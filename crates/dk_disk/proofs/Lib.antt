@@ -6,3 +6,4 @@ pub mod Sides
 pub mod Memories
 pub mod Parts
 pub mod Made
+pub mod TornImages

@@ -6,9 +6,10 @@ use Rattle.dk_types.specs.declared.fault.Failed.{Failed}
 use Rattle.dk_types.specs.Faults.{COUNT_END}
 use Rattle.dk_disk.specs.Disk.{Disk, IsImage, settled}
 use Rattle.dk_disk.specs.Past.{Past, now, other_side, Elapses, Stays, Becomes}
+use Rattle.dk_disk.specs.Drive.{Files}
 use Rattle.dk_disk.specs.Plan.{Plan, fails_next, counted_up, after_call, after_fault}
 use Rattle.dk_disk.specs.Record.{Call, Change, AreUpTo, changed, made, failed, after_one, replayed}
-use Rattle.dk_disk.specs.Memory.{Memory, past_of, first_of, next_call, looked, IsRecorded, IsRefused, Changes}
+use Rattle.dk_disk.specs.Memory.{Memory, past_of, first_of, next_call, looked, IsRecorded, IsRefused, Changes, IsConsistent, KeepsCalls}
 use Rattle.dk_disk.proofs.Images.{settled_image}
 use Rattle.dk_disk.proofs.Replays.{replayed_image, replayed_push, replayed_beyond, one_later, one_came, one_other, up_to_more, up_to_push, Fits, changed_made, changed_failed}
 
@@ -35,8 +36,17 @@ pub refused_elapses : (old new : Memory) (n : ℕ) → IsRefused old new n → A
 refused_elapses old new n is up =
     same_elapses old new (λ t s. rw (ap (λ (m : Memory). m.zero) is.memory, ap (λ (m : Memory). m.one) is.memory, ap (λ (m : Memory). m.calls) is.memory) refl) (rw (ap (λ (m : Memory). m.plan.calls) is.memory) (omega arith)) up
 
-pub looked_elapses : (old : Memory) → old.plan.calls ≤ COUNT_END → AreUpTo old.plan.calls old.calls → Elapses (past_of old) (past_of (looked old)) × Stays (past_of old) (past_of (looked old))
-looked_elapses old most up = same_elapses old (looked old) (λ t s. refl) (omega (arith, most)) up
+pub kept_elapses : (old new : Memory) → KeepsCalls old new → AreUpTo old.plan.calls old.calls → Elapses (past_of old) (past_of new) × Stays (past_of old) (past_of new)
+kept_elapses old new is up = same_elapses old new (λ t s. rw (is.zero, is.one, is.calls) refl) (omega (arith, is.number)) up
+
+pub looked_elapses : (old : Memory) → old.plan.calls ≤ counted_up old.plan.calls → AreUpTo old.plan.calls old.calls → Elapses (past_of old) (past_of (looked old)) × Stays (past_of old) (past_of (looked old))
+looked_elapses old later up = same_elapses old (looked old) (λ t s. refl) later up
+
+pub looked_consistent : (old : Memory) (files : Files) → old.plan.calls ≤ counted_up old.plan.calls → IsConsistent old files → IsConsistent (looked old) files
+looked_consistent old files later is = record {
+  numbered = up_to_more old.plan.calls (counted_up old.plan.calls) old.calls later is.numbered;
+  reads = λ s. is.reads s ∙ ap (λ (d : Disk). d.reads) (sym ((looked_elapses old later is.numbered).1 s));
+}
 
 module _ (old new : Memory) (side : Side) (change : Change) (n : ℕ) (is : IsRecorded old new side change n) (up : AreUpTo old.plan.calls old.calls) where
   call : Call

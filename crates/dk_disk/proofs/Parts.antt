@@ -8,7 +8,7 @@ use Rattle.dk_disk.specs.CallRecord.{Calls, IsSpared}
 use Rattle.dk_disk.specs.Opening.{Entrance}
 use Rattle.dk_disk.specs.Plan.{Plan, after_call, after_fault}
 use Rattle.dk_disk.specs.Record.{Call, Change}
-use Rattle.dk_disk.specs.Memory.{Memory, memory_of, next_call, HasRoom, IsReady, IsRecorded, IsRefused}
+use Rattle.dk_disk.specs.Memory.{Memory, memory_of, next_call, HasRoom, IsReady, IsRecorded, IsRefused, IsRoomy}
 
 none : false ≡ true → ⊥
 none e = cc
@@ -53,4 +53,13 @@ recorded files files1 files2 calls calls1 calls2 plan entrance side change n res
   calls = calls_left files.zero.is_kept files.one.is_kept files2.zero.is_kept files2.one.is_kept calls.spare_calls calls2.spare_calls 1 (λ k. rw (takes Zero).kept ((reserved Zero).kept k)) (λ k. rw (takes One).kept ((reserved One).kept k)) (omega (arith, spared.calls_fit, spare_calls));
   bytes = omega (arith, (reserved Zero).room, (reserved One).room, (takes Zero).room, (takes One).room, spared.bytes_fit, spare_bytes);
   number = number;
+}
+
+-- room that was made
+pub has_room : (files files' : Files) (calls calls' : Calls) (plan : Plan) (entrance entrance' : Entrance) → AreReserved files files' → IsSpared calls calls' → entrance'.opening ≡ entrance.opening → entrance'.fails ≡ entrance.fails → entrance.room ≤ entrance'.room
+    → IsRoomy (memory_of files calls plan entrance) (memory_of files' calls' plan entrance')
+has_room files files' calls calls' plan entrance entrance' reserved spared opening fails room = record {
+  memory = rw ((reserved Zero).first, (reserved One).first, spared.same, opening, fails) refl;
+  calls = omega (arith, calls_left files.zero.is_kept files.one.is_kept files'.zero.is_kept files'.one.is_kept calls.spare_calls calls'.spare_calls 0 (reserved Zero).kept (reserved One).kept (omega (arith, spared.calls_fit)));
+  bytes = omega (arith, (reserved Zero).room, (reserved One).room, spared.bytes_fit, room);
 }

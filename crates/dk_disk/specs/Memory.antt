@@ -59,6 +59,21 @@ pub record IsRefused (old new : Memory) (n : ℕ) : Type 0 where
   pub bytes : old.room.bytes ≤ new.room.bytes
   pub full : HasRoom old n → ⊥
 
+-- the files, their calls and the calls that fail are what they were
+pub record KeepsCalls (old new : Memory) : Type 0 where
+  pub zero : new.zero ≡ old.zero
+  pub one : new.one ≡ old.one
+  pub calls : new.calls ≡ old.calls
+  pub failing : new.plan.failing ≡ old.plan.failing
+  pub number : new.plan.calls ≡ old.plan.calls
+  pub open_fails : new.open_fails ≡ old.open_fails
+
+-- no less room, and nothing else
+pub record IsRoomy (old new : Memory) : Type 0 where
+  pub memory : new ≡ record { zero = old.zero; one = old.one; calls = old.calls; plan = old.plan; opening = old.opening; open_fails = old.open_fails; room = new.room }
+  pub calls : old.room.calls ≤ new.room.calls
+  pub bytes : old.room.bytes ≤ new.room.bytes
+
 -- A call with n bytes fails by its number, or for want of room.
 abbrev pub Changes : Memory → Memory → Side → Change → ℕ → Result (Unit {0}) Failed → Type 0
 Changes old new side change n result =

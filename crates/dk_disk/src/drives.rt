@@ -2,7 +2,7 @@
 ghost use Rattle.std.specs.Prelude.{◌≡◌, ◌<◌, ◌^◌, length, OnOk, OnErr};
 ghost use Rattle.dk_types.specs.declared.side.Side.{Side as Which};
 ghost use Rattle.dk_disk.specs.Past.{other_side};
-ghost use Rattle.dk_disk.specs.Drive.{file_of, HasPlace, IsReserved, IsChanged};
+ghost use Rattle.dk_disk.specs.Drive.{file_of, HasPlace, AreReserved, IsReserved, IsChanged};
 ghost use Rattle.dk_disk.specs.Step.{step_size, IsWithin, reads_after};
 
 use crate::drive::Drive;
@@ -50,6 +50,15 @@ impl Drives {
             Side::Zero => self.zero.reserve(bytes),
             Side::One => self.one.reserve(bytes),
         }
+    }
+
+    /// Makes room for a change of either file with so many bytes.
+    pub(crate) fn reserve_both(&mut self, bytes: usize) -> Result<(), NoMemory>
+        ensures ok { OnOk result (HasPlace self.new.zero bytes × HasPlace self.new.one bytes) }
+        ensures kept { AreReserved self.old self.new }
+    {
+        self.zero.reserve(bytes)?;
+        self.one.reserve(bytes)
     }
 
     pub(crate) fn bytes(&self, side: Side) -> &[u8]

@@ -38,7 +38,9 @@ impl FaultPlan {
     /// Counts one more call, and fails where it is one of those that do.
     pub(crate) fn call(&mut self) -> Result<(), Failed>
         ensures plan { self.new ≡ after_call self.old }
+        ensures later { self.old.calls ≤ self.new.calls }
         ensures fails { IsErr result ↔ IsTrue (fails_next self.old) }
+        ensures steady { OnOk result (self.new.faults ≡ self.old.faults) }
         ensures cause { OnErr result (HasRisen self.old.faults self.new.faults) }
         ensures most { self.new.faults ≤ COUNT_END }
     {
@@ -57,6 +59,20 @@ impl FaultPlan {
         ensures most { self.new.faults ≤ COUNT_END }
     {
         self.faults.rise();
+    }
+
+    /// Counts a fault where a call without a number failed.
+    pub(crate) fn counted(&mut self, outcome: Result<(), Failed>) -> Result<(), Failed>
+        ensures outcome { result ≡ outcome }
+        ensures kept { (self.new.failing ≡ self.old.failing) × (self.new.calls ≡ self.old.calls) }
+        ensures steady { OnOk result (self.new.faults ≡ self.old.faults) }
+        ensures cause { OnErr result (HasRisen self.old.faults self.new.faults) }
+        ensures most { self.new.faults ≤ COUNT_END }
+    {
+        if outcome.is_err() {
+            self.faults.rise();
+        }
+        outcome
     }
 
     pub(crate) fn calls(&self) -> u64

@@ -7,7 +7,7 @@
 
 pub use home::Home;
 pub use memory_home::MemoryHome;
-pub use torn::Torn;
+pub use torn::{CrashRefused, Torn};
 
 mod call_record;
 mod drive;

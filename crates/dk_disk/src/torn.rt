@@ -1,4 +1,8 @@
 //! What a crash makes of the positions that no sync has reached.
+ghost use Rattle.std.specs.Prelude.{◌≡◌};
+ghost use Rattle.dk_disk.specs.declared.torn.CrashRefused.TheVariants.{NoMemory as WantOfMemory};
+
+use dk_types::NoMemory;
 
 /// Which image of a file a crash gives.
 #[derive(Clone, Copy, Debug, PartialEq, Eq)]
@@ -11,4 +15,20 @@ pub enum Torn {
     Zeros,
     /// The greatest length, with FF at each position that is not safe.
     Ones,
+}
+
+/// Why `crash_at` gives no image.
+#[derive(Clone, Copy, Debug, PartialEq, Eq)]
+pub enum CrashRefused {
+    /// No call has that number. So many were made.
+    NoSuchCall { made: u64 },
+    NoMemory,
+}
+
+impl From<NoMemory> for CrashRefused {
+    ghost from_gives = { λ _ e. e ≡ WantOfMemory };
+
+    fn from(_: NoMemory) -> Self {
+        CrashRefused::NoMemory
+    }
 }
