@@ -29,13 +29,16 @@ overwritten_stays at bytes file i le lt out =
   where
     front : length (take at file) ≡ at
     front = omega (arith, length-take at file, le)
+
     both : length (take at file ++ bytes) ≡ at + length bytes
     both = omega (arith, length-append (take at file) bytes, front)
+
     before : i < at → slice_index (overwritten at bytes file) i ≡ slice_index file i
     before l =
         get_or_append_left (take at file ++ bytes) (drop (at + length bytes) file) 0 i (omega (arith, l, both))
         ∙ get_or_append_left (take at file) bytes 0 i (omega (arith, l, front))
         ∙ get_or-take at file i 0 l
+
     behind : at + length bytes ≤ i → slice_index (overwritten at bytes file) i ≡ slice_index file i
     behind l =
         get_or-append_right (take at file ++ bytes) (drop (at + length bytes) file) (at + length bytes) i 0 both l

@@ -21,8 +21,14 @@ pub(crate) struct Recorded<'a> {
 /// What a call was to do. A write's bytes stand in the record's list of bytes.
 #[derive(Clone, Copy, Debug)]
 pub(crate) enum Kept {
-    Write { at: usize, start: usize, count: usize },
-    Cut { to: usize },
+    Write {
+        at: usize,
+        start: usize,
+        count: usize,
+    },
+    Cut {
+        to: usize,
+    },
     Sync,
 }
 

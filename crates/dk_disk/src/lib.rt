@@ -5,6 +5,7 @@
 //! `FolderHome` is a trusted edge over a folder: it tells nothing, and counts each fault.
 #![tactic(auto)]
 
+pub use folder_home::FolderHome;
 pub use home::Home;
 pub use memory_home::MemoryHome;
 pub use torn::{CrashRefused, Torn};
@@ -15,8 +16,11 @@ mod drives;
 mod entrance;
 mod fault_count;
 mod fault_plan;
+pub mod folder_home;
 pub mod home;
+pub mod memory_home;
 mod replay;
 mod step;
-pub mod memory_home;
+#[cfg(test)]
+mod tests;
 pub mod torn;

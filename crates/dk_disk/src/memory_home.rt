@@ -163,11 +163,25 @@ impl MemoryHome {
         ensures most { self.new.plan.faults ≤ COUNT_END }
         ensures opening { self.new.opening ≡ self.old.opening }
     {
-        if make_room(&mut self.drives, &mut self.calls, &self.plan, side, step.size()).is_err() {
+        if make_room(
+            &mut self.drives,
+            &mut self.calls,
+            &self.plan,
+            side,
+            step.size(),
+        )
+        .is_err()
+        {
             self.plan.fault();
             return Err(Failed);
         }
-        carry_out(&mut self.drives, &mut self.calls, &mut self.plan, side, step)
+        carry_out(
+            &mut self.drives,
+            &mut self.calls,
+            &mut self.plan,
+            side,
+            step,
+        )
     }
 }
 
