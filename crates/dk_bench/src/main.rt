@@ -2,13 +2,16 @@
 //! times; the number behind it says how many times.
 #![tactic(auto)]
 
+mod disk;
 mod first_path;
 
 use dk_turn_uses::{empty_turns_anew, locked_adds, tally_in_threads};
+use disk::{folder_appends, memory_calls};
 use first_path::first_path;
 use std::env;
+use std::fs::File;
 use std::process::ExitCode;
-use std::rt::Env;
+use std::rt::{Env, Files};
 use std::sync::Wait;
 use std::thread::Threads;
 
@@ -23,11 +26,15 @@ enum Subcommand {
     EmptyTurns,
     /// So many turns of each of two threads at one tally. The tally is told.
     Tally,
+    /// So many appends with two syncs each on the folder `appends`. The file's length is told.
+    FolderAppends,
+    /// The same on a home in memory.
+    MemoryCalls,
 }
 
 fn main(rt: HostRuntime) -> ExitCode {
     let Some((subcommand, times)) = asked(&rt) else {
-        let _ = rt.eprintln("dk_bench: first-path|locked-adds|empty-turns|tally TIMES");
+        let _ = rt.eprintln("dk_bench: first-path|locked-adds|empty-turns|tally|folder-appends|memory-calls TIMES");
         return ExitCode::from(2);
     };
     match run(&rt, subcommand, times) {
@@ -53,11 +60,13 @@ fn named(word: &str) -> Option<Subcommand> {
         "locked-adds" => Some(Subcommand::LockedAdds),
         "empty-turns" => Some(Subcommand::EmptyTurns),
         "tally" => Some(Subcommand::Tally),
+        "folder-appends" => Some(Subcommand::FolderAppends),
+        "memory-calls" => Some(Subcommand::MemoryCalls),
         _ => None,
     }
 }
 
-fn run<R: AllocGlobal + Threads + Wait + Sync>(
+fn run<R: AllocGlobal + Threads + Wait + Sync + Files<File = File> + Clone + Drop>(
     rt: &R,
     subcommand: Subcommand,
     times: u32,
@@ -67,5 +76,7 @@ fn run<R: AllocGlobal + Threads + Wait + Sync>(
         Subcommand::LockedAdds => Some(locked_adds(rt, times as u64)),
         Subcommand::EmptyTurns => empty_turns_anew(rt, rt.alloc(), times as u64),
         Subcommand::Tally => tally_in_threads(rt, rt.alloc(), times as u64),
+        Subcommand::FolderAppends => folder_appends(rt.alloc(), rt.clone().ok()?, times),
+        Subcommand::MemoryCalls => memory_calls(rt.alloc(), times),
     }
 }

@@ -7,3 +7,4 @@ pub mod Memories
 pub mod Parts
 pub mod Made
 pub mod TornImages
+pub mod Moments

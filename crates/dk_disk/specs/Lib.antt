@@ -8,3 +8,4 @@ pub mod Step
 pub mod CallRecord
 pub mod Memory
 pub mod Torn
+pub mod Stops

@@ -144,15 +144,15 @@ fn open_file<R: Files<File = File>>(system: &R, path: &str) -> io::Result<File> 
 }
 
 /// Counts a fault where the system refused.
-fn counted<T>(faults: &mut FaultCount, outcome: io::Result<T>) -> Result<T, Failed>
-    ensures steady { OnOk result (faults.new.count ≡ faults.old.count) }
-    ensures cause { OnErr result (HasRisen faults.old.count faults.new.count) }
-    ensures most { faults.new.count ≤ COUNT_END }
+fn counted<T>(count: &mut FaultCount, outcome: io::Result<T>) -> Result<T, Failed>
+    ensures steady { OnOk result (count.new.count ≡ count.old.count) }
+    ensures cause { OnErr result (HasRisen count.old.count count.new.count) }
+    ensures most { count.new.count ≤ COUNT_END }
 {
     match outcome {
         Ok(answer) => Ok(answer),
         Err(_) => {
-            faults.rise();
+            count.rise();
             Err(Failed)
         }
     }

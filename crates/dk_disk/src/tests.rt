@@ -5,9 +5,9 @@ use super::*;
 use dk_types::{Failed, Side};
 use std::alloc::{AllocError, Global};
 use std::fs;
+use std::sync::Arc;
+use std::sync::atomic::{AtomicU64, Ordering};
 use std::test::Fail;
-
-const TORN: [Torn; 4] = [Torn::Old, Torn::New, Torn::Zeros, Torn::Ones];
 
 // Appends to a file.
 fn append<M: Home>(home: &mut M, side: Side, bytes: &[u8]) -> Result<(), Failed>
@@ -86,101 +86,117 @@ fn cut(home: &mut MemoryHome, side: Side, to: u64) -> Result<(), Failed>
     }
 }
 
-// Seven calls on both sides: how many failed, and the home after them.
-fn seven_calls(alloc: Global, failing: Vec<u64>) -> Result<(u64, MemoryHome), Fail> {
+// Seven calls on both sides, whatever comes of each.
+fn seven_calls(home: &mut MemoryHome)
+    requires { IsOpen home.old.opening }
+{
+    let _ = write(home, Side::Zero, 1, &[9, 9, 9]);
+    let _ = write(home, Side::One, 0, &[7]);
+    let _ = home.sync(Side::Zero);
+    let _ = cut(home, Side::Zero, 2);
+    let _ = home.sync(Side::One);
+    let _ = write(home, Side::Zero, 2, &[5]);
+    let _ = home.sync(Side::Zero);
+}
+
+// A home after them, of which one call fails, or none.
+fn after_seven_calls(alloc: Global, failing: u64) -> Result<MemoryHome, Fail> {
     let zero = [1, 2, 3].to_vec(alloc)?;
+    let failing = [failing].to_vec(alloc)?;
     let mut home = MemoryHome::new(alloc, zero, Vec::new(alloc), failing, false);
     home.reserve(7, 16)?;
-    let mut failed = 0u64;
-    if home.open("somewhere").is_err() {
-        return Ok((8, home));
+    if home.open("somewhere").is_ok() {
+        seven_calls(&mut home);
     }
-    let mut count = |outcome: Result<(), Failed>| {
-        if outcome.is_err() {
-            failed = failed.saturating_add(1);
-        }
-    };
-    count(write(&mut home, Side::Zero, 1, &[9, 9, 9]));
-    count(write(&mut home, Side::One, 0, &[7]));
-    count(home.sync(Side::Zero));
-    count(cut(&mut home, Side::Zero, 2));
-    count(home.sync(Side::One));
-    count(write(&mut home, Side::Zero, 2, &[5]));
-    count(home.sync(Side::Zero));
-    Ok((failed, home))
+    Ok(home)
 }
+
+// Both images of each torn choice at a moment: the files' bytes, a stroke between the two.
+fn images_at(alloc: Global, home: &MemoryHome, moment: u64) -> Result<String, Fail> {
+    let mut text = String::new(alloc);
+    for torn in [Torn::Old, Torn::New, Torn::Zeros, Torn::Ones] {
+        let images = home.crash_at(moment, torn)?;
+        push_bytes(&mut text, &images.0)?;
+        text.push('|')?;
+        push_bytes(&mut text, &images.1)?;
+        text.push(' ')?;
+    }
+    Ok(text)
+}
+
+// Each byte as a digit, and 255 as `f`.
+fn push_bytes(text: &mut String, bytes: &[u8]) -> Result<(), AllocError> {
+    for byte in bytes {
+        text.push(if *byte < 10 { char::from(b'0' + *byte) } else { 'f' })?;
+    }
+    Ok(())
+}
+
+// What a stop right after each call may leave.
+const AT_EACH_MOMENT: [&str; 8] = [
+    "123| 123| 123| 123| ",
+    "123| 1999| 100| 1fff| ",
+    "123| 1999|7 100| 1fff|f ",
+    "1999| 1999|7 1999| 1999|f ",
+    "1999| 19|7 19| 1999|f ",
+    "1999|7 19|7 19|7 1999|7 ",
+    "1999|7 195|7 19|7 19f9|7 ",
+    "195|7 195|7 195|7 195|7 ",
+];
+
+// What a stop after all of them may leave where the first fails, the second, and so on.
+const WHERE_EACH_FAILS: [&str; 7] = [
+    "125|7 125|7 125|7 125|7 ",
+    "195| 195| 195| 195| ",
+    "195|7 195|7 195|7 195|7 ",
+    "1959|7 1959|7 1959|7 1959|7 ",
+    "195| 195|7 195| 195|f ",
+    "19|7 19|7 19|7 19|7 ",
+    "1999|7 195|7 19|7 19f9|7 ",
+];
 
 #[test]
 fn a_crash_at_each_moment_gives_each_torn_image(rt: HostRuntime) -> Result<(), Fail> {
     let alloc = rt.alloc();
-    let (failed, home) = seven_calls(alloc, Vec::new(alloc))?;
-    assert_eq!(rt; failed, 0);
-    assert_eq!(rt; home.calls(), 7);
-    let zero: [[&[u8]; 4]; 8] = [
-        [&[1, 2, 3], &[1, 2, 3], &[1, 2, 3], &[1, 2, 3]],
-        [&[1, 2, 3], &[1, 9, 9, 9], &[1, 0, 0], &[1, 255, 255, 255]],
-        [&[1, 2, 3], &[1, 9, 9, 9], &[1, 0, 0], &[1, 255, 255, 255]],
-        [&[1, 9, 9, 9], &[1, 9, 9, 9], &[1, 9, 9, 9], &[1, 9, 9, 9]],
-        [&[1, 9, 9, 9], &[1, 9], &[1, 9], &[1, 9, 9, 9]],
-        [&[1, 9, 9, 9], &[1, 9], &[1, 9], &[1, 9, 9, 9]],
-        [&[1, 9, 9, 9], &[1, 9, 5], &[1, 9], &[1, 9, 255, 9]],
-        [&[1, 9, 5], &[1, 9, 5], &[1, 9, 5], &[1, 9, 5]],
-    ];
-    let one: [[&[u8]; 4]; 8] = [
-        [&[], &[], &[], &[]],
-        [&[], &[], &[], &[]],
-        [&[], &[7], &[], &[255]],
-        [&[], &[7], &[], &[255]],
-        [&[], &[7], &[], &[255]],
-        [&[7], &[7], &[7], &[7]],
-        [&[7], &[7], &[7], &[7]],
-        [&[7], &[7], &[7], &[7]],
-    ];
-    for moment in 0..8 {
-        for choice in 0..4 {
-            let images = home.crash_at(moment as u64, TORN[choice])?;
-            assert_eq!(rt; images.0.as_slice(), zero[moment][choice]);
-            assert_eq!(rt; images.1.as_slice(), one[moment][choice]);
-        }
+    let home = after_seven_calls(alloc, 0)?;
+    let mut moment = 0u64;
+    for row in AT_EACH_MOMENT {
+        assert_eq!(rt; images_at(alloc, &home, moment)?.as_str(), row);
+        moment = moment.saturating_add(1);
     }
-    assert_eq!(rt;
-        home.crash_at(8, Torn::Old),
-        Err(CrashRefused::NoSuchCall { made: 7 })
-    );
+    assert_eq!(rt; home.faults(), 0);
+    assert_eq!(rt; home.crash_at(8, Torn::Old), Err(CrashRefused::NoSuchCall { made: 7 }));
     Ok(())
 }
 
 #[test]
 fn a_failing_call_counts_as_made_or_not(rt: HostRuntime) -> Result<(), Fail> {
     let alloc = rt.alloc();
-    let zero: [[&[u8]; 4]; 7] = [
-        [&[1, 2, 5], &[1, 2, 5], &[1, 2, 5], &[1, 2, 5]],
-        [&[1, 9, 5], &[1, 9, 5], &[1, 9, 5], &[1, 9, 5]],
-        [&[1, 9, 5], &[1, 9, 5], &[1, 9, 5], &[1, 9, 5]],
-        [&[1, 9, 5, 9], &[1, 9, 5, 9], &[1, 9, 5, 9], &[1, 9, 5, 9]],
-        [&[1, 9, 5], &[1, 9, 5], &[1, 9, 5], &[1, 9, 5]],
-        [&[1, 9], &[1, 9], &[1, 9], &[1, 9]],
-        [&[1, 9, 9, 9], &[1, 9, 5], &[1, 9], &[1, 9, 255, 9]],
-    ];
-    let one: [[&[u8]; 4]; 7] = [
-        [&[7], &[7], &[7], &[7]],
-        [&[], &[], &[], &[]],
-        [&[7], &[7], &[7], &[7]],
-        [&[7], &[7], &[7], &[7]],
-        [&[], &[7], &[], &[255]],
-        [&[7], &[7], &[7], &[7]],
-        [&[7], &[7], &[7], &[7]],
-    ];
-    for row in 0..7 {
-        let (failed, home) = seven_calls(alloc, [row as u64 + 1].to_vec(alloc)?)?;
-        assert_eq!(rt; failed, 1);
+    let mut failing = 1u64;
+    for row in WHERE_EACH_FAILS {
+        let home = after_seven_calls(alloc, failing)?;
+        assert_eq!(rt; images_at(alloc, &home, 7)?.as_str(), row);
+        assert_eq!(rt; home.crash(Torn::New)?.0.as_slice(), home.contents(Side::Zero));
         assert_eq!(rt; home.faults(), 1);
-        for choice in 0..4 {
-            let images = home.crash(TORN[choice])?;
-            assert_eq!(rt; images.0.as_slice(), zero[row][choice]);
-            assert_eq!(rt; images.1.as_slice(), one[row][choice]);
-        }
+        failing = failing.saturating_add(1);
     }
+    Ok(())
+}
+
+#[test]
+fn a_held_sync_gives_up_after_its_turns(rt: HostRuntime) -> Result<(), Fail> {
+    let alloc = rt.alloc();
+    let inner = MemoryHome::new(alloc, Vec::new(alloc), Vec::new(alloc), Vec::new(alloc), false);
+    let word = Arc::new(alloc, AtomicU64::new(0))?;
+    let mut home = HoldingHome::new(inner, Arc::try_clone(&word)?, 3);
+    assert_eq!(rt; home.open("somewhere"), Ok(()));
+    assert_eq!(rt; home.sync(Side::Zero), Ok(()));
+    assert!(rt; !home.spent());
+    word.store(1, Ordering::SeqCst);
+    assert_eq!(rt; home.sync(Side::Zero), Ok(()));
+    assert!(rt; home.spent());
+    assert_eq!(rt; word.load(Ordering::SeqCst), 2);
+    assert_eq!(rt; home.inner().calls(), 2);
     Ok(())
 }
 
