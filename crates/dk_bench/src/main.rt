@@ -2,15 +2,18 @@
 //! times; the number behind it says how many times.
 #![tactic(auto)]
 
+mod disk;
 mod first_path;
 mod stores;
 mod tasks;
 
 use dk_turn_uses::{empty_turns_anew, locked_adds, tally_in_threads};
+use disk::{folder_appends, memory_calls};
 use first_path::first_path;
 use std::env;
+use std::fs::File;
 use std::process::ExitCode;
-use std::rt::Env;
+use std::rt::{Env, Files};
 use std::sync::Wait;
 use std::thread::Threads;
 use std::time::Clock;
@@ -32,11 +35,15 @@ enum Subcommand {
     Tasks(Work),
     /// Calls of a store. Their nanoseconds are told.
     Store(Timed),
+    /// So many appends with two syncs each on the folder `appends`. The file's length is told.
+    FolderAppends,
+    /// The same on a home in memory.
+    MemoryCalls,
 }
 
 fn main(rt: HostRuntime) -> ExitCode {
     let Some((subcommand, times)) = asked(&rt) else {
-        let _ = rt.eprintln("dk_bench: first-path|locked-adds|empty-turns|tally|STORE-CALL|tasks-WORK TIMES");
+        let _ = rt.eprintln("dk_bench: first-path|locked-adds|empty-turns|tally|STORE-CALL|tasks-WORK|folder-appends|memory-calls TIMES");
         return ExitCode::from(2);
     };
     match run(&rt, subcommand, times) {
@@ -62,13 +69,17 @@ fn named(word: &str) -> Option<Subcommand> {
         "locked-adds" => Some(Subcommand::LockedAdds),
         "empty-turns" => Some(Subcommand::EmptyTurns),
         "tally" => Some(Subcommand::Tally),
+        "folder-appends" => Some(Subcommand::FolderAppends),
+        "memory-calls" => Some(Subcommand::MemoryCalls),
         _ => stores::named(word)
             .map(Subcommand::Store)
             .or(Work::named(word).map(Subcommand::Tasks)),
     }
 }
 
-fn run<R: AllocGlobal + Threads + Wait + Sync + Clock>(
+fn run<
+    R: AllocGlobal + Threads + Wait + Sync + Clock + Files<File = File> + Clone + Drop,
+>(
     rt: &R,
     subcommand: Subcommand,
     times: u32,
@@ -80,5 +91,7 @@ fn run<R: AllocGlobal + Threads + Wait + Sync + Clock>(
         Subcommand::Tally => tally_in_threads(rt, rt.alloc(), times as u64),
         Subcommand::Tasks(work) => tasks_in_stores(rt.alloc(), work, times),
         Subcommand::Store(timed) => stores::time(rt, timed, times),
+        Subcommand::FolderAppends => folder_appends(rt.alloc(), rt.clone().ok()?, times),
+        Subcommand::MemoryCalls => memory_calls(rt.alloc(), times),
     }
 }

@@ -1,0 +1,13 @@
+use Rattle.std.proofs.Common.{IfOk, rules}
+use Rattle.dk_disk.specs.Torn.{IsTorn}
+use Rattle.dk_disk.specs.Memory.{past_of}
+use Rattle.dk_disk.proofs.Memories.{read_image}
+use Rattle.dk_disk.proofs.TornImages.{replayed_torn, if_ok}
+use Rattle.dk_disk.proofs.memory_home.MemoryHome.image.Goals as goal
+
+pub returns-clause-torn : goal.returns-clause-torn
+returns-clause-torn c = search rules
+
+pub returns-clause-image : goal.returns-clause-image
+returns-clause-image c =
+    if_ok c.image.result (λ v torn. replayed_torn c.args.torn c.args.moment c.args.side c.args.self.now.calls _ v.items (read_image c.args.self.now c.args.moment c.args.side) torn) (returns-clause-torn c)

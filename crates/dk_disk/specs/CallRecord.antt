@@ -1,0 +1,53 @@
+-- The record of calls, as the code has it.
+use Rattle.std.specs.Prelude.{◌≡◌, ℕ, ◌+◌, ◌≤◌, ◌<◌, ◌^◌, ⊤, List, [], ◌∷◌, ◌++◌, length, take, drop}
+use Rattle.dk_disk.specs.Record.{Call, Change, Write, Cut, Sync}
+use Rattle.dk_disk.specs.Step.{change_of}
+use Rattle.dk_disk.specs.declared.call_record.Entry.{Entry}
+use Rattle.dk_disk.specs.declared.call_record.Recorded.{Recorded}
+use Rattle.dk_disk.specs.declared.call_record.Kept.{Kept}
+use Rattle.dk_disk.specs.declared.call_record.Kept.TheVariants as kept
+
+-- the calls, and room for so many more calls and bytes
+pub record Calls : Type 0 where
+  pub calls : List Call
+  pub spare_calls : ℕ
+  pub spare_bytes : ℕ
+
+-- what a call was to do, whose bytes stand in this list
+abbrev pub change_at : List ℕ → Kept → Change
+change_at bytes (kept.Write at start count) = Write at (take count (drop start bytes))
+change_at bytes (kept.Cut to) = Cut to
+change_at bytes kept.Sync = Sync
+
+abbrev pub call_of : List ℕ → Entry → Call
+call_of bytes entry = record { number = entry.number; side = entry.side; change = change_at bytes entry.kept; is_made = entry.is_made }
+
+abbrev pub as_call : Recorded → Call
+as_call call = record { number = call.number; side = call.side; change = change_of call.step; is_made = call.is_made }
+
+-- its bytes stand in a list of this length, and its range is one of numbers that 64 bits hold
+abbrev pub IsWithinRecord : ℕ → Kept → Type 0
+IsWithinRecord size (kept.Write at start count) = (start + count ≤ size) × (at + count < 2 ^ 64)
+IsWithinRecord size (kept.Cut to) = ⊤
+IsWithinRecord size kept.Sync = ⊤
+
+abbrev pub AreWithin : ℕ → List Entry → Type 0
+AreWithin size [] = ⊤
+AreWithin size (entry ∷ entries) = IsWithinRecord size entry.kept × AreWithin size entries
+
+-- room for so many more calls and bytes
+pub record HasSpare (record_ : Calls) (calls bytes : ℕ) : Type 0 where
+  pub calls_fit : calls ≤ record_.spare_calls
+  pub bytes_fit : bytes ≤ record_.spare_bytes
+
+-- the calls stay, and there is no less room
+pub record IsSpared (old new : Calls) : Type 0 where
+  pub same : new.calls ≡ old.calls
+  pub calls_fit : old.spare_calls ≤ new.spare_calls
+  pub bytes_fit : old.spare_bytes ≤ new.spare_bytes
+
+-- one more call stands last, and took no more than the room of n bytes
+pub record IsPushed (old new : Calls) (call : Call) (n : ℕ) : Type 0 where
+  pub pushed : new.calls ≡ old.calls ++ call ∷ []
+  pub calls_left : old.spare_calls ≤ new.spare_calls + 1
+  pub bytes_left : old.spare_bytes ≤ new.spare_bytes + n

@@ -1,0 +1,11 @@
+pub mod Disk
+pub mod Past
+pub mod Opening
+pub mod Plan
+pub mod Record
+pub mod Drive
+pub mod Step
+pub mod CallRecord
+pub mod Memory
+pub mod Torn
+pub mod Stops

@@ -1,0 +1,110 @@
+-- A home in memory.
+use Rattle.std.specs.Prelude.{◌≡◌, ◌⊎◌, ◌↔◌, ℕ, ◌+◌, ◌<◌, ◌≤◌, min, Bool, not, ◌&&◌, if◌then◌else◌, List, [], ◌∷◌, ◌++◌, length, Result, IsErr, IsTrue}
+use Rattle.dk_types.specs.Faults.{COUNT_END}
+use Rattle.dk_types.specs.declared.fault.Failed.{Failed}
+use Rattle.dk_types.specs.declared.side.Side.{Side}
+use Rattle.dk_types.specs.declared.side.Side.TheVariants.{Zero, One}
+use Rattle.dk_disk.specs.Disk.{settled}
+use Rattle.dk_disk.specs.Past.{Past, now}
+use Rattle.dk_disk.specs.Opening.{Opening, Entrance}
+use Rattle.dk_disk.specs.Drive.{Files, file_of, HasPlace}
+use Rattle.dk_disk.specs.CallRecord.{Calls, HasSpare}
+use Rattle.dk_disk.specs.Plan.{Plan, fails_next, counted_up, after_call, after_fault}
+use Rattle.dk_disk.specs.Record.{Call, Change, AreUpTo, replayed}
+
+-- room for so many more calls in the record, and so many more bytes
+pub record Room : Type 0 where
+  pub calls : ℕ
+  pub bytes : ℕ
+
+-- what the two files held at first, the calls since, which calls fail, whether it was opened, whether that is to fail, and the room
+pub record Memory : Type 0 where
+  pub zero : List ℕ
+  pub one : List ℕ
+  pub calls : List Call
+  pub plan : Plan
+  pub opening : Opening
+  pub open_fails : Bool
+  pub room : Room
+
+abbrev pub first_of : List ℕ → List ℕ → Side → List ℕ
+first_of zero one Zero = zero
+first_of zero one One = one
+
+-- its moments are the numbers of its calls
+abbrev pub past_of : Memory → Past
+past_of memory = record { clock = memory.plan.calls; disks = λ t side. replayed t side memory.calls (settled (first_of memory.zero memory.one side)) }
+
+-- the next call, and whether it is to fail
+abbrev pub next_call : Plan → Side → Change → Call
+next_call plan side change = record { number = counted_up plan.calls; side = side; change = change; is_made = not (fails_next plan) }
+
+-- there is room for one more call with so many bytes, and a number for it
+pub record HasRoom (memory : Memory) (n : ℕ) : Type 0 where
+  pub calls : 1 ≤ memory.room.calls
+  pub bytes : n ≤ memory.room.bytes
+  pub number : memory.plan.calls < COUNT_END
+
+-- the call was numbered and recorded, and took no more than its own room
+pub record IsRecorded (old new : Memory) (side : Side) (change : Change) (n : ℕ) : Type 0 where
+  pub memory : new ≡ record { zero = old.zero; one = old.one; calls = old.calls ++ next_call old.plan side change ∷ []; plan = after_call old.plan; opening = old.opening; open_fails = old.open_fails; room = new.room }
+  pub calls : old.room.calls ≤ new.room.calls + 1
+  pub bytes : old.room.bytes ≤ new.room.bytes + n
+  pub number : old.plan.calls < COUNT_END
+
+-- the call found no room, which is a fault and nothing else
+pub record IsRefused (old new : Memory) (n : ℕ) : Type 0 where
+  pub memory : new ≡ record { zero = old.zero; one = old.one; calls = old.calls; plan = after_fault old.plan; opening = old.opening; open_fails = old.open_fails; room = new.room }
+  pub calls : old.room.calls ≤ new.room.calls
+  pub bytes : old.room.bytes ≤ new.room.bytes
+  pub full : HasRoom old n → ⊥
+
+-- the files, their calls and the calls that fail are what they were
+pub record KeepsCalls (old new : Memory) : Type 0 where
+  pub zero : new.zero ≡ old.zero
+  pub one : new.one ≡ old.one
+  pub calls : new.calls ≡ old.calls
+  pub failing : new.plan.failing ≡ old.plan.failing
+  pub number : new.plan.calls ≡ old.plan.calls
+  pub open_fails : new.open_fails ≡ old.open_fails
+
+-- no less room, and nothing else
+pub record IsRoomy (old new : Memory) : Type 0 where
+  pub memory : new ≡ record { zero = old.zero; one = old.one; calls = old.calls; plan = old.plan; opening = old.opening; open_fails = old.open_fails; room = new.room }
+  pub calls : old.room.calls ≤ new.room.calls
+  pub bytes : old.room.bytes ≤ new.room.bytes
+
+-- A call with n bytes fails by its number, or for want of room.
+abbrev pub Changes : Memory → Memory → Side → Change → ℕ → Result (Unit {0}) Failed → Type 0
+Changes old new side change n result =
+    (IsRecorded old new side change n × (IsErr result ↔ IsTrue (fails_next old.plan))) ⊎ (IsRefused old new n × IsErr result)
+
+-- a call that only looks is numbered, and not recorded
+abbrev pub looked : Memory → Memory
+looked memory = record { zero = memory.zero; one = memory.one; calls = memory.calls; plan = after_call memory.plan; opening = memory.opening; open_fails = memory.open_fails; room = memory.room }
+
+-- what is seen of the parts
+abbrev pub memory_of : Files → Calls → Plan → Entrance → Memory
+memory_of files calls plan entrance = record {
+  zero = files.zero.first;
+  one = files.one.first;
+  calls = calls.calls;
+  plan = plan;
+  opening = entrance.opening;
+  open_fails = entrance.fails;
+  room = record {
+    calls = if files.zero.is_kept && files.one.is_kept then calls.spare_calls else 0;
+    bytes = min (min files.zero.room files.one.room) (min calls.spare_bytes entrance.room);
+  };
+}
+
+-- the numbers of the calls are those so far, and the files read as after these calls
+pub record IsConsistent (memory : Memory) (files : Files) : Type 0 where
+  pub numbered : AreUpTo memory.plan.calls memory.calls
+  pub reads : (side : Side) → (file_of files side).reads ≡ (now (past_of memory) side).reads
+
+-- the parts have room for one more call with n bytes, and a number for it
+pub record IsReady (files : Files) (calls : Calls) (plan : Plan) (side : Side) (n : ℕ) : Type 0 where
+  pub place : HasPlace (file_of files side) n
+  pub spare : HasSpare calls 1 n
+  pub number : plan.calls < COUNT_END

@@ -1,0 +1,94 @@
+//! The two files of a home in memory.
+ghost use Rattle.std.specs.Prelude.{◌≡◌, ◌<◌, ◌^◌, length, OnOk, OnErr};
+ghost use Rattle.dk_types.specs.declared.side.Side.{Side as Which};
+ghost use Rattle.dk_disk.specs.Past.{other_side};
+ghost use Rattle.dk_disk.specs.Drive.{file_of, HasPlace, AreReserved, IsReserved, IsChanged};
+ghost use Rattle.dk_disk.specs.Step.{step_size, IsWithin, reads_after};
+
+use crate::drive::Drive;
+use crate::step::Step;
+use dk_types::{NoMemory, Side};
+use std::alloc::Global;
+use std::marker::Model;
+
+/// Both files.
+#[derive(Debug, Drop)]
+pub(crate) struct Drives {
+    zero: Drive,
+    one: Drive,
+}
+
+impl Model for Drives {
+    ghost use Rattle.dk_disk.specs.Drive.{Files};
+
+    ghost Value = { Files };
+
+    ghost view = { λ d. record { zero = d.zero; one = d.one } };
+}
+
+impl Drives {
+    pub(crate) fn new(alloc: Global, zero: Vec<u8>, one: Vec<u8>) -> Drives
+        ensures zero_first { result.zero.first ≡ zero.items }
+        ensures zero_reads { result.zero.reads ≡ zero.items }
+        ensures one_first { result.one.first ≡ one.items }
+        ensures one_reads { result.one.reads ≡ one.items }
+    {
+        Drives {
+            zero: Drive::new(alloc, zero),
+            one: Drive::new(alloc, one),
+        }
+    }
+
+    /// Makes room for a change of one file with so many bytes. A refused call changes nothing but the room.
+    pub(crate) fn reserve(&mut self, side: Side, bytes: usize) -> Result<(), NoMemory>
+        ensures ok { OnOk result (HasPlace (file_of self.new side) bytes) }
+        ensures err { OnErr result (HasPlace (file_of self.old side) bytes → ⊥) }
+        ensures kept { (s : Which) → IsReserved (file_of self.old s) (file_of self.new s) }
+        ensures small { OnOk result (length (file_of self.new side).reads < 2 ^ 63) }
+    {
+        match side {
+            Side::Zero => self.zero.reserve(bytes),
+            Side::One => self.one.reserve(bytes),
+        }
+    }
+
+    /// Makes room for a change of either file with so many bytes.
+    pub(crate) fn reserve_both(&mut self, bytes: usize) -> Result<(), NoMemory>
+        ensures ok { OnOk result (HasPlace self.new.zero bytes × HasPlace self.new.one bytes) }
+        ensures kept { AreReserved self.old self.new }
+    {
+        self.zero.reserve(bytes)?;
+        self.one.reserve(bytes)
+    }
+
+    pub(crate) fn bytes(&self, side: Side) -> &[u8]
+        ensures { result.now ≡ (file_of self.now side).reads }
+    {
+        match side {
+            Side::Zero => self.zero.bytes(),
+            Side::One => self.one.bytes(),
+        }
+    }
+
+    pub(crate) fn first(&self, side: Side) -> &[u8]
+        ensures { result.now ≡ (file_of self.now side).first }
+    {
+        match side {
+            Side::Zero => self.zero.first(),
+            Side::One => self.one.first(),
+        }
+    }
+
+    /// Does what a call is to do.
+    pub(crate) fn change(&mut self, side: Side, step: &Step<'_>)
+        requires within { IsWithin step.now (file_of self.old side).reads }
+        requires place { HasPlace (file_of self.old side) (step_size step.now) }
+        ensures this { IsChanged (file_of self.old side) (file_of self.new side) (reads_after step.now (file_of self.old side).reads) (step_size step.now) }
+        ensures other { file_of self.new (other_side side) ≡ file_of self.old (other_side side) }
+    {
+        match side {
+            Side::Zero => self.zero.change(step),
+            Side::One => self.one.change(step),
+        }
+    }
+}

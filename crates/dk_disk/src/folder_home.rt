@@ -1,0 +1,214 @@
+//! A home in a folder: the files `store.0` and `store.1`.
+//!
+//! It makes one call of the system for each call, and tells nothing of content: what a system call gives
+//! or keeps is trusted.
+ghost use Rattle.std.specs.Prelude.{◌≡◌, ◌≤◌, [], string_bytes, is_some, false, MatchResult, OnOk, OnErr};
+ghost use Rattle.dk_types.specs.Faults.{HasRisen, COUNT_END};
+ghost use Rattle.dk_disk.specs.Disk.{settled};
+ghost use Rattle.dk_disk.specs.Opening.{NotCalled, opening_of};
+
+use crate::fault_count::FaultCount;
+use crate::home::Home;
+use dk_types::{Failed, Side};
+use std::alloc::Global;
+use std::fs::{self, File, OpenOptions};
+use std::io;
+use std::os::unix::fs::FileExt;
+use std::path::Path;
+use std::rt::Files;
+
+/// Both files of a store, opened.
+#[derive(Drop)]
+struct Pair {
+    zero: File,
+    one: File,
+}
+
+/// A home over a runtime's file system. `open` makes the folder, its parents and both files where they
+/// are absent, and puts them on the disk. After a sync that failed each later sync fails too, since the
+/// system may have dropped what was written: open the store anew.
+#[derive(Drop)]
+pub struct FolderHome<R: Files<File = File> + Drop> {
+    system: R,
+    alloc: Global,
+    dir: String,
+    was_called: bool,
+    pair: Option<Pair>,
+    has_lost: bool,
+    faults: FaultCount,
+}
+
+impl<R: Files<File = File> + Drop> FolderHome<R> {
+    pub fn new(alloc: Global, system: R) -> FolderHome<R>
+        ensures opening { opening_of result.was_called (is_some result.pair) (string_bytes result.dir) ≡ NotCalled }
+        ensures faults { result.faults.count ≡ 0 }
+    {
+        FolderHome {
+            system,
+            alloc,
+            dir: String::new(alloc),
+            was_called: false,
+            pair: None,
+            has_lost: false,
+            faults: FaultCount::new(),
+        }
+    }
+
+    fn file(&self, side: Side) -> io::Result<&File> {
+        match (&self.pair, side) {
+            (Some(pair), Side::Zero) => Ok(&pair.zero),
+            (Some(pair), Side::One) => Ok(&pair.one),
+            (None, _) => Err(io::ErrorKind::NotFound.into()),
+        }
+    }
+
+    fn length(&self, side: Side) -> io::Result<u64> {
+        Ok(self.file(side)?.metadata()?.len())
+    }
+
+    fn fill(&self, side: Side, at: u64, into: &mut [u8]) -> io::Result<()> {
+        let length = self.length(side)?;
+        if at > length || into.len() as u64 > length - at {
+            return Err(io::ErrorKind::UnexpectedEof.into());
+        }
+        self.file(side)?.read_exact_at(into, at)
+    }
+
+    fn put(&self, side: Side, at: u64, bytes: &[u8]) -> io::Result<()> {
+        if at > self.length(side)? {
+            return Err(io::ErrorKind::InvalidInput.into());
+        }
+        self.file(side)?.write_all_at(bytes, at)
+    }
+
+    fn shorten(&self, side: Side, to: u64) -> io::Result<()> {
+        if to > self.length(side)? {
+            return Err(io::ErrorKind::InvalidInput.into());
+        }
+        self.file(side)?.set_len(to)
+    }
+
+    fn settle(&self, side: Side) -> io::Result<()> {
+        if self.has_lost {
+            return Err(io::ErrorKind::InvalidData.into());
+        }
+        self.file(side)?.sync_data()
+    }
+}
+
+/// Makes what is absent of the folder, its parents and its two files, and puts it on the disk.
+fn open_pair<R: Files<File = File>>(system: &R, alloc: Global, dir: &str) -> io::Result<Pair> {
+    if dir.is_empty() {
+        return Err(io::ErrorKind::InvalidInput.into());
+    }
+    let absent = absent_folders(system, dir);
+    fs::create_dir_all(system, dir)?;
+    let zero = open_file(system, format!(in alloc; "{dir}/store.0")?.as_str())?;
+    let one = open_file(system, format!(in alloc; "{dir}/store.1")?.as_str())?;
+    zero.sync_all()?;
+    one.sync_all()?;
+    sync_folders(system, dir, absent)?;
+    Ok(Pair { zero, one })
+}
+
+/// How many of the folder and its parents are absent.
+fn absent_folders<R: Files<File = File>>(system: &R, dir: &str) -> usize {
+    let mut absent = 0usize;
+    for folder in Path::new(dir).ancestors() {
+        if fs::metadata(system, folder).is_ok() {
+            break;
+        }
+        absent = absent.saturating_add(1);
+    }
+    absent
+}
+
+/// Puts the entries of the folder on the disk, and those of each folder above one that was made.
+fn sync_folders<R: Files<File = File>>(system: &R, dir: &str, made: usize) -> io::Result<()> {
+    for (above, folder) in Path::new(dir).ancestors().enumerate() {
+        if above > made {
+            break;
+        }
+        let name = folder.as_str();
+        File::open(system, if name.is_empty() { "." } else { name })?.sync_all()?;
+    }
+    Ok(())
+}
+
+fn open_file<R: Files<File = File>>(system: &R, path: &str) -> io::Result<File> {
+    OpenOptions::new()
+        .read(true)
+        .write(true)
+        .create(true)
+        .open(system, path)
+}
+
+/// Counts a fault where the system refused.
+fn counted<T>(count: &mut FaultCount, outcome: io::Result<T>) -> Result<T, Failed>
+    ensures steady { OnOk result (count.new.count ≡ count.old.count) }
+    ensures cause { OnErr result (HasRisen count.old.count count.new.count) }
+    ensures most { count.new.count ≤ COUNT_END }
+{
+    match outcome {
+        Ok(answer) => Ok(answer),
+        Err(_) => {
+            count.rise();
+            Err(Failed)
+        }
+    }
+}
+
+impl<R: Files<File = File> + Drop> Home for FolderHome<R> {
+    ghost tells = { false };
+
+    ghost opening = { λ s. opening_of s.was_called (is_some s.pair) (string_bytes s.dir) };
+
+    ghost past = { λ s. record { clock = 0; disks = λ t side. settled [] } };
+
+    ghost counted = { λ s. s.faults.count };
+
+    fn open(&mut self, dir: &str) -> Result<(), Failed> {
+        match String::from_str(self.alloc, dir) {
+            Ok(copy) => self.dir = copy,
+            Err(_) => {
+                self.faults.rise();
+                return Err(Failed);
+            }
+        }
+        self.was_called = true;
+        self.pair = None;
+        let outcome = open_pair(&self.system, self.alloc, dir);
+        self.pair = Some(counted(&mut self.faults, outcome)?);
+        Ok(())
+    }
+
+    fn len(&mut self, side: Side) -> Result<u64, Failed> {
+        let outcome = self.length(side);
+        counted(&mut self.faults, outcome)
+    }
+
+    fn read(&mut self, side: Side, at: u64, into: &mut [u8]) -> Result<(), Failed> {
+        let outcome = self.fill(side, at, into);
+        counted(&mut self.faults, outcome)
+    }
+
+    fn write_at(&mut self, side: Side, at: u64, bytes: &[u8]) -> Result<(), Failed> {
+        let outcome = self.put(side, at, bytes);
+        counted(&mut self.faults, outcome)
+    }
+
+    fn cut(&mut self, side: Side, to: u64) -> Result<(), Failed> {
+        let outcome = self.shorten(side, to);
+        counted(&mut self.faults, outcome)
+    }
+
+    fn sync(&mut self, side: Side) -> Result<(), Failed> {
+        let outcome = self.settle(side);
+        self.has_lost = self.has_lost || outcome.is_err();
+        counted(&mut self.faults, outcome)
+    }
+
+    fn faults(&self) -> u64 {
+        self.faults.count
+    }
+}
