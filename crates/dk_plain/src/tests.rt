@@ -12,21 +12,48 @@ use std::alloc::Global;
 use std::process::Abort;
 use std::test::Fail;
 
-/// A game that in every job binds one name to the first object of run 0.
+/// A game that in every job binds one name to the first object of run 0: `Door`, or a name that is reserved.
 #[derive(Drop)]
 struct Porter {
-    door: Name,
+    reserved: bool,
+}
+
+impl Porter {
+    ghost use Rattle.std.specs.Prelude.{codes, cond};
+
+    fn door(&self, alloc: Global) -> Result<Name, NoMemory>
+        ensures { IfOk result (λ name. name ≡ cond self.now.reserved (codes "$Door") (codes "Door")) }
+    {
+        if self.reserved {
+            Name::from_text(alloc, "$Door")
+        } else {
+            Name::from_text(alloc, "Door")
+        }
+    }
 }
 
 impl Rules for Porter {
+    ghost use Rattle.std.specs.Prelude.{codes, cond, true, false};
+    ghost use Rattle.dk_types.specs.Names.{IsName};
     ghost use Rattle.dk_model.specs.Runs.{bind};
+    ghost use Rattle.dk_model.proofs.Acts.{lawful_rules};
+    ghost use Rattle.dk_model.proofs.Bytes.{name_of_ascii};
+    ghost use Rattle.dk_model.proofs.Operations.{lawful_bind};
+    ghost use Rattle.std.proofs.Common.{refl, arith};
 
-    ghost rules = { λ porter _. bind porter.door (record { run = record { 0 = 0 }; k = 0 }) };
+    ghost rules = { λ porter _. bind (cond porter.reserved (codes "$Door") (codes "Door")) (record { run = record { 0 = 0 }; k = 0 }) };
+
+    ghost lawful = { λ porter. lawful_rules (λ job. lawful_bind (cond porter.reserved (codes "$Door") (codes "Door")) (record { run = record { 0 = 0 }; k = 0 })
+        (λ n. (elim porter.reserved as (λ b. IsName (cond b (codes "$Door") (codes "Door"))) [
+          | true ↦ name_of_ascii (codes "$Door") refl refl refl
+          | false ↦ name_of_ascii (codes "Door") refl refl refl
+        ], record { number = omega arith; place = omega arith }))) };
 }
 
 impl PlainGame for Porter {
-    fn run(&self, _alloc: Global, _job: &Job, run: &mut PlainRun) -> Result<(), Halt> {
-        run.bind(&self.door, id(0, 0))
+    fn run(&self, alloc: Global, _job: &Job, run: &mut PlainRun) -> Result<(), Halt> {
+        let door = self.door(alloc)?;
+        run.bind(&door, id(0, 0))
     }
 }
 
@@ -81,9 +108,7 @@ fn worked<A: Abort>(
 fn a_first_run_a_login_and_messages_are_worked(rt: HostRuntime) -> Result<(), Fail> {
     let alloc = rt.alloc();
     let mut world = PlainWorld::new(alloc);
-    let game = Porter {
-        door: name(alloc, "Door")?,
-    };
+    let game = Porter { reserved: false };
 
     let first = worked(&rt, alloc, &mut world, &game, &Job::Initialize, 0)?;
     assert_eq!(rt; first.outcome, Outcome::Ok);
@@ -131,9 +156,7 @@ fn a_first_run_a_login_and_messages_are_worked(rt: HostRuntime) -> Result<(), Fa
 fn a_failed_run_is_counted_and_writes_nothing(rt: HostRuntime) -> Result<(), Fail> {
     let alloc = rt.alloc();
     let mut world = PlainWorld::new(alloc);
-    let game = Porter {
-        door: name(alloc, "$Door")?,
-    };
+    let game = Porter { reserved: true };
     let refused = Outcome::Fail(AppFault::Refused(6));
 
     let first = worked(&rt, alloc, &mut world, &game, &Job::Initialize, 0)?;

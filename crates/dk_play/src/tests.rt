@@ -21,8 +21,12 @@ impl Rules for Herald {
     ghost use Rattle.std.specs.Prelude.{codes};
     ghost use Rattle.dk_types.specs.declared.job.Out.TheVariants as out;
     ghost use Rattle.dk_model.specs.Runs.{send};
+    ghost use Rattle.dk_model.proofs.Acts.{lawful_rules};
+    ghost use Rattle.dk_model.proofs.Operations.{lawful_send};
 
     ghost rules = { λ _ _. send (record { 0 = 1 }) (out.Message (codes "hear")) };
+
+    ghost lawful = { λ _. lawful_rules (λ _. lawful_send (record { 0 = 1 }) (out.Message (codes "hear"))) };
 }
 
 impl PlainGame for Herald {
