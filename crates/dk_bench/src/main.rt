@@ -12,7 +12,7 @@ use std::process::ExitCode;
 use std::rt::Env;
 use std::sync::Wait;
 use std::thread::Threads;
-use tasks::{tasks_in_stores, Work};
+use tasks::{Work, tasks_in_stores};
 
 /// What is run.
 #[derive(Clone, Copy)]
