@@ -4,19 +4,20 @@ use dk_tasks::Tasks;
 use dk_types::{Blob, Pending, RunNo, TaskKey};
 use std::alloc::Global;
 
-/// How many tasks are put, and how many calls are made of each.
+/// How many tasks are put, in stores of one size.
 const TASKS: u64 = 1_000_000;
 
-/// What is done with each store. Each of these does what the ones before it are to be compared with.
+/// How often each task is read, since one read takes little beside what made the store.
+const READS: u64 = 8;
+
+/// What is done with each store.
 #[derive(Clone, Copy, PartialEq, Eq)]
 pub enum Work {
     /// Room is made.
     Room,
     /// Room is made, and all tasks are put.
     Put,
-    /// They are put, and each is looked for.
-    Find,
-    /// They are put, and each is read.
+    /// They are put, and each is read eight times.
     Get,
     /// They are put, and the one that is due first is asked for as often.
     LeastDue,
@@ -34,13 +35,20 @@ impl Work {
         match word {
             "tasks-room" => Some(Work::Room),
             "tasks-put" => Some(Work::Put),
-            "tasks-find" => Some(Work::Find),
             "tasks-get" => Some(Work::Get),
             "tasks-least-due" => Some(Work::LeastDue),
             "tasks-requeue" => Some(Work::Requeue),
             "tasks-claim" => Some(Work::Claim),
             "tasks-cancel" => Some(Work::Cancel),
             _ => None,
+        }
+    }
+
+    /// How often each task is gone through.
+    fn passes(self) -> u64 {
+        match self {
+            Work::Get | Work::LeastDue => READS,
+            _ => 1,
         }
     }
 }
@@ -91,9 +99,11 @@ fn in_a_store(alloc: Global, work: Work, entries: u64) -> Option<u64> {
         tasks.put(pending(alloc, number), number);
     }
     let mut found = 0u64;
-    for number in 0..entries {
-        if called(&mut tasks, work, number, entries) {
-            found = found.saturating_add(1);
+    for _ in 0..work.passes() {
+        for number in 0..entries {
+            if called(&mut tasks, work, number, entries) {
+                found = found.saturating_add(1);
+            }
         }
     }
     Some(found)
@@ -106,7 +116,6 @@ fn called(tasks: &mut Tasks, work: Work, number: u64, entries: u64) -> bool {
         Work::Room | Work::Put => false,
         Work::Get => tasks.get(at).is_some(),
         Work::LeastDue => tasks.least_due(number).is_some(),
-        Work::Find => tasks.contains_key(at),
         Work::Requeue | Work::Claim | Work::Cancel => {
             if !tasks.contains_key(at) {
                 return false;

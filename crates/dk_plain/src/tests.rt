@@ -105,7 +105,7 @@ fn worked<A: Abort>(
 }
 
 #[test]
-fn a_first_run_a_login_and_messages_are_worked(rt: HostRuntime) -> Result<(), Fail> {
+fn a_first_run_and_a_login_are_worked(rt: HostRuntime) -> Result<(), Fail> {
     let alloc = rt.alloc();
     let mut world = PlainWorld::new(alloc);
     let game = Porter { reserved: false };
@@ -131,24 +131,30 @@ fn a_first_run_a_login_and_messages_are_worked(rt: HostRuntime) -> Result<(), Fa
         entered.outs.as_slice(),
         [(ConnNo(1), Out::Accepted)].as_slice()
     );
+    assert_eq!(rt; world.commits, 2);
+    assert_eq!(rt; world.last, Some(RunNo(2)));
+    Ok(())
+}
 
-    let told = worked(&rt, alloc, &mut world, &game, &message(alloc, 1)?, 3)?;
-    assert_eq!(rt; told.outcome, Outcome::Ok);
-    assert_eq!(rt; told.touched.as_slice(), [bound(alloc, "Door")?].as_slice());
+#[test]
+fn a_recorded_session_is_heard_and_no_other(rt: HostRuntime) -> Result<(), Fail> {
+    let alloc = rt.alloc();
+    let mut world = PlainWorld::new(alloc);
+    let game = Porter { reserved: false };
+    worked(&rt, alloc, &mut world, &game, &login(alloc, 1)?, 2)?;
 
-    let stranger = worked(&rt, alloc, &mut world, &game, &message(alloc, 9)?, 4)?;
-    assert_eq!(rt; stranger.outcome, Outcome::Ok);
-    assert!(rt; stranger.touched.is_empty());
+    // A message of the session, and one under another number.
+    for (conn, run, count) in [(1, 3, 1), (9, 4, 0)] {
+        let told = worked(&rt, alloc, &mut world, &game, &message(alloc, conn)?, run)?;
+        assert_eq!(rt; told.outcome, Outcome::Ok, "{conn}");
+        assert_eq!(rt; told.touched.len(), count, "{conn}");
+    }
 
-    let login_5 = login(alloc, 5)?;
-    let again = worked(&rt, alloc, &mut world, &game, &login_5, 6)?;
+    let again = worked(&rt, alloc, &mut world, &game, &login(alloc, 5)?, 6)?;
     assert_eq!(rt; again.outcome, Outcome::Ok);
     assert!(rt; again.touched.is_empty());
     let refused = [(ConnNo(5), Out::Refused), (ConnNo(5), Out::Close)];
     assert_eq!(rt; again.outs.as_slice(), refused.as_slice());
-
-    assert_eq!(rt; world.commits, 5);
-    assert_eq!(rt; world.last, Some(RunNo(6)));
     Ok(())
 }
 
