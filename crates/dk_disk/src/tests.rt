@@ -1,10 +1,11 @@
-ghost use Rattle.std.specs.Prelude.{◌≡◌};
+ghost use Rattle.std.specs.Prelude.{◌≡◌, false};
 ghost use Rattle.dk_disk.specs.Opening.{IsOpen};
 
 use super::*;
 use dk_types::{Failed, Side};
 use std::alloc::{AllocError, Global};
-use std::fs;
+use std::fs::{self, File};
+use std::rt::Files;
 use std::sync::Arc;
 use std::sync::atomic::{AtomicU64, Ordering};
 use std::test::Fail;
@@ -155,17 +156,32 @@ const WHERE_EACH_FAILS: [&str; 7] = [
     "1999|7 195|7 19|7 19f9|7 ",
 ];
 
+// The images at a moment of a home whose one call fails.
+fn row(alloc: Global, failing: u64, moment: u64) -> Result<String, Fail> {
+    let home = after_seven_calls(alloc, failing)?;
+    images_at(alloc, &home, moment)
+}
+
+// How many faults a home has after them, and how many calls a crash at this moment says were made.
+fn counts(alloc: Global, failing: u64, moment: u64) -> Result<(u64, Option<u64>), Fail> {
+    let home = after_seven_calls(alloc, failing)?;
+    let made = match home.crash_at(moment, Torn::Old) {
+        Err(CrashRefused::NoSuchCall { made }) => Some(made),
+        _ => None,
+    };
+    Ok((home.faults(), made))
+}
+
 #[test]
 fn a_crash_at_each_moment_gives_each_torn_image(rt: HostRuntime) -> Result<(), Fail> {
     let alloc = rt.alloc();
-    let home = after_seven_calls(alloc, 0)?;
     let mut moment = 0u64;
-    for row in AT_EACH_MOMENT {
-        assert_eq!(rt; images_at(alloc, &home, moment)?.as_str(), row);
+    for expected in AT_EACH_MOMENT {
+        assert_eq!(rt; row(alloc, 0, moment)?.as_str(), expected);
         moment = moment.saturating_add(1);
     }
-    assert_eq!(rt; home.faults(), 0);
-    assert_eq!(rt; home.crash_at(8, Torn::Old), Err(CrashRefused::NoSuchCall { made: 7 }));
+    assert_eq!(rt; counts(alloc, 0, 7)?, (0, None));
+    assert_eq!(rt; counts(alloc, 0, 8)?, (0, Some(7)));
     Ok(())
 }
 
@@ -173,101 +189,127 @@ fn a_crash_at_each_moment_gives_each_torn_image(rt: HostRuntime) -> Result<(), F
 fn a_failing_call_counts_as_made_or_not(rt: HostRuntime) -> Result<(), Fail> {
     let alloc = rt.alloc();
     let mut failing = 1u64;
-    for row in WHERE_EACH_FAILS {
-        let home = after_seven_calls(alloc, failing)?;
-        assert_eq!(rt; images_at(alloc, &home, 7)?.as_str(), row);
-        assert_eq!(rt; home.crash(Torn::New)?.0.as_slice(), home.contents(Side::Zero));
-        assert_eq!(rt; home.faults(), 1);
+    for expected in WHERE_EACH_FAILS {
+        assert_eq!(rt; row(alloc, failing, 7)?.as_str(), expected);
+        assert_eq!(rt; counts(alloc, failing, 7)?, (1, None));
         failing = failing.saturating_add(1);
     }
     Ok(())
 }
 
 #[test]
-fn a_held_sync_gives_up_after_its_turns(rt: HostRuntime) -> Result<(), Fail> {
-    let alloc = rt.alloc();
-    let inner = MemoryHome::new(alloc, Vec::new(alloc), Vec::new(alloc), Vec::new(alloc), false);
-    let word = Arc::new(alloc, AtomicU64::new(0))?;
-    let mut home = HoldingHome::new(inner, Arc::try_clone(&word)?, 3);
-    assert_eq!(rt; home.open("somewhere"), Ok(()));
-    assert_eq!(rt; home.sync(Side::Zero), Ok(()));
-    assert!(rt; !home.spent());
-    word.store(1, Ordering::SeqCst);
-    assert_eq!(rt; home.sync(Side::Zero), Ok(()));
-    assert!(rt; home.spent());
-    assert_eq!(rt; word.load(Ordering::SeqCst), 2);
-    assert_eq!(rt; home.inner().calls(), 2);
-    Ok(())
-}
-
-#[test]
 fn an_opening_that_is_to_fail_fails(rt: HostRuntime) {
     let alloc = rt.alloc();
-    let mut home = MemoryHome::new(
-        alloc,
-        Vec::new(alloc),
-        Vec::new(alloc),
-        Vec::new(alloc),
-        true,
-    );
+    let none = Vec::new(alloc);
+    let mut home = MemoryHome::new(alloc, Vec::new(alloc), Vec::new(alloc), none, true);
     assert_eq!(rt; home.open("somewhere"), Err(Failed));
     assert_eq!(rt; home.faults(), 1);
     assert_eq!(rt; home.calls(), 0);
+}
+
+// A sync while the word is 0, and one while it is 1: whether each was answered, and used up its turns.
+fn two_syncs(home: &mut HoldingHome, word: &AtomicU64) -> [bool; 4]
+    requires { IsOpen home.old.inner.opening }
+{
+    let first = home.sync(Side::Zero).is_ok();
+    let is_spent = home.spent();
+    word.store(1, Ordering::SeqCst);
+    let second = home.sync(Side::Zero).is_ok();
+    [first, is_spent, second, home.spent()]
+}
+
+fn held(alloc: Global) -> Result<([bool; 4], u64), Fail> {
+    let none = Vec::new(alloc);
+    let inner = MemoryHome::new(alloc, Vec::new(alloc), Vec::new(alloc), none, false);
+    let word = Arc::new(alloc, AtomicU64::new(0))?;
+    let mut home = HoldingHome::new(inner, Arc::try_clone(&word)?, 3);
+    if home.open("somewhere").is_err() {
+        return Err(Fail::from(AllocError));
+    }
+    let seen = two_syncs(&mut home, &word);
+    Ok((seen, word.load(Ordering::SeqCst)))
+}
+
+#[test]
+fn a_held_sync_gives_up_after_its_turns(rt: HostRuntime) -> Result<(), Fail> {
+    let (seen, word) = held(rt.alloc())?;
+    assert_eq!(rt; seen, [true, false, true, true]);
+    assert_eq!(rt; word, 2);
+    Ok(())
+}
+
+fn in_memory(alloc: Global) -> Result<Vec<Vec<u8>>, Fail> {
+    let none = Vec::new(alloc);
+    let mut home = MemoryHome::new(alloc, Vec::new(alloc), Vec::new(alloc), none, false);
+    if home.open("anywhere").is_err() {
+        return Err(Fail::from(AllocError));
+    }
+    run_calls(alloc, &mut home)
+}
+
+fn in_folder<R: Files<File = File> + Drop>(
+    alloc: Global,
+    system: R,
+    dir: &str,
+) -> Result<Vec<Vec<u8>>, Fail> {
+    let mut home = FolderHome::new(alloc, system);
+    if home.open(dir).is_err() {
+        return Err(Fail::from(AllocError));
+    }
+    run_calls(alloc, &mut home)
 }
 
 #[test]
 fn both_homes_read_the_same(rt: HostRuntime) -> Result<(), Fail> {
     let alloc = rt.alloc();
     let _ = fs::remove_dir_all(&rt, "dk_disk_same");
-    let mut memory = MemoryHome::new(
-        alloc,
-        Vec::new(alloc),
-        Vec::new(alloc),
-        Vec::new(alloc),
-        false,
-    );
-    let mut folder = FolderHome::new(alloc, rt.clone()?);
-    if memory.open("dk_disk_same/a/b").is_err() || folder.open("dk_disk_same/a/b").is_err() {
-        return Err(Fail::from(AllocError));
-    }
-    let in_memory = run_calls(alloc, &mut memory)?;
-    let in_folder = run_calls(alloc, &mut folder)?;
-    assert_eq!(rt; in_memory, in_folder);
-    assert_eq!(rt; in_memory[3].as_slice(), b"ABcxyz".as_slice());
-    assert_eq!(rt; folder.faults(), 0);
+    let memory = in_memory(alloc)?;
+    let folder = in_folder(alloc, rt.clone()?, "dk_disk_same/a/b")?;
+    assert_eq!(rt; memory, folder);
+    assert_eq!(rt; fs::read(&rt, "dk_disk_same/a/b/store.0")?.as_slice(), b"ABcxyz".as_slice());
+    assert_eq!(rt; fs::read(&rt, "dk_disk_same/a/b/store.1")?.as_slice(), b"".as_slice());
     fs::remove_dir_all(&rt, "dk_disk_same")?;
     Ok(())
+}
+
+// Three calls that a home which does not tell its content refuses: how many answered Ok.
+fn misuse<M: Home>(home: &mut M) -> u64
+    requires is_open { IsOpen (M.opening home.old) }
+    requires tells { M.tells ≡ false }
+{
+    let mut into = [0u8; 4];
+    let reads = u64::from(home.read(Side::One, 0, &mut into).is_ok());
+    let writes = u64::from(home.write_at(Side::One, 4, b"d").is_ok());
+    let cuts = u64::from(home.cut(Side::One, 4).is_ok());
+    reads.saturating_add(writes).saturating_add(cuts)
+}
+
+// Opens, writes three bytes where there are none, and misuses the home: its faults, how many of the
+// wrong calls answered Ok, and the length.
+fn kept<R: Files<File = File> + Drop>(alloc: Global, system: R, dir: &str) -> (u64, u64, u64) {
+    let mut home = FolderHome::new(alloc, system);
+    if home.open(dir).is_err() {
+        return (home.faults(), 0, 0);
+    }
+    if home.len(Side::One) == Ok(0) {
+        let _ = append(&mut home, Side::One, b"abc");
+        let _ = home.sync(Side::One);
+    }
+    let length = home.len(Side::One).unwrap_or(0);
+    let wrong = misuse(&mut home);
+    (home.faults(), wrong, length)
 }
 
 #[test]
 fn a_folder_keeps_its_bytes_and_counts_what_it_refuses(rt: HostRuntime) -> Result<(), Fail> {
     let alloc = rt.alloc();
     let _ = fs::remove_dir_all(&rt, "dk_disk_kept");
-    let mut folder = FolderHome::new(alloc, rt.clone()?);
-    assert_eq!(rt; folder.open("dk_disk_kept"), Ok(()));
-    assert_eq!(rt; folder.write_at(Side::One, 0, b"abc"), Ok(()));
-    assert_eq!(rt; folder.sync(Side::One), Ok(()));
-    let mut into = [0u8; 4];
-    assert_eq!(rt; folder.read(Side::One, 0, &mut into), Err(Failed));
-    assert_eq!(rt; folder.write_at(Side::One, 4, b"d"), Err(Failed));
-    assert_eq!(rt; folder.cut(Side::One, 4), Err(Failed));
-    assert_eq!(rt; folder.faults(), 3);
-    drop(folder);
-    assert_eq!(rt;
-        fs::read(&rt, "dk_disk_kept/store.0")?.as_slice(),
-        b"".as_slice()
-    );
-    assert_eq!(rt;
-        fs::read(&rt, "dk_disk_kept/store.1")?.as_slice(),
-        b"abc".as_slice()
-    );
-    let mut again = FolderHome::new(alloc, rt.clone()?);
-    assert_eq!(rt; again.open("dk_disk_kept"), Ok(()));
-    assert_eq!(rt; again.len(Side::One), Ok(3));
+    assert_eq!(rt; kept(alloc, rt.clone()?, "dk_disk_kept"), (3, 0, 3));
+    assert_eq!(rt; fs::read(&rt, "dk_disk_kept/store.0")?.as_slice(), b"".as_slice());
+    assert_eq!(rt; fs::read(&rt, "dk_disk_kept/store.1")?.as_slice(), b"abc".as_slice());
+    assert_eq!(rt; kept(alloc, rt.clone()?, "dk_disk_kept"), (3, 0, 3));
     for dir in ["", "dk_disk_kept/store.1", "dk_disk_kept/store.1/below"] {
-        let mut refused = FolderHome::new(alloc, rt.clone()?);
-        assert_eq!(rt; refused.open(dir), Err(Failed));
-        assert_eq!(rt; refused.faults(), 1);
+        assert_eq!(rt; kept(alloc, rt.clone()?, dir), (1, 0, 0));
     }
     fs::remove_dir_all(&rt, "dk_disk_kept")?;
     Ok(())
