@@ -7,8 +7,8 @@ mod first_path;
 mod stores;
 mod tasks;
 
-use dk_turn_uses::{empty_turns_anew, locked_adds, tally_in_threads};
 use disk::{folder_appends, memory_calls};
+use dk_turn_uses::{empty_turns_anew, locked_adds, tally_in_threads};
 use first_path::first_path;
 use std::env;
 use std::fs::File;
@@ -18,7 +18,7 @@ use std::sync::Wait;
 use std::thread::Threads;
 use std::time::Clock;
 use stores::Timed;
-use tasks::{tasks_in_stores, Work};
+use tasks::{Work, tasks_in_stores};
 
 /// What is run.
 #[derive(Clone, Copy)]
@@ -43,7 +43,9 @@ enum Subcommand {
 
 fn main(rt: HostRuntime) -> ExitCode {
     let Some((subcommand, times)) = asked(&rt) else {
-        let _ = rt.eprintln("dk_bench: first-path|locked-adds|empty-turns|tally|STORE-CALL|tasks-WORK|folder-appends|memory-calls TIMES");
+        let _ = rt.eprintln(
+            "dk_bench: first-path|locked-adds|empty-turns|tally|STORE-CALL|tasks-WORK|folder-appends|memory-calls TIMES",
+        );
         return ExitCode::from(2);
     };
     match run(&rt, subcommand, times) {
@@ -77,9 +79,7 @@ fn named(word: &str) -> Option<Subcommand> {
     }
 }
 
-fn run<
-    R: AllocGlobal + Threads + Wait + Sync + Clock + Files<File = File> + Clone + Drop,
->(
+fn run<R: AllocGlobal + Threads + Wait + Sync + Clock + Files<File = File> + Clone + Drop>(
     rt: &R,
     subcommand: Subcommand,
     times: u32,

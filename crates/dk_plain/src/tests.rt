@@ -44,10 +44,13 @@ impl Rules for Porter {
     ghost rules = { λ porter _. bind (cond porter.reserved (codes "$Door") (codes "Door")) (record { run = record { 0 = 0 }; k = 0 }) };
 
     ghost lawful = { λ porter. lawful_rules (λ job. lawful_bind (cond porter.reserved (codes "$Door") (codes "Door")) (record { run = record { 0 = 0 }; k = 0 })
-        (λ n. (elim porter.reserved as (λ b. IsName (cond b (codes "$Door") (codes "Door"))) [
-          | true ↦ name_of_ascii (codes "$Door") refl refl refl
-          | false ↦ name_of_ascii (codes "Door") refl refl refl
-        ], record { number = omega arith; place = omega arith }))) };
+        (λ n. (
+          elim porter.reserved as (λ b. IsName (cond b (codes "$Door") (codes "Door"))) [
+            | true ↦ name_of_ascii (codes "$Door") refl refl refl
+            | false ↦ name_of_ascii (codes "Door") refl refl refl
+          ],
+          record { number = omega arith; place = omega arith },
+        ))) };
 }
 
 impl PlainGame for Porter {
