@@ -1,8 +1,8 @@
 -- How what every stop leaves goes on over a run of calls.
-use Rattle.std.proofs.Common.{◌≡◌, ◌⊎◌, inl, inr, ⊎_elim, ℕ, ◌<◌, ◌≤◌, List, sym, subst, arith}
+use Rattle.std.proofs.Common.{◌≡◌, ◌⊎◌, ⊎_elim, ℕ, ◌<◌, ◌≤◌, List, subst, arith}
 use Rattle.dk_types.specs.declared.side.Side.TheVariants.{Zero, One}
 use Rattle.dk_disk.specs.Disk.{Disk, IsImage}
-use Rattle.dk_disk.specs.Past.{Past, now, Elapses, MayLeave}
+use Rattle.dk_disk.specs.Past.{Past, Elapses, MayLeave}
 use Rattle.dk_disk.specs.Stops.{LeavesOnly}
 
 -- before the first call
@@ -17,7 +17,9 @@ goes_on old new t P le so_far time here zero one left = ⊎_elim (λ l. before l
   where
     order : (k n : ℕ) → (k ≤ n) ⊎ (n < k)
     order k n = grind arith
+
     before : left.0 ≤ old.clock → P zero one
     before l = so_far zero one (left.0, left.1, l, (subst (λ (d : Disk). IsImage d zero) (time.kept left.0 Zero l) left.3.0, subst (λ (d : Disk). IsImage d one) (time.kept left.0 One l) left.3.1))
+
     after : old.clock < left.0 → P zero one
     after l = here zero one (subst (λ (d : Disk). IsImage d zero) (time.since left.0 Zero l left.2) left.3.0, subst (λ (d : Disk). IsImage d one) (time.since left.0 One l left.2) left.3.1)

@@ -128,7 +128,11 @@ fn images_at(alloc: Global, home: &MemoryHome, moment: u64) -> Result<String, Fa
 // Each byte as a digit, and 255 as `f`.
 fn push_bytes(text: &mut String, bytes: &[u8]) -> Result<(), AllocError> {
     for byte in bytes {
-        text.push(if *byte < 10 { char::from(b'0' + *byte) } else { 'f' })?;
+        text.push(if *byte < 10 {
+            char::from(b'0' + *byte)
+        } else {
+            'f'
+        })?;
     }
     Ok(())
 }
@@ -266,8 +270,14 @@ fn both_homes_read_the_same(rt: HostRuntime) -> Result<(), Fail> {
     let memory = in_memory(alloc)?;
     let folder = in_folder(alloc, rt.clone()?, "dk_disk_same/a/b")?;
     assert_eq!(rt; memory, folder);
-    assert_eq!(rt; fs::read(&rt, "dk_disk_same/a/b/store.0")?.as_slice(), b"ABcxyz".as_slice());
-    assert_eq!(rt; fs::read(&rt, "dk_disk_same/a/b/store.1")?.as_slice(), b"".as_slice());
+    assert_eq!(rt;
+        fs::read(&rt, "dk_disk_same/a/b/store.0")?.as_slice(),
+        b"ABcxyz".as_slice()
+    );
+    assert_eq!(rt;
+        fs::read(&rt, "dk_disk_same/a/b/store.1")?.as_slice(),
+        b"".as_slice()
+    );
     fs::remove_dir_all(&rt, "dk_disk_same")?;
     Ok(())
 }
@@ -305,8 +315,14 @@ fn a_folder_keeps_its_bytes_and_counts_what_it_refuses(rt: HostRuntime) -> Resul
     let alloc = rt.alloc();
     let _ = fs::remove_dir_all(&rt, "dk_disk_kept");
     assert_eq!(rt; kept(alloc, rt.clone()?, "dk_disk_kept"), (3, 0, 3));
-    assert_eq!(rt; fs::read(&rt, "dk_disk_kept/store.0")?.as_slice(), b"".as_slice());
-    assert_eq!(rt; fs::read(&rt, "dk_disk_kept/store.1")?.as_slice(), b"abc".as_slice());
+    assert_eq!(rt;
+        fs::read(&rt, "dk_disk_kept/store.0")?.as_slice(),
+        b"".as_slice()
+    );
+    assert_eq!(rt;
+        fs::read(&rt, "dk_disk_kept/store.1")?.as_slice(),
+        b"abc".as_slice()
+    );
     assert_eq!(rt; kept(alloc, rt.clone()?, "dk_disk_kept"), (3, 0, 3));
     for dir in ["", "dk_disk_kept/store.1", "dk_disk_kept/store.1/below"] {
         assert_eq!(rt; kept(alloc, rt.clone()?, dir), (1, 0, 0));
