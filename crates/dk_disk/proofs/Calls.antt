@@ -1,5 +1,5 @@
 -- The record's calls read the same bytes after more were put behind them.
-use Rattle.std.proofs.Common.{◌≡◌, ℕ, zero, suc, ◌+◌, ◌<◌, ◌≤◌, List, [], ◌∷◌, ◌++◌, length, map, get_or, take, drop, Some, refl, sym, ap, arith, length-append, slice_get}
+use Rattle.std.proofs.Common.{◌≡◌, ℕ, zero, suc, ◌+◌, ◌<◌, List, [], ◌∷◌, ◌++◌, length, map, get_or, drop, Some, refl, sym, ap, arith, length-append, slice_get}
 use Rattle.std.proofs.lemmas.List.{drop-append-le, take-append-le, length-drop}
 use Rattle.dk_disk.specs.CallRecord.{AreWithin, IsWithinRecord, call_of, change_at}
 use Rattle.dk_disk.specs.declared.call_record.Entry.{Entry}

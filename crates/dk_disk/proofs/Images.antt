@@ -1,9 +1,8 @@
 -- What a read gives is an image after each step.
-use Rattle.std.proofs.Common.{◌≡◌, ◌⊎◌, inl, inr, ⊎_elim, ℕ, zero, suc, ◌+◌, ◌-◌, ◌<◌, ◌≤◌, min, max, List, [], ◌∷◌, ◌++◌, length, get_or, take, drop, refl, sym, ◌∙◌, ap, arith}
+use Rattle.std.proofs.Common.{◌≡◌, ◌⊎◌, ⊎_elim, ℕ, ◌+◌, ◌-◌, ◌<◌, ◌≤◌, min, max, List, [], ◌∷◌, ◌++◌, length, take, drop, refl, ◌∙◌, ap, arith}
 use Rattle.std.specs.Prelude.{slice_index}
-use Rattle.std.proofs.lemmas.List.{places, same_lists, length-take, length-drop, length-append, get_or-take, get_or-drop, get_or-append_right, get_or_append_left, get_or_default}
-use Rattle.std.proofs.lemmas.Grind.{common_steps}
-use Rattle.dk_disk.specs.Disk.{Disk, IsImage, IsUntouched, settled, overwritten, after_write, after_failed_write, after_cut, after_failed_cut, after_sync}
+use Rattle.std.proofs.lemmas.List.{same_lists, length-take, length-drop, length-append, get_or-take, get_or-drop, get_or-append_right, get_or_append_left, get_or_default}
+use Rattle.dk_disk.specs.Disk.{Disk, IsImage, IsUntouched, settled, overwritten, after_write, after_failed_write, after_cut, after_failed_cut}
 
 pub settled_image : (bytes : List ℕ) → IsImage (settled bytes) bytes
 settled_image bytes = record { no_shorter = omega arith; no_longer = omega arith; kept = λ i l k u. refl }

@@ -1,14 +1,13 @@
 -- The moments of a home in memory after a call.
-use Rattle.std.proofs.Common.{◌≡◌, ◌⊎◌, inl, inr, ⊎_elim, ℕ, suc, ◌+◌, ◌<◌, ◌≤◌, min, Bool, true, false, not, List, [], ◌∷◌, ◌++◌, length, refl, sym, ◌∙◌, ap, subst, arith, rules, ◌↔◌, IsTrue, IsErr, OnOk, OnErr, MatchResult, Result, Ok, Err}
+use Rattle.std.proofs.Common.{◌≡◌, ◌⊎◌, inl, inr, ℕ, ◌+◌, ◌≤◌, Bool, true, false, not, refl, sym, ◌∙◌, ap, arith, ◌↔◌, IsTrue, IsErr, OnOk, OnErr, MatchResult, Result, Ok, Err}
 use Rattle.dk_types.specs.declared.side.Side.{Side}
 use Rattle.dk_types.specs.declared.side.Side.TheVariants.{Zero, One}
 use Rattle.dk_types.specs.declared.fault.Failed.{Failed}
-use Rattle.dk_types.specs.Faults.{COUNT_END}
 use Rattle.dk_disk.specs.Disk.{Disk, IsImage, settled}
-use Rattle.dk_disk.specs.Past.{Past, now, other_side, Elapses, Stays, Becomes}
+use Rattle.dk_disk.specs.Past.{now, other_side, Elapses, Stays, Becomes}
 use Rattle.dk_disk.specs.Drive.{Files}
-use Rattle.dk_disk.specs.Plan.{Plan, fails_next, counted_up, after_call, after_fault}
-use Rattle.dk_disk.specs.Record.{Call, Change, AreUpTo, changed, made, failed, after_one, replayed}
+use Rattle.dk_disk.specs.Plan.{fails_next, counted_up}
+use Rattle.dk_disk.specs.Record.{Call, Change, AreUpTo, changed, made, failed, after_one}
 use Rattle.dk_disk.specs.Memory.{Memory, past_of, first_of, next_call, looked, IsRecorded, IsRefused, Changes, IsConsistent, KeepsCalls}
 use Rattle.dk_disk.proofs.Images.{settled_image}
 use Rattle.dk_disk.proofs.Replays.{replayed_image, replayed_push, replayed_beyond, one_later, one_came, one_other, up_to_more, up_to_push, Fits, changed_made, changed_failed}

@@ -1,8 +1,8 @@
 -- How what every stop leaves goes on over a run of calls.
-use Rattle.std.proofs.Common.{◌≡◌, ◌⊎◌, inl, inr, ⊎_elim, ℕ, ◌<◌, ◌≤◌, List, sym, subst, arith}
+use Rattle.std.proofs.Common.{◌≡◌, ◌⊎◌, ⊎_elim, ℕ, ◌<◌, ◌≤◌, List, subst, arith}
 use Rattle.dk_types.specs.declared.side.Side.TheVariants.{Zero, One}
 use Rattle.dk_disk.specs.Disk.{Disk, IsImage}
-use Rattle.dk_disk.specs.Past.{Past, now, Elapses, MayLeave}
+use Rattle.dk_disk.specs.Past.{Past, Elapses, MayLeave}
 use Rattle.dk_disk.specs.Stops.{LeavesOnly}
 
 -- before the first call

@@ -1,5 +1,5 @@
 -- What a home in memory is after its parts changed.
-use Rattle.std.proofs.Common.{◌≡◌, ◌⊎◌, inl, inr, ⊎_elim, ℕ, ◌+◌, ◌<◌, ◌≤◌, min, Bool, true, false, not, ◌&&◌, if◌then◌else◌, List, [], ◌∷◌, ◌++◌, length, refl, sym, ◌∙◌, ap, subst, arith, rules, IsTrue}
+use Rattle.std.proofs.Common.{◌≡◌, ℕ, ◌+◌, ◌<◌, ◌≤◌, Bool, true, false, ◌&&◌, if◌then◌else◌, [], ◌∷◌, ◌++◌, refl, arith, IsTrue}
 use Rattle.dk_types.specs.declared.side.Side.{Side}
 use Rattle.dk_types.specs.declared.side.Side.TheVariants.{Zero, One}
 use Rattle.dk_types.specs.Faults.{COUNT_END}
@@ -7,8 +7,8 @@ use Rattle.dk_disk.specs.Drive.{Files, file_of, HasPlace, AreReserved, Takes}
 use Rattle.dk_disk.specs.CallRecord.{Calls, IsSpared}
 use Rattle.dk_disk.specs.Opening.{Entrance}
 use Rattle.dk_disk.specs.Plan.{Plan, after_call, after_fault}
-use Rattle.dk_disk.specs.Record.{Call, Change}
-use Rattle.dk_disk.specs.Memory.{Memory, memory_of, next_call, HasRoom, IsReady, IsRecorded, IsRefused, IsRoomy}
+use Rattle.dk_disk.specs.Record.{Change}
+use Rattle.dk_disk.specs.Memory.{memory_of, next_call, HasRoom, IsReady, IsRecorded, IsRefused, IsRoomy}
 
 none : false ≡ true → ⊥
 none e = cc

@@ -1,10 +1,10 @@
 -- How a replay goes on with one call more, and which calls it passes over.
-use Rattle.std.proofs.Common.{◌≡◌, ◌≢◌, ◌⊎◌, inl, inr, ⊎_elim, ℕ, zero, suc, ◌+◌, ◌-◌, ◌<◌, ◌≤◌, min, max, Bool, true, false, List, [], ◌∷◌, ◌++◌, length, refl, sym, ◌∙◌, ap, subst, arith, add-one, nat_le, if◌then◌else◌, drop, Option, Some, None, slice_get}
+use Rattle.std.proofs.Common.{◌≡◌, ℕ, zero, suc, ◌+◌, ◌<◌, ◌≤◌, Bool, true, false, List, [], ◌∷◌, ◌++◌, length, refl, ap, arith, add-one, nat_le, if◌then◌else◌, drop, Option, Some, None, slice_get}
 use Rattle.std.proofs.lemmas.Bool.Decides.{nat_tests}
 use Rattle.std.proofs.lemmas.Option.{none-some}
 use Rattle.dk_types.specs.declared.side.Side.{Side}
 use Rattle.dk_types.specs.declared.side.Side.TheVariants.{Zero, One}
-use Rattle.dk_disk.specs.Disk.{Disk, IsImage, settled, after_write}
+use Rattle.dk_disk.specs.Disk.{Disk, IsImage, after_write}
 use Rattle.dk_disk.specs.Past.{other_side}
 use Rattle.dk_disk.specs.Record.{Call, Change, Write, Cut, Sync, AreUpTo, changed, made, failed, is_side, after_one, replayed}
 use Rattle.dk_disk.proofs.Images.{settled_image, failed_write_image, write_image, failed_cut_image, cut_image}

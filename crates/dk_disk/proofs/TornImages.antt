@@ -1,12 +1,12 @@
 -- The images that a crash gives are images.
-use Rattle.std.proofs.Common.{◌≡◌, ◌⊎◌, inl, inr, ⊎_elim, ℕ, ◌+◌, ◌<◌, ◌≤◌, min, max, Bool, true, false, List, [], ◌∷◌, length, refl, arith, nat_le, if◌then◌else◌, Result, Ok, Err, IfOk}
+use Rattle.std.proofs.Common.{◌≡◌, ℕ, ◌≤◌, Bool, true, false, List, [], ◌∷◌, length, refl, arith, nat_le, if◌then◌else◌, Result, Ok, Err, IfOk}
 use Rattle.dk_types.specs.declared.side.Side.{Side}
 use Rattle.dk_types.specs.declared.side.Side.TheVariants.{Zero, One}
 use Rattle.dk_disk.specs.Disk.{Disk, IsImage, settled, after_write}
 use Rattle.dk_disk.specs.Drive.{Files, file_of}
 use Rattle.dk_disk.specs.Record.{Call, Change, Write, Cut, Sync, changed, is_side, after_one, replayed}
 use Rattle.dk_disk.specs.Memory.{first_of}
-use Rattle.dk_disk.specs.Torn.{IsTorn, IsFilledOver}
+use Rattle.dk_disk.specs.Torn.{IsTorn}
 use Rattle.dk_disk.specs.declared.torn.Torn.{Torn}
 use Rattle.dk_disk.specs.declared.torn.Torn.TheVariants.{Old, New, Zeros, Ones}
 

@@ -1,5 +1,5 @@
 -- The record of calls, as the code has it.
-use Rattle.std.specs.Prelude.{◌≡◌, ℕ, ◌+◌, ◌≤◌, ◌<◌, ◌^◌, ⊤, List, [], ◌∷◌, ◌++◌, length, take, drop}
+use Rattle.std.specs.Prelude.{◌≡◌, ℕ, ◌+◌, ◌≤◌, ◌<◌, ◌^◌, ⊤, List, [], ◌∷◌, ◌++◌, take, drop}
 use Rattle.dk_disk.specs.Record.{Call, Change, Write, Cut, Sync}
 use Rattle.dk_disk.specs.Step.{change_of}
 use Rattle.dk_disk.specs.declared.call_record.Entry.{Entry}

@@ -2,7 +2,6 @@
 use Rattle.std.specs.Prelude.{◌≡◌, ℕ, ◌+◌, ◌≤◌, Bool, List, IsTrue}
 use Rattle.dk_types.specs.declared.side.Side.{Side}
 use Rattle.dk_types.specs.declared.side.Side.TheVariants.{Zero, One}
-use Rattle.dk_disk.specs.Past.{other_side}
 
 -- what it held at first, what a read gives, whether the first contents have a copy, and room for so many more bytes
 pub record File : Type 0 where

@@ -1,5 +1,5 @@
 -- A home in memory.
-use Rattle.std.specs.Prelude.{◌≡◌, ◌⊎◌, ◌↔◌, ℕ, ◌+◌, ◌<◌, ◌≤◌, min, Bool, not, ◌&&◌, if◌then◌else◌, List, [], ◌∷◌, ◌++◌, length, Result, IsErr, IsTrue}
+use Rattle.std.specs.Prelude.{◌≡◌, ◌⊎◌, ◌↔◌, ℕ, ◌+◌, ◌<◌, ◌≤◌, min, Bool, not, ◌&&◌, if◌then◌else◌, List, [], ◌∷◌, ◌++◌, Result, IsErr, IsTrue}
 use Rattle.dk_types.specs.Faults.{COUNT_END}
 use Rattle.dk_types.specs.declared.fault.Failed.{Failed}
 use Rattle.dk_types.specs.declared.side.Side.{Side}

@@ -1,5 +1,5 @@
 -- Whether a home was opened.
-use Rattle.std.specs.Prelude.{◌≡◌, ⊤, ℕ, ◌≤◌, List, Bool, IsTrue, if◌then◌else◌}
+use Rattle.std.specs.Prelude.{⊤, ℕ, List, Bool, if◌then◌else◌}
 
 -- `open` was not called, failed, or answered Ok, with the bytes of the folder's name
 pub data Opening : Type 0 where

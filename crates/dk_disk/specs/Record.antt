@@ -2,7 +2,7 @@
 use Rattle.std.specs.Prelude.{⊤, ℕ, ◌≤◌, Bool, true, false, nat_le, if◌then◌else◌, List, [], ◌∷◌, length}
 use Rattle.dk_types.specs.declared.side.Side.{Side}
 use Rattle.dk_types.specs.declared.side.Side.TheVariants.{Zero, One}
-use Rattle.dk_disk.specs.Disk.{Disk, after_write, after_failed_write, after_cut, after_failed_cut, after_sync, settled}
+use Rattle.dk_disk.specs.Disk.{Disk, after_write, after_failed_write, after_cut, after_failed_cut, after_sync}
 
 -- what a call is to do
 pub data Change : Type 0 where

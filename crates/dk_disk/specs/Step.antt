@@ -1,5 +1,5 @@
 -- What a call on a file is to do, as the code has it.
-use Rattle.std.specs.Prelude.{◌≡◌, ℕ, ◌+◌, ◌≤◌, ◌<◌, ◌^◌, ⊤, List, [], length, take}
+use Rattle.std.specs.Prelude.{ℕ, ◌+◌, ◌≤◌, ◌<◌, ◌^◌, ⊤, List, [], length, take}
 use Rattle.dk_disk.specs.Disk.{overwritten}
 use Rattle.dk_disk.specs.Record.{Change, Write, Cut, Sync}
 use Rattle.dk_disk.specs.declared.step.Step.{Step}

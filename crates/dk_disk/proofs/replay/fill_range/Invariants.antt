@@ -1,4 +1,4 @@
-use Rattle.std.proofs.Common.{◌≡◌, ◌≤◌, max}
+use Rattle.std.proofs.Common.{◌≤◌, max}
 use Rattle.dk_disk.specs.Torn.{IsPainted}
 use Rattle.dk_disk.proofs.replay.fill_range.Given as goal
 

@@ -1,4 +1,4 @@
-use Rattle.std.proofs.Common.{◌≡◌, arith, rules, take, length, vec_len}
+use Rattle.std.proofs.Common.{◌≡◌, arith, rules, length, vec_len}
 use Rattle.std.proofs.lemmas.List.{take_more}
 use Rattle.dk_disk.proofs.Fills.{filled_none, filled_more}
 use Rattle.dk_disk.proofs.replay.filled.Goals as goal

@@ -1,6 +1,5 @@
-use Rattle.std.proofs.Common.{◌≡◌, ◌<◌, ◌∙◌, length, map, Some, ap, arith}
-use Rattle.dk_disk.specs.CallRecord.{Calls, call_of}
-use Rattle.dk_disk.specs.Record.{Call}
+use Rattle.std.proofs.Common.{◌<◌, length, map, arith}
+use Rattle.dk_disk.specs.CallRecord.{call_of}
 use Rattle.dk_disk.proofs.Calls.{within_read, call_read, mapped_length}
 use Rattle.dk_disk.proofs.call_record.CallRecord.call.Goals as goal
 

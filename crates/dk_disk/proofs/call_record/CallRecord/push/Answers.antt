@@ -1,6 +1,6 @@
-use Rattle.std.proofs.Common.{rules, ◌≡◌, ◌∙◌, ap}
+use Rattle.std.proofs.Common.{rules, ap}
 use Rattle.dk_disk.specs.CallRecord.{as_call}
-use Rattle.dk_disk.specs.Record.{Call, Change}
+use Rattle.dk_disk.specs.Record.{Change}
 use Rattle.dk_disk.proofs.Calls.{within_pushed, calls_pushed}
 use Rattle.dk_disk.proofs.call_record.CallRecord.push.Goals as goal
 

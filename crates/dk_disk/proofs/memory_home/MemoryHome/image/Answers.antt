@@ -1,6 +1,4 @@
-use Rattle.std.proofs.Common.{IfOk, rules}
-use Rattle.dk_disk.specs.Torn.{IsTorn}
-use Rattle.dk_disk.specs.Memory.{past_of}
+use Rattle.std.proofs.Common.{rules}
 use Rattle.dk_disk.proofs.Memories.{read_image}
 use Rattle.dk_disk.proofs.TornImages.{replayed_torn, if_ok}
 use Rattle.dk_disk.proofs.memory_home.MemoryHome.image.Goals as goal
