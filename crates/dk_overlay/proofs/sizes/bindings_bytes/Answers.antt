@@ -1,0 +1,10 @@
+use Rattle.dk_overlay.proofs.sizes.bindings_bytes.Goals as goal
+
+pub loop-name-init : goal.loop-name-init
+loop-name-init c = ?
+
+pub loop-name-preserved : goal.loop-name-preserved
+loop-name-preserved c = ?
+
+pub returns : goal.returns
+returns c = ?

@@ -1,0 +1,7 @@
+pub mod Kit
+pub mod Reading
+pub mod ObjectCalls
+pub mod NameCalls
+pub mod NextNames
+pub mod TaskCalls
+pub mod Laws

@@ -1,0 +1,14 @@
+use Rattle.std.proofs.Common.{sym, ap, ◌∙◌}
+use Rattle.dk_model.specs.Runs as act
+use Rattle.dk_overlay.specs.Logged.{Logged}
+use Rattle.dk_txn.proofs.ObjectCalls.{absent_unchanged, reserved_unchanged}
+use Rattle.dk_txn.proofs.objects.Txn+V.changeable.Goals as goal
+
+pub returns-in-None-clause-err : goal.returns-in-None-clause-err
+returns-in-None-clause-err g c = absent_unchanged _ c.args.id c.in_ok-known.known c.in_ok-known.ensures.known c.in-None.is
+
+pub returns-then-is_reserved_kind-clause-err : goal.returns-then-is_reserved_kind-clause-err
+returns-then-is_reserved_kind-clause-err g c = ?
+
+pub returns-clause-ok : goal.returns-clause-ok
+returns-clause-ok g c = ?
