@@ -1,31 +1,32 @@
 -- Counts in 64 bits.
-use Rattle.std.proofs.Common.{◌≡◌, ℕ, ◌+◌, ◌<◌, ◌≤◌, ◌^◌, ◌-◌, nat_lt, List, length, take, get_or, sum_by, refl, sym, ap, subst, ◌∙◌, arith, add_assoc}
-use Rattle.std.proofs.lemmas.List.Sums.{sum_by_more}
-use Rattle.dk_model.specs.Effects.{list_length}
+use Rattle.std.proofs.Common.{◌≡◌, ℕ, ◌+◌, ◌<◌, min, nat_lt, List, length, take, get_or, sum_by, refl, sym, ap, ◌∙◌, arith, add_assoc}
 use Rattle.std.proofs.lemmas.Bool.Decides.{nat_tests}
+use Rattle.std.proofs.lemmas.List.Sums.{sum_by_more}
+use Rattle.dk_types.specs.Faults.{COUNT_END}
+use Rattle.dk_model.specs.Effects.{list_length}
 use Rattle.dk_overlay.specs.Counting.{Counts}
 
+min_sum : (a b : ℕ) → min (min a COUNT_END + b) COUNT_END ≡ min (a + b) COUNT_END
+min_sum a b = grind arith
+
+min_both : (a b : ℕ) → min (min a COUNT_END + min b COUNT_END) COUNT_END ≡ min (a + b) COUNT_END
+min_both a b = grind arith
+
 -- a number of 64 bits counts itself
-pub counts_itself : (n : ℕ) → Counts n n
-counts_itself n = record { low = omega arith; high = λ h. refl }
+pub counts_itself : Counts 4 4
+counts_itself = refl
 
 -- a sum that stays at the greatest count counts the sum
-pub counts_sum : (a b sum m n : ℕ) → sum ≤ a + b → (a + b < 2 ^ 64 → sum ≡ a + b) → Counts a m → Counts b n → Counts sum (m + n)
-counts_sum a b sum m n low high k l = record {
-  low = omega (arith, low, k.low, l.low);
-  high = λ h.
-      let am : a ≡ m = k.high (omega (arith, h)) in
-      let bn : b ≡ n = l.high (omega (arith, h)) in
-      high (rw (am, bn) h) ∙ ap (λ x. x + b) am ∙ ap (λ y. m + y) bn;
-}
+pub counts_sum : (a b sum m n : ℕ) → sum ≡ min (a + b) COUNT_END → Counts a m → Counts b n → Counts sum (m + n)
+counts_sum a b sum m n e k l = e ∙ ap (λ x. min (x + b) COUNT_END) k ∙ ap (λ y. min (min m COUNT_END + y) COUNT_END) l ∙ min_both m n
 
 -- one item more of a list is counted
-pub counts_turn : {X : Type 0} (size : X → ℕ) (xs : List X) (i : ℕ) (x : X) (a add sum : ℕ) → i < length xs → add ≡ size (get_or xs i x) → sum ≤ a + add → (a + add < 2 ^ 64 → sum ≡ a + add)
+pub counts_turn : {X : Type 0} (size : X → ℕ) (xs : List X) (i : ℕ) (x : X) (a add sum : ℕ) → i < length xs → add ≡ size (get_or xs i x) → sum ≡ min (a + add) COUNT_END
     → Counts a (list_length size (take i xs)) → Counts sum (list_length size (take (i + 1) xs))
-counts_turn size xs i x a add sum lt is low high k =
+counts_turn size xs i x a add sum lt is e k =
     let more : list_length size (take i xs) + add ≡ list_length size (take (i + 1) xs) = ap (λ n. list_length size (take i xs) + n) is ∙ add_assoc 4 (sum_by size (take i xs)) (size (get_or xs i x)) ∙ ap (λ n. 4 + n) (sym (sum_by_more size xs i x lt)) in
-    subst (Counts sum) more (counts_sum a add sum (list_length size (take i xs)) add low high k (counts_itself add))
+    e ∙ ap (λ y. min (y + add) COUNT_END) k ∙ min_sum (list_length size (take i xs)) add ∙ ap (λ n. min n COUNT_END) more
 
 -- a count tells whether a number is above a limit
-pub counts_above : (count n limit : ℕ) → limit < 2 ^ 64 - 1 → Counts count n → nat_lt limit count ≡ nat_lt limit n
-counts_above count n limit low k = grind (arith, nat_tests, k.low, k.high, low)
+pub counts_above : (count n limit : ℕ) → limit < COUNT_END → Counts count n → nat_lt limit count ≡ nat_lt limit n
+counts_above count n limit low k = rw k (let e : nat_lt limit (min n COUNT_END) ≡ nat_lt limit n = grind (arith, nat_tests, low) in e)

@@ -31,7 +31,7 @@ use Rattle.dk_overlay.proofs.Owning.{current_start, own_passed, own_absent, know
 use Rattle.dk_overlay.proofs.Nets.{net-effects}
 
 no_moves : (t : Logged) (d : DurableWorld) → MovesStand (nothing_done t.run t.at) d
-no_moves t d = λ k from to h. at_empty (λ _ _. (task : Task) → map.get d.tasks k ≡ Some task → task.due ≡ from) k (Moved from to) h
+no_moves t d = λ k from to h. at_empty key_cmp (λ _ _. (task : Task) → map.get d.tasks k ≡ Some task → task.due ≡ from) k (Moved from to) h
 
 -- a failed run keeps nothing of a job that is no task
 pub kept_nothing : (t : Logged) (j : Job) → ((d : DurableWorld) → kept_by j (begun t.run t.at d) ≡ begun t.run t.at d) → IsKept t j (nothing_done t.run t.at)
@@ -62,7 +62,7 @@ module _ (t : Logged) (key : TaskKey) (due period kind : ℕ) (arg : List ℕ) w
         moves = λ q from to h task e.
             moves_passed (λ q from. (task : Task) → map.get d.tasks q ≡ Some task → task.due ≡ from) start key due period
             (λ task e. ap (λ (x : Task). x.due) (may.stands task e))
-            (λ q from to h. at_empty (λ _ _. (task : Task) → map.get d.tasks q ≡ Some task → task.due ≡ from) q (Moved from to) h)
+            (λ q from to h. at_empty key_cmp (λ _ _. (task : Task) → map.get d.tasks q ≡ Some task → task.due ≡ from) q (Moved from to) h)
             q from to h task e;
       })
 
@@ -100,3 +100,12 @@ tells_large t j f large tells = λ log d may.
     tells log d may
     ∙ ap (λ b. told_step d (if b then failed j (begun t.run t.at d) TooLarge else record { outcome = outcome.Ok; world = (current t d).world; touched = t.touched; outs = t.outs }))
     (sym (sym (size t j log d may) ∙ large))
+
+-- a failed run keeps nothing of a job that is none of a task
+pub kept_default : (t : Logged) (j : Job) → ((key : TaskKey) (due period kind : ℕ) (arg : List ℕ) → j ≡ job.Task key due period kind arg → ⊥) → IsKept t j (nothing_done t.run t.at)
+kept_default t job.Initialize isnt = kept_nothing t job.Initialize (λ d. refl)
+kept_default t (job.Login conn name) isnt = kept_nothing t (job.Login conn name) (λ d. refl)
+kept_default t (job.Message conn name body) isnt = kept_nothing t (job.Message conn name body) (λ d. refl)
+kept_default t (job.Channel conn name channel body) isnt = kept_nothing t (job.Channel conn name channel body) (λ d. refl)
+kept_default t (job.Disconnect conn name graceful) isnt = kept_nothing t (job.Disconnect conn name graceful) (λ d. refl)
+kept_default t (job.Task key due period kind arg) isnt = absurd (isnt key due period kind arg refl)

@@ -7,7 +7,7 @@ use Rattle.std.specs.Cmp.{IsTotalOrder}
 use Rattle.std.specs.FinMap.{FinMap, IsAntisymmetric, find, get, insert, remove, empty, entries, get-entries, get-insert, get-remove, get-empty, same_map}
 use Rattle.dk_model.specs.DurableWorlds.{with_value}
 use Rattle.dk_overlay.specs.Layers.{layered, layered_list, newest}
-use Rattle.dk_overlay.proofs.Tests.{Some_injective}
+use Rattle.dk_overlay.proofs.Tests.{Some_injective, none_some}
 
 module _ {K X : Type 0} {R : K → K → Ordering} (total : IsTotalOrder R) where
   pub get-with_value : (m : FinMap R X) (k : K) (c : Option X) (q : K) → get (with_value m k c) q ≡ cond (eq_by_cmp R q k) c (get m q)
@@ -59,5 +59,5 @@ at_changed {R = R} total exact m k v P here others q c h =
     ] refl (sym (get-insert total m k v q) ∙ h)
 
 -- nothing is found in no changes
-pub at_empty : {K X : Type 0} {R : K → K → Ordering} (P : K → X → Type 0) (q : K) (c : X) → get (empty {R = R}) q ≡ Some c → P q c
-at_empty {R = R} P q c h = let e = get-empty R q in absurd cc
+pub at_empty : {K X : Type 0} (R : K → K → Ordering) (P : K → X → Type 0) (q : K) (c : X) → get (empty {R = R}) q ≡ Some c → P q c
+at_empty R P q c h = none_some c (sym (get-empty R q) ∙ h)

@@ -37,16 +37,16 @@ ids_itself x = rw (numbers_itself x.run.0, numbers_itself x.k) refl
 objects_itself : (x : Object) → same_object x x ≡ true
 objects_itself x = rw (numbers_itself x.kind, nat_list_eq_equiv.refl x.bytes) refl
 
-value_itself : {X : Type 0} {same : X → X → Bool} → ((x : X) → same x x ≡ true) → (o : Option X) → same_value same o o ≡ true
-value_itself t None = refl
-value_itself t (Some x) = t x
+value_itself : {X : Type 0} (same : X → X → Bool) → ((x : X) → same x x ≡ true) → (o : Option X) → same_value same o o ≡ true
+value_itself same t None = refl
+value_itself same t (Some x) = t x
 
 module _ {K X : Type 0} (R : K → K → Ordering) (total : IsTotalOrder R) (exact : IsAntisymmetric R) (changes : FinMap R (Change X)) (m : FinMap R X)
     (knows : (k : K) (c : Change X) → get changes k ≡ Some c → c.before ≡ get m k) where
   -- what is newly set at a key, by the change there
   set_at : (same : X → X → Bool) → ((x : X) → same x x ≡ true) → (o : Option (Change X)) (x : Option X) → ((c : Change X) → o ≡ Some c → c.before ≡ x)
       → given (newly_set same) o ≡ cond (not (same_value same x (newest value_now o x))) (newest value_now o x) None
-  set_at same t None x k = ap (λ b. cond (not b) x None) (sym (value_itself t x))
+  set_at same t None x k = ap (λ b. cond (not b) x None) (sym (value_itself same t x))
   set_at same t (Some c) x k = ap (λ y. newly_set same (record c { before = y })) (k c refl)
       ∙ elim (same_value same x c.after) as (λ b. cond b None c.after ≡ cond (not b) c.after None) [ true ↦ refl | false ↦ refl ]
 

@@ -1,11 +1,12 @@
 -- What a run does to its own task.
-use Rattle.std.proofs.Common.{◌≡◌, ◌==◌, ℕ, ◌+◌, ◌⊎◌, inl, inr, Bool, true, false, cond, if◌then◌else◌, Option, Some, None, is_some, List, [], ◌∷◌, ◌++◌, Ok, refl, sym, ap, subst, ◌∙◌}
+use Rattle.std.proofs.Common.{◌≡◌, ◌==◌, ℕ, ◌+◌, ◌⊎◌, inl, inr, Bool, true, false, cond, if◌then◌else◌, Option, Some, None, is_some, List, [], ◌∷◌, ◌++◌, Result, Ok, refl, sym, ap, subst, ◌∙◌}
 use Rattle.std.specs.FinMap as map
 use Rattle.dk_types.specs.declared.number.RunNo.{RunNo}
 use Rattle.dk_types.specs.declared.number.TaskKey.{TaskKey}
 use Rattle.dk_types.specs.declared.item.Item.{Item}
 use Rattle.dk_types.specs.declared.item.Item.TheVariants as ask
 use Rattle.dk_types.specs.declared.job.Job.{Job}
+use Rattle.dk_types.specs.declared.fault.AppFault.{AppFault}
 use Rattle.dk_types.specs.declared.job.Job.TheVariants as job
 use Rattle.dk_types.specs.Names.{bytes_cmp}
 use Rattle.dk_model.specs.Keys.{id_cmp, key_cmp}
@@ -57,9 +58,10 @@ passed : (t : Logged) (d : DurableWorld) (key : TaskKey) (due period : ℕ) (o :
     → own_found o key due period (current t d) ≡ (Ok true, current (passing_own t key due period) d)
 passed t d key due period None e h = cc
 passed t d key due period (Some task) e h =
-    elim (period == 0) as (λ b. (if b then (Ok true, with_task (current t d) key None)
+    elim (period == 0) as (λ b. ◌≡◌ {A = Result Bool AppFault × Run}
+    (if b then (Ok true, with_task (current t d) key None)
     else (Ok true, record (current t d) { world = record ((current t d).world) { tasks = map.insert (layered task_now t.tasks d.tasks) key (record task { due = next_due due period t.at }) } }))
-    ≡ (Ok true, current (if b then removing_task t key else moving_task t key due (next_due due period t.at)) d)) [
+    (Ok true, current (if b then removing_task t key else moving_task t key due (next_due due period t.at)) d)) [
       | true ↦ ap (λ s. (Ok true, s)) (current_removed t key d)
       | false ↦ ap (λ s. (Ok true, s)) (current_moved t key due (next_due due period t.at) d task e)
     ]

@@ -9,6 +9,8 @@ use Rattle.dk_types.specs.declared.object.Object.{Object}
 use Rattle.dk_types.specs.declared.item.Item.{Item}
 use Rattle.dk_types.specs.declared.item.Read.{Read}
 use Rattle.std.proofs.Common.{List, ◌++◌}
+use Rattle.dk_types.specs.Names.{bytes_cmp}
+use Rattle.dk_model.specs.Keys.{id_cmp, key_cmp}
 use Rattle.dk_model.specs.DurableWorlds.{DurableWorld, Task, Agrees, answer}
 use Rattle.dk_overlay.specs.declared.change.Change.{Change}
 use Rattle.dk_overlay.specs.declared.change.TaskChange.{TaskChange}
@@ -29,9 +31,9 @@ Agrees-front d (x ∷ xs) ys h = (h.0, Agrees-front d xs ys h.1)
 
 pub nothing_known : (run : RunNo) (at : ℕ) (d : DurableWorld) → KnowsBefore (nothing_done run at) d
 nothing_known run at d = record {
-  objects = at_empty (λ id c. c.before ≡ map.get d.objects id);
-  names = at_empty (λ name c. c.before ≡ map.get d.names name);
-  tasks = at_empty (λ key c. is_some (map.get d.tasks key) ≡ stood c);
+  objects = at_empty id_cmp (λ id c. c.before ≡ map.get d.objects id);
+  names = at_empty bytes_cmp (λ name c. c.before ≡ map.get d.names name);
+  tasks = at_empty key_cmp (λ key c. is_some (map.get d.tasks key) ≡ stood c);
 }
 
 pub sound_start : (run : RunNo) (at : ℕ) → IsSound (nothing_done run at)

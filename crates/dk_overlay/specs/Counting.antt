@@ -1,7 +1,7 @@
 -- A count in 64 bits.
-use Rattle.std.specs.Prelude.{◌≡◌, ℕ, ◌≤◌, ◌^◌, ◌<◌}
+use Rattle.std.specs.Prelude.{◌≡◌, ℕ, min}
+use Rattle.dk_types.specs.Faults.{COUNT_END}
 
--- it is the number, or both are at least the greatest count
-pub record Counts (count n : ℕ) : Type 0 where
-  pub low : count ≤ n
-  pub high : n < 2 ^ 64 → count ≡ n
+-- it is the number, or the greatest count where the number is greater
+abbrev pub Counts : ℕ → ℕ → Type 0
+Counts count n = count ≡ min n COUNT_END

@@ -9,6 +9,7 @@ use Rattle.dk_types.specs.declared.item.Read.{Read}
 use Rattle.dk_types.specs.declared.job.Job.{Job}
 use Rattle.dk_types.specs.declared.fault.AppFault.{AppFault}
 use Rattle.dk_model.specs.declared.mode.Mode.TheVariants.{Game}
+use Rattle.dk_model.specs.Keys.{key_cmp}
 use Rattle.dk_model.specs.DurableWorlds.{DurableWorld, Agrees}
 use Rattle.dk_model.specs.Runs.{Run, Act, begun, within}
 use Rattle.dk_model.specs.Steps.{work, ended}
@@ -27,7 +28,7 @@ use Rattle.dk_txn.specs.Law.{IsBegun}
 
 -- with nothing done no task was moved
 pub nothing_moved : (run : RunNo) (at : ℕ) (key : TaskKey) (due : ℕ) → MovesAlone key due (nothing_done run at)
-nothing_moved run at key due = λ k from to h. at_empty (λ _ _. (k ≡ key) × (from ≡ due)) k (Moved from to) h
+nothing_moved run at key due = λ k from to h. at_empty key_cmp (λ _ _. (k ≡ key) × (from ≡ due)) k (Moved from to) h
 
 never : {A : Type 0} (n : ℕ) → n ≡ suc n → A
 never n e = absurd (omega (arith, e))

@@ -1,0 +1,4 @@
+use Rattle.dk_overlay.proofs.sizes.is_too_large.Goals as goal
+
+pub returns : goal.returns
+returns c = ?
