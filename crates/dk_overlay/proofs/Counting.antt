@@ -1,7 +1,8 @@
 -- Counts in 64 bits.
-use Rattle.std.proofs.Common.{◌≡◌, ℕ, ◌+◌, ◌<◌, min, nat_lt, List, length, take, get_or, sum_by, refl, sym, ap, ◌∙◌, arith, add_assoc}
+use Rattle.std.proofs.Common.{◌≡◌, ℕ, ◌+◌, ◌*◌, ◌<◌, min, nat_lt, suc, List, [], ◌∷◌, length, take, get_or, sum_by, refl, sym, ap, ◌∙◌, arith, add_assoc, add_comm}
 use Rattle.std.proofs.lemmas.Bool.Decides.{nat_tests}
-use Rattle.std.proofs.lemmas.List.Sums.{sum_by_more}
+use Rattle.std.proofs.lemmas.List.Sums.{sum_by_more, sum_by-cons}
+use native.Mathlib.Nat.{zero-mul, suc-mul}
 use Rattle.dk_types.specs.Faults.{COUNT_END}
 use Rattle.dk_model.specs.Effects.{list_length}
 use Rattle.dk_overlay.specs.Counting.{Counts}
@@ -30,3 +31,11 @@ counts_turn size xs i x a add sum lt is e k =
 -- a count tells whether a number is above a limit
 pub counts_above : (count n limit : ℕ) → limit < COUNT_END → Counts count n → nat_lt limit count ≡ nat_lt limit n
 counts_above count n limit low k = rw k (let e : nat_lt limit (min n COUNT_END) ≡ nat_lt limit n = grind (arith, nat_tests, low) in e)
+
+equal_sizes : {X : Type 0} (n : ℕ) (xs : List X) → sum_by (λ x. n) xs ≡ length xs * n
+equal_sizes n [] = sym (zero-mul n)
+equal_sizes n (x ∷ xs) = sum_by-cons (λ _. n) x xs ∙ ap (λ m. n + m) (equal_sizes n xs) ∙ add_comm n (length xs * n) ∙ sym (suc-mul (length xs) n)
+
+-- items that take as many bytes each are counted by how many there are
+pub counts_equal : {X : Type 0} (n count len : ℕ) (xs : List X) → len ≡ length xs → Counts count (4 + len * n) → Counts count (list_length (λ x. n) xs)
+counts_equal n count len xs e k = k ∙ ap (λ m. min (4 + m) COUNT_END) (ap (λ l. l * n) e ∙ sym (equal_sizes n xs))

@@ -1,5 +1,5 @@
 -- What a run tells at its end.
-use Rattle.std.proofs.Common.{◌≡◌, ℕ, Bool, true, false, nat_lt, if◌then◌else◌, Option, Some, None, is_some, List, Ok, refl, sym, ap, subst, ◌∙◌}
+use Rattle.std.proofs.Common.{◌≡◌, ℕ, Bool, true, false, nat_lt, if◌then◌else◌, Option, Some, None, is_some, List, Result, Ok, Err, IfOk, refl, sym, ap, subst, ◌∙◌}
 use Rattle.std.specs.FinMap as map
 use Rattle.dk_types.specs.declared.number.TaskKey.{TaskKey}
 use Rattle.dk_types.specs.declared.item.Item.TheVariants as ask
@@ -109,3 +109,8 @@ kept_default t (job.Message conn name body) isnt = kept_nothing t (job.Message c
 kept_default t (job.Channel conn name channel body) isnt = kept_nothing t (job.Channel conn name channel body) (λ d. refl)
 kept_default t (job.Disconnect conn name graceful) isnt = kept_nothing t (job.Disconnect conn name graceful) (λ d. refl)
 kept_default t (job.Task key due period kind arg) isnt = absurd (isnt key due period kind arg refl)
+
+-- what an answer tells, in other words
+pub if_ok : {E : Type 0} {P Q : Finished → Type 0} (r : Result Finished E) → IfOk r P → ((f : Finished) → P f → Q f) → IfOk r Q
+if_ok (Ok f) p k = k f p
+if_ok (Err e) p k = tt

@@ -1,5 +1,5 @@
 //! The end of a run.
-ghost use Rattle.std.specs.Prelude.{◌≡◌, ◌+◌, ◌*◌, ◌<◌, ◌≤◌, OnOk, OnErr, IfOk, is_some};
+ghost use Rattle.std.specs.Prelude.{◌≡◌, ◌+◌, ◌*◌, ◌<◌, ◌≤◌, Ok, OnOk, OnErr, IfOk, is_some};
 ghost use Rattle.std.specs.FinMap as map;
 ghost use Rattle.dk_types.specs.declared.item.Item.TheVariants as ask;
 ghost use Rattle.dk_types.specs.declared.limits.TheConstants.{MOMENT_MOST_MS};
@@ -12,7 +12,7 @@ ghost use Rattle.dk_overlay.specs.Logged.{passing_own};
 
 use crate::answers::says_pending;
 use crate::finished::Finished;
-use crate::log::Log;
+use crate::log::{Log, Parts};
 use crate::sizes::is_too_large;
 use dk_types::{AppFault, ConnNo, Item, Job, NoMemory, Out, Outcome, TaskKey};
 use std::alloc::Global;
@@ -94,12 +94,34 @@ impl Log {
         let kept = self.kept(job)?;
         let effects = kept.effects()?;
         let outs = failed_outs(self.allocator(), job)?;
+        let Parts { reads, touched: _, outs: _ } = self.into_parts();
+        let Parts { reads: _, touched, outs: _ } = kept.into_parts();
         Ok(Finished {
-            reads: self.reads.into_list(),
+            reads,
             effects,
             outs,
             outcome: Outcome::Fail(fault),
-            touched: kept.touched,
+            touched,
+        })
+    }
+
+    /// What the run tells where it came to its end.
+    fn come_to_end(self, job: &Job) -> Result<Finished, NoMemory>
+        ensures reads { IfOk result (λ f. f.reads.items ≡ self.reads) }
+        ensures once { IfOk result (λ f. IsOnce f.reads.items) }
+        ensures told { IfOk result (TellsEnd self job.now (Ok tt)) }
+    {
+        let effects = self.effects()?;
+        if is_too_large(&effects) {
+            return self.fail(job, AppFault::TooLarge);
+        }
+        let Parts { reads, touched, outs } = self.into_parts();
+        Ok(Finished {
+            reads,
+            effects,
+            outs,
+            outcome: Outcome::Ok,
+            touched,
         })
     }
 
@@ -110,19 +132,9 @@ impl Log {
         ensures once { IfOk result (λ f. IsOnce f.reads.items) }
         ensures told { IfOk result (TellsEnd self job.now end) }
     {
-        if let Err(fault) = end {
-            return self.fail(job, fault);
+        match end {
+            Ok(()) => self.come_to_end(job),
+            Err(fault) => self.fail(job, fault),
         }
-        let effects = self.effects()?;
-        if is_too_large(&effects) {
-            return self.fail(job, AppFault::TooLarge);
-        }
-        Ok(Finished {
-            reads: self.reads.into_list(),
-            effects,
-            outs: self.outs,
-            outcome: Outcome::Ok,
-            touched: self.touched,
-        })
     }
 }

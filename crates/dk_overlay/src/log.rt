@@ -4,7 +4,7 @@ ghost use Rattle.std.specs.FinMap as map;
 ghost use Rattle.std.specs.Option.{option_copied};
 ghost use Rattle.dk_types.specs.Names.{bytes_cmp};
 ghost use Rattle.dk_types.specs.declared.limits.TheConstants.{MOMENT_MOST_MS};
-ghost use Rattle.dk_overlay.specs.Asked.{WasRead, WasNotRead, WasAnswered};
+ghost use Rattle.dk_overlay.specs.Asked.{WasRead, WasNotRead, WasAnswered, IsOnce};
 ghost use Rattle.dk_overlay.specs.Binding.{is_bound_after};
 ghost use Rattle.dk_overlay.specs.Changes.{settled};
 ghost use Rattle.dk_overlay.specs.Finishes.{net_changes};
@@ -54,6 +54,14 @@ impl Model for Log {
     ghost view = { λ a. record { reads = a.reads; objects = a.objects; names = a.names; tasks = a.tasks; touched = a.touched.items; outs = a.outs.items; run = a.run; at = a.at; objects_made = a.objects_made; tasks_made = a.tasks_made; mode = a.mode } };
 
     ghost invariant = { λ a. a.at ≤ MOMENT_MOST_MS };
+}
+
+/// What a log hands over at the end: the reads, the items written and the messages.
+#[derive(Drop)]
+pub(crate) struct Parts {
+    pub(crate) reads: Vec<(Item, Read)>,
+    pub(crate) touched: Vec<Item>,
+    pub(crate) outs: Vec<(ConnNo, Out)>,
 }
 
 impl Log {
@@ -293,5 +301,33 @@ impl Log {
             dropped: Listed::from_vec(self.tasks.dropped(alloc)?),
             requeued: Listed::from_vec(self.tasks.requeued(alloc)?),
         })
+    }
+
+    /// Hands over what does not depend on how the run ended.
+    pub(crate) fn into_parts(self) -> Parts
+        ensures reads { result.reads.items ≡ self.reads }
+        ensures once { IsOnce self.reads }
+        ensures touched { result.touched.items ≡ self.touched }
+        ensures outs { result.outs.items ≡ self.outs }
+    {
+        let Log {
+            reads,
+            objects: _,
+            names: _,
+            tasks: _,
+            touched,
+            outs,
+            run: _,
+            at: _,
+            objects_made: _,
+            tasks_made: _,
+            mode: _,
+            alloc: _,
+        } = self;
+        Parts {
+            reads: reads.into_list(),
+            touched,
+            outs,
+        }
     }
 }

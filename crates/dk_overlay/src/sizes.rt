@@ -74,9 +74,9 @@ fn equal_bytes(count: usize, each: u64) -> u64
     (count as u64).saturating_mul(each).saturating_add(COUNT_BYTES)
 }
 
-/// Whether effects are written in more bytes than one run may have.
-pub fn is_too_large(effects: &Effects) -> bool
-    ensures { result ≡ nat_lt EFFECTS_MOST_BYTES (effects_length effects.now) }
+/// How many bytes the seven lists are written in.
+fn total_bytes(effects: &Effects) -> u64
+    ensures { Counts result (effects_length effects.now) }
 {
     let written = objects_bytes(effects.written.as_slice());
     let removed = equal_bytes(effects.removed.as_slice().len(), ID_BYTES);
@@ -86,7 +86,18 @@ pub fn is_too_large(effects: &Effects) -> bool
     let dropped = equal_bytes(effects.dropped.as_slice().len(), ID_BYTES);
     let requeued = equal_bytes(effects.requeued.as_slice().len(), MOVED_BYTES);
     let objects = written.saturating_add(removed);
-    let names = bound.saturating_add(unbound);
-    let tasks = added.saturating_add(dropped).saturating_add(requeued);
-    objects.saturating_add(names).saturating_add(tasks) > EFFECTS_MOST_BYTES
+    let with_bound = objects.saturating_add(bound);
+    let with_names = with_bound.saturating_add(unbound);
+    let with_added = with_names.saturating_add(added);
+    let with_dropped = with_added.saturating_add(dropped);
+    let total = with_dropped.saturating_add(requeued);
+    total
+}
+
+/// Whether effects are written in more bytes than one run may have.
+pub fn is_too_large(effects: &Effects) -> bool
+    ensures { result ≡ nat_lt EFFECTS_MOST_BYTES (effects_length effects.now) }
+{
+    let total = total_bytes(effects);
+    total > EFFECTS_MOST_BYTES
 }
