@@ -115,13 +115,13 @@ impl Log {
         if is_too_large(&effects) {
             return self.fail(job, AppFault::TooLarge);
         }
-        let Parts { reads, touched, outs } = self.into_parts();
+        let parts = self.into_parts();
         Ok(Finished {
-            reads,
+            reads: parts.reads,
             effects,
-            outs,
+            outs: parts.outs,
             outcome: Outcome::Ok,
-            touched,
+            touched: parts.touched,
         })
     }
 

@@ -22,7 +22,6 @@ use std::alloc::Global;
 use std::marker::Model;
 
 /// What a run has read and changed so far. Each call that is refused changes nothing.
-#[derive(Drop)]
 pub struct Log {
     pub(crate) reads: Reads,
     pub(crate) objects: ObjectChanges,
@@ -36,6 +35,12 @@ pub struct Log {
     tasks_made: u32,
     mode: Mode,
     alloc: Global,
+}
+
+impl Drop for Log {
+    fn drop(self) {
+        let Log { reads: _, objects: _, names: _, tasks: _, touched: _, outs: _, run: _, at: _, objects_made: _, tasks_made: _, mode: _, alloc: _ } = self;
+    }
 }
 
 impl Model for Log {

@@ -17,11 +17,16 @@ use std::alloc::Global;
 use std::marker::Model;
 
 /// A change at each name that the run has bound or unbound.
-#[derive(Drop)]
 pub struct NameChanges {
     changes: OrderedMap<Name, Change<ObjectId>>,
     /// The names that the run has bound and that are bound still.
     bound: OrderedMap<Name, ()>,
+}
+
+impl Drop for NameChanges {
+    fn drop(self) {
+        let NameChanges { changes: _, bound: _ } = self;
+    }
 }
 
 impl Model for NameChanges {

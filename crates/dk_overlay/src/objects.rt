@@ -13,9 +13,14 @@ use std::alloc::Global;
 use std::marker::Model;
 
 /// A change at each object that the run has touched.
-#[derive(Drop)]
 pub struct ObjectChanges {
     changes: OrderedMap<ObjectId, Change<Object>>,
+}
+
+impl Drop for ObjectChanges {
+    fn drop(self) {
+        let ObjectChanges { changes: _ } = self;
+    }
 }
 
 impl Model for ObjectChanges {

@@ -9,7 +9,6 @@ use std::alloc::Global;
 use std::marker::Model;
 
 /// Reads in the order in which they were made, and the place of each item among them.
-#[derive(Drop)]
 pub struct Reads {
     list: Vec<(Item, Read)>,
     objects: OrderedMap<ObjectId, usize>,
@@ -17,6 +16,12 @@ pub struct Reads {
     first: Option<usize>,
     nexts: OrderedMap<Name, usize>,
     tasks: OrderedMap<TaskKey, usize>,
+}
+
+impl Drop for Reads {
+    fn drop(self) {
+        let Reads { list: _, objects: _, names: _, first: _, nexts: _, tasks: _ } = self;
+    }
 }
 
 impl Model for Reads {

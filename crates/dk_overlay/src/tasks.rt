@@ -15,9 +15,14 @@ use std::alloc::Global;
 use std::marker::Model;
 
 /// A change at each task that the run has touched.
-#[derive(Drop)]
 pub struct TaskChanges {
     changes: OrderedMap<TaskKey, TaskChange>,
+}
+
+impl Drop for TaskChanges {
+    fn drop(self) {
+        let TaskChanges { changes: _ } = self;
+    }
 }
 
 impl Model for TaskChanges {
