@@ -140,6 +140,10 @@ module _ {S : Type 0} {gave : S → Item → Read → Type 0} where
       does (Some fault) is s t = λ d agrees.
           ap f (same_current a.log b.log d same) ∙ means (current b.log d) ∙ refuses fault is change d agrees ∙ ap (λ r. (r, current b.log d)) (Some_injective _ _ t)
 
+  pub save_long : {a : Txn S Logged} {e : Refusal} (id : ObjectId) (bytes : List ℕ) → refusal_fault e ≡ Some (Refused 4) → act.is_too_long bytes ≡ true → Does gave refusal_fault a a (act.save id bytes) (Err e)
+  unfolding act.save
+  save_long id bytes is h = refused_here (Refused 4) is (λ d. rw h refl)
+
   module _ {a : Txn S Logged} (kind : ℕ) (bytes : List ℕ) where
     pub create_reserved : act.is_reserved_kind a.log.mode kind ≡ true → Does gave refusal_fault a a (act.create kind bytes) (Err refusal.Reserved)
     unfolding act.create
@@ -164,3 +168,8 @@ module _ {S : Type 0} {gave : S → Item → Read → Type 0} where
         done_at t _ (keeps_changed keeps_all t refl refl refl (λ s. sound_object made (new_id (a.log)) change (sound_as (a.log) made refl refl refl refl refl s) (λ d agrees new. sym (new.objects (new_id (a.log)) refl))) (λ key due p m. m)) refl refl e
         (λ d agrees. rw (free, short, le_false 65536 a.log.objects_made few)
         (ap (λ s. (Ok (new_id (a.log)), s)) (current_changed made (new_id (a.log)) change d) ∙ ap (λ i. (Ok i, current t d)) (sym is)))
+
+-- saving is a change of the object, where the bytes are not too long
+pub save_means : (id : ObjectId) (bytes : List ℕ) → act.is_too_long bytes ≡ false → (s : Run) → act.save id bytes s ≡ change_object id (λ object. Some (record { kind = object.kind; bytes = bytes })) s
+unfolding act.save
+save_means id bytes short s = rw short refl

@@ -1,6 +1,6 @@
 //! A view that answers from a list.
 ghost use Rattle.std.specs.Prelude.{◌≡◌, ◌∷◌, [], IfOk, IfSome};
-ghost use Rattle.dk_txn.specs.Listing.{listed, read_in, absent};
+ghost use Rattle.dk_txn.specs.Listing.{read_in, absent};
 
 use crate::view::View;
 use dk_overlay::{copy_answer, copy_name};
