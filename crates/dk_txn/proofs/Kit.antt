@@ -85,8 +85,13 @@ module _ {P : TaskKey → ℕ → Type 0} {S : Type 0} {gave : S → Item → Re
   halts_last {r = Ok x} p is = absurd is
 
   pub then_last : {a b : Txn S Logged} {E F A : Type 0} {told : E → Option AppFault} {told' : F → Option AppFault} {f : Act A} {x : A}
-      → DoesFor P gave told a b f (Ok x) → DoesFor P gave told' a b f (Ok {E = F} x)
+      → DoesFor P gave told a b f (Ok x) → DoesFor P gave told' a b f (Ok x)
   then_last p = record { keeps = p.keeps; does = p.does }
+
+  -- an error is passed on as it is
+  pub same_error : {a b : Txn S Logged} {E A : Type 0} {told : E → Option AppFault} {f : Act A} {e : E} {r : Result A E} → DoesFor P gave told a b f (Err e) → IsErrAnd r (λ h. h ≡ e) → DoesFor P gave told a b f r
+  same_error {told = told} {r = Err h} p is = record { keeps = p.keeps; does = λ s t d agrees. p.does s (ap (λ x. failure (told x)) (sym is) ∙ t) d agrees }
+  same_error {r = Ok x} p is = absurd is
 
   -- nothing is done
   pub give_does : {a : Txn S Logged} {E A : Type 0} {told : E → Option AppFault} {x : A} → DoesFor P gave told a a (give (Ok x)) (Ok x)

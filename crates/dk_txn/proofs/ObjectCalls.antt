@@ -128,9 +128,9 @@ module _ {S : Type 0} {gave : S → Item → Read → Type 0} where
       (λ d agrees. means (current b.log d) ∙ changed_by b.log id c can change d agrees ∙ ap (λ o. (Ok tt, current (changing_object b.log id (record { before = c.before; after = o })) d)) (sym is))
 
   -- and refused
-  pub change_refused : {a b : Txn S Logged} {id : ObjectId} {e : Refusal} (f : Act (Unit {0})) (change : Object → Option Object)
+  pub change_refused : {a b : Txn S Logged} {e : Refusal} (id : ObjectId) (f : Act (Unit {0})) (change : Object → Option Object)
       → Keeps gave a b → SameChanges a.log b.log → RefusesChange b.log id e → ((s : Run) → f s ≡ change_object id change s) → Does gave refusal_fault a b f (Err e)
-  change_refused {a = a} {b = b} {id = id} {e = e} f change k same refuses means = record {
+  change_refused {a = a} {b = b} {e = e} id f change k same refuses means = record {
     keeps = k;
     does = does (refusal_fault e) refl;
   }
