@@ -37,6 +37,10 @@ use Rattle.dk_txn.proofs.Kit.{keeps_all, keeps_for}
 use Rattle.dk_txn.proofs.Reading.{same_current, keeps_changed}
 use Rattle.dk_txn.proofs.ObjectCalls.{refused_at, refused_here, done_at, le_true, le_false}
 
+-- a task of this moment and delay
+abbrev pub scheduled_at : ℕ → List ℕ → ℕ → ℕ → ℕ → Scheduled
+scheduled_at kind arg delay period at = record { due = at + delay; period = period; kind = kind; arg = arg }
+
 lt_true : (a b : ℕ) → a < b → nat_lt a b ≡ true
 lt_true a b h = grind (arith, nat_tests)
 

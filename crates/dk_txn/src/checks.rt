@@ -1,12 +1,13 @@
 //! What a call looks at before it does anything.
-ghost use Rattle.std.specs.Prelude.{◌≡◌, Some, length};
+ghost use Rattle.std.specs.Prelude.{◌≡◌, ◌≤◌, ◌||◌, ◌==◌, nat_lt, false, Some, length};
+ghost use Rattle.dk_types.specs.declared.limits.TheConstants.{DELAY_MOST_MS, PERIOD_MOST_MS};
 ghost use Rattle.dk_types.specs.declared.fault.AppFault.TheVariants.{Refused};
 ghost use Rattle.dk_model.specs.Runs as act;
 ghost use Rattle.dk_txn.specs.Refusals.{refusal_fault, TellsLength};
 
 use crate::refusal::Refusal;
 use dk_model::Mode;
-use dk_model::limits::BODY_MOST_BYTES;
+use dk_model::limits::{BODY_MOST_BYTES, DELAY_MOST_MS, PERIOD_MOST_MS};
 use dk_types::{Blob, Name, Out};
 
 /// Whether bytes are more than an object, an argument or a body may have.
@@ -64,4 +65,12 @@ pub(crate) fn too_long(body: &Blob) -> Refusal
     Refusal::TooLong {
         len: body.as_slice().len() as u64,
     }
+}
+
+/// Whether a delay or a period, in ms, is out of its limits.
+pub(crate) fn is_bad_period(delay: u64, period: u64) -> bool
+    ensures told { result ≡ (nat_lt DELAY_MOST_MS delay || nat_lt PERIOD_MOST_MS period || period == 0) }
+    ensures near { result ≡ false → delay ≤ DELAY_MOST_MS }
+{
+    delay > DELAY_MOST_MS || period > PERIOD_MOST_MS || period == 0
 }

@@ -8,11 +8,11 @@ ghost use Rattle.dk_model.specs.Steps.{own_task as own_act};
 ghost use Rattle.dk_overlay.specs.Asked.{IsAsked};
 ghost use Rattle.dk_txn.specs.Refusals.{refusal_fault, TellsLength};
 
-use crate::checks::{body_len, is_too_long, too_long};
+use crate::checks::{body_len, is_bad_period, is_too_long, too_long};
 use crate::refusal::Refusal;
 use crate::txn::Txn;
 use crate::view::View;
-use dk_model::limits::{BODY_MOST_BYTES, DELAY_MOST_MS, MESSAGES_MOST_COUNT, PERIOD_MOST_MS, TASKS_MOST_COUNT};
+use dk_model::limits::{BODY_MOST_BYTES, DELAY_MOST_MS, MESSAGES_MOST_COUNT, TASKS_MOST_COUNT};
 use dk_overlay::{Scheduled, says_pending};
 use dk_types::{Blob, ConnNo, Item, NoMemory, Out, TaskKey};
 
@@ -80,7 +80,7 @@ impl<'a, V: View> Txn<'a, V> {
         if is_too_long(&arg) {
             return Err(too_long(&arg));
         }
-        if delay > DELAY_MOST_MS || period > PERIOD_MOST_MS || period == 0 {
+        if is_bad_period(delay, period) {
             return Err(Refusal::BadDelay);
         }
         self.add_task(kind, arg, delay, period)
