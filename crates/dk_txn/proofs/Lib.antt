@@ -5,3 +5,4 @@ pub mod NameCalls
 pub mod NextNames
 pub mod TaskCalls
 pub mod Laws
+pub mod Listing

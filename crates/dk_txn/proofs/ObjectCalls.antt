@@ -2,6 +2,7 @@
 use Rattle.std.proofs.Common.{◌≡◌, ℕ, ◌+◌, ◌<◌, ◌≤◌, nat_le, nat_lt, arith, Bool, true, false, Option, Some, None, is_some, List, [], ◌∷◌, ◌++◌, Result, Ok, Err, refl, sym, ap, subst, ◌∙◌, length}
 use Rattle.std.proofs.lemmas.Bool.Decides.{nat_tests}
 use Rattle.std.specs.Option.{ok_or}
+use Rattle.std.specs.Result.{IsErrAnd, IfErr}
 use Rattle.std.specs.FinMap as map
 use Rattle.dk_types.specs.declared.number.ObjectId.{ObjectId}
 use Rattle.dk_types.specs.declared.number.TaskKey.{TaskKey}
@@ -28,7 +29,7 @@ use Rattle.dk_overlay.proofs.Tests.{Some_injective}
 use Rattle.dk_txn.specs.declared.refusal.Refusal.{Refusal}
 use Rattle.dk_txn.specs.declared.refusal.Refusal.TheVariants as refusal
 use Rattle.dk_txn.specs.declared.txn.Txn.{Txn}
-use Rattle.dk_txn.specs.Refusals.{refusal_fault}
+use Rattle.dk_txn.specs.Refusals.{refusal_fault, TellsLength}
 use Rattle.dk_txn.specs.Does.{KeepsFor, DoesFor, Keeps, Does, SameChanges, KnownObject, CanChange, RefusesChange, failure, outcome_told}
 use Rattle.dk_txn.proofs.Kit.{keeps_all}
 use Rattle.dk_txn.proofs.Reading.{same_current, keeps_changed, told_found}
@@ -173,3 +174,8 @@ module _ {S : Type 0} {gave : S → Item → Read → Type 0} where
 pub save_means : (id : ObjectId) (bytes : List ℕ) → act.is_too_long bytes ≡ false → (s : Run) → act.save id bytes s ≡ change_object id (λ object. Some (record { kind = object.kind; bytes = bytes })) s
 unfolding act.save
 save_means id bytes short s = rw short refl
+
+-- an error that is passed on tells the same length
+pub length_same : {A : Type 0} (bytes : List ℕ) (e : Refusal) (r : Result A Refusal) → IsErrAnd r (λ h. h ≡ e) → TellsLength bytes e → IfErr r (TellsLength bytes)
+length_same bytes e (Err h) is tells = subst (TellsLength bytes) (sym is) tells
+length_same bytes e (Ok x) is tells = absurd is

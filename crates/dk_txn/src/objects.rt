@@ -1,5 +1,5 @@
 //! The calls on objects.
-ghost use Rattle.std.specs.Prelude.{◌≡◌, OnErr, IfOk, IfErr};
+ghost use Rattle.std.specs.Prelude.{◌≡◌, ℕ, List, OnErr, IfOk, IfErr};
 ghost use Rattle.dk_model.specs.Runs as act;
 ghost use Rattle.dk_txn.specs.Refusals.{refusal_fault, TellsLength};
 
@@ -36,6 +36,7 @@ impl<'a, V: View> Txn<'a, V> {
         ensures same_changes { SameChanges self.old.log self.new.log }
         ensures ok { IfOk result (CanChange self.new.log id) }
         ensures err { IfErr result (RefusesChange self.new.log id) }
+        ensures length { (bytes : List ℕ) → IfErr result (TellsLength bytes) }
     {
         let known = self.known_object(id)?;
         let kind = match &known.after {

@@ -3,7 +3,7 @@ use Rattle.dk_types.specs.declared.object.Object.{Object}
 use Rattle.dk_model.specs.Runs as act
 use Rattle.dk_overlay.proofs.Tests.{Some_injective}
 use Rattle.dk_txn.proofs.Kit.{same_error}
-use Rattle.dk_txn.proofs.ObjectCalls.{change_does, change_refused, save_long, save_means}
+use Rattle.dk_txn.proofs.ObjectCalls.{change_does, change_refused, save_long, save_means, length_same}
 use Rattle.dk_txn.proofs.objects.Txn+V.save.Goals as goal
 
 pub returns-then-is_too_long-clause-does : goal.returns-then-is_too_long-clause-does
@@ -21,3 +21,6 @@ returns-clause-does g c =
     c.changeable.ensures.keeps c.changeable.ensures.same_changes can
     (ap (λ (o : Object). Some (record { kind = o.kind; bytes = c.args.bytes })) (Some_injective _ _ (sym c.in-Some.is ∙ can.there.1)))
     c.in_ok-change_object.ensures.ok (save_means c.args.id c.args.bytes (sym c.is_too_long.ensures ∙ c.if-is_too_long.false))
+
+pub returns-in_err-known-clause-length : goal.returns-in_err-known-clause-length
+returns-in_err-known-clause-length g c = length_same c.args.bytes _ _ c.from_residual.ensures.1 (c.in_err-known.ensures.length c.args.bytes)
