@@ -76,7 +76,6 @@ module _ {K X : Type 0} (R : K → K → Ordering) (total : IsTotalOrder R) (exa
 module _ (changes : FinMap key_cmp TaskChange) (m : FinMap key_cmp Task)
     (knows : (k : TaskKey) (c : TaskChange) → get changes k ≡ Some c → is_some (get m k) ≡ stood c)
     (moves : (k : TaskKey) (from to : ℕ) → get changes k ≡ Some (Moved from to) → (task : Task) → get m k ≡ Some task → task.due ≡ from) where
-
   unmoved : (x : Task) → is_moved (Some x) (Some x) ≡ false
   unmoved x = ap not (numbers_itself x.due)
 

@@ -106,8 +106,16 @@ logged_code item read out =
     (coded× (coded× run_code coded_ℕ) (coded× (coded× coded_ℕ coded_ℕ) mode_code))))
     (λ t. ((t.reads, (t.touched, t.outs)), ((t.objects, (t.names, t.tasks)), ((t.run, t.at), ((t.objects_made, t.tasks_made), t.mode)))))
     (λ p. record {
-      reads = p.0.0; touched = p.0.1.0; outs = p.0.1.1;
-      objects = p.1.0.0; names = p.1.0.1.0; tasks = p.1.0.1.1;
-      run = p.1.1.0.0; at = p.1.1.0.1; objects_made = p.1.1.1.0.0; tasks_made = p.1.1.1.0.1; mode = p.1.1.1.1;
+      reads = p.0.0;
+      touched = p.0.1.0;
+      outs = p.0.1.1;
+      objects = p.1.0.0;
+      names = p.1.0.1.0;
+      tasks = p.1.0.1.1;
+      run = p.1.1.0.0;
+      at = p.1.1.0.1;
+      objects_made = p.1.1.1.0.0;
+      tasks_made = p.1.1.1.0.1;
+      mode = p.1.1.1.1;
     })
     (λ _. refl)

@@ -41,8 +41,17 @@ pub record Logged : Type 0 where
 -- the log of a run at its start
 abbrev pub nothing_done : RunNo → ℕ → Logged
 nothing_done run at = record {
-  reads = []; objects = map.empty; names = map.empty; tasks = map.empty; touched = []; outs = [];
-  run = run; at = at; objects_made = 0; tasks_made = 0; mode = Platform;
+  reads = [];
+  objects = map.empty;
+  names = map.empty;
+  tasks = map.empty;
+  touched = [];
+  outs = [];
+  run = run;
+  at = at;
+  objects_made = 0;
+  tasks_made = 0;
+  mode = Platform;
 }
 
 -- the run in its midst that the log comes to, where the world before it is d

@@ -87,7 +87,11 @@ impl TaskChange {
     }
 
     /// The change after the task got another due moment; `from` is the one before the run.
-    pub(crate) fn moved(before: Option<&TaskChange>, from: u64, to: u64) -> Result<TaskChange, NoMemory>
+    pub(crate) fn moved(
+        before: Option<&TaskChange>,
+        from: u64,
+        to: u64,
+    ) -> Result<TaskChange, NoMemory>
         ensures { IfOk result (λ change. change ≡ moving (option_copied before.entry) from to) }
     {
         match before {
@@ -100,7 +104,10 @@ impl TaskChange {
             })),
             Some(TaskChange::Withdrawn) => Ok(TaskChange::Withdrawn),
             Some(TaskChange::Dropped) => Ok(TaskChange::Dropped),
-            Some(TaskChange::Moved { from: first, to: _ }) => Ok(TaskChange::Moved { from: *first, to }),
+            Some(TaskChange::Moved { from: first, to: _ }) => Ok(TaskChange::Moved {
+                from: *first,
+                to,
+            }),
         }
     }
 }

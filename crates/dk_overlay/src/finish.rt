@@ -94,8 +94,16 @@ impl Log {
         let kept = self.kept(job)?;
         let effects = kept.effects()?;
         let outs = failed_outs(self.allocator(), job)?;
-        let Parts { reads, touched: _, outs: _ } = self.into_parts();
-        let Parts { reads: _, touched, outs: _ } = kept.into_parts();
+        let Parts {
+            reads,
+            touched: _,
+            outs: _,
+        } = self.into_parts();
+        let Parts {
+            reads: _,
+            touched,
+            outs: _,
+        } = kept.into_parts();
         Ok(Finished {
             reads,
             effects,

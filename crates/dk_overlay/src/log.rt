@@ -17,7 +17,10 @@ use crate::objects::ObjectChanges;
 use crate::reads::Reads;
 use crate::tasks::TaskChanges;
 use dk_model::Mode;
-use dk_types::{Answer, ConnNo, Effects, Item, Listed, Name, NoMemory, Object, ObjectId, Out, Read, RunNo, TaskKey};
+use dk_types::{
+    Answer, ConnNo, Effects, Item, Listed, Name, NoMemory, Object, ObjectId, Out, Read, RunNo,
+    TaskKey,
+};
 use std::alloc::Global;
 use std::marker::Model;
 
@@ -39,7 +42,20 @@ pub struct Log {
 
 impl Drop for Log {
     fn drop(self) {
-        let Log { reads: _, objects: _, names: _, tasks: _, touched: _, outs: _, run: _, at: _, objects_made: _, tasks_made: _, mode: _, alloc: _ } = self;
+        let Log {
+            reads: _,
+            objects: _,
+            names: _,
+            tasks: _,
+            touched: _,
+            outs: _,
+            run: _,
+            at: _,
+            objects_made: _,
+            tasks_made: _,
+            mode: _,
+            alloc: _,
+        } = self;
     }
 }
 

@@ -25,7 +25,10 @@ pub struct NameChanges {
 
 impl Drop for NameChanges {
     fn drop(self) {
-        let NameChanges { changes: _, bound: _ } = self;
+        let NameChanges {
+            changes: _,
+            bound: _,
+        } = self;
     }
 }
 

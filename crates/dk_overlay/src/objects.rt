@@ -53,7 +53,10 @@ fn is_same_object(before: &Option<Object>, now: &Option<Object>) -> bool
 }
 
 /// The object that a change leaves, copied, where it is another one than before.
-fn newly_written(id: ObjectId, change: &Change<Object>) -> Result<Option<(ObjectId, Object)>, NoMemory>
+fn newly_written(
+    id: ObjectId,
+    change: &Change<Object>,
+) -> Result<Option<(ObjectId, Object)>, NoMemory>
     ensures { IfOk result (λ r. r ≡ option_map (λ object. (id, object)) (newly_set same_object change.now)) }
 {
     if is_same_object(&change.before, &change.after) {

@@ -2,8 +2,8 @@
 ghost use Rattle.std.specs.Prelude.{◌≡◌, ◌++◌, ◌∷◌, [], OnOk, OnErr, IfOk, IfSome, IfNone};
 ghost use Rattle.dk_overlay.specs.Asked.{WasRead, WasNotRead, WasAnswered, IsOnce, place_of};
 
-use dk_map::OrderedMap;
 use crate::answers::copy_answer;
+use dk_map::OrderedMap;
 use dk_types::{Answer, Item, Name, NoMemory, ObjectId, Read, TaskKey};
 use std::alloc::Global;
 use std::marker::Model;
@@ -20,7 +20,14 @@ pub struct Reads {
 
 impl Drop for Reads {
     fn drop(self) {
-        let Reads { list: _, objects: _, names: _, first: _, nexts: _, tasks: _ } = self;
+        let Reads {
+            list: _,
+            objects: _,
+            names: _,
+            first: _,
+            nexts: _,
+            tasks: _,
+        } = self;
     }
 }
 

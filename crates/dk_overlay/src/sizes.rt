@@ -71,7 +71,9 @@ fn equal_bytes(count: usize, each: u64) -> u64
     requires { each < 2 ^ 8 }
     ensures { Counts result (4 + count * each) }
 {
-    (count as u64).saturating_mul(each).saturating_add(COUNT_BYTES)
+    (count as u64)
+        .saturating_mul(each)
+        .saturating_add(COUNT_BYTES)
 }
 
 /// How many bytes the seven lists are written in.

@@ -73,13 +73,7 @@ fn moved_task(key: TaskKey, change: &TaskChange) -> Option<(TaskKey, u64)>
     ensures { result ≡ option_map (λ due. (key, due)) (task_moved change.now) }
 {
     match change {
-        TaskChange::Moved { from, to } => {
-            if *from == *to {
-                None
-            } else {
-                Some((key, *to))
-            }
-        }
+        TaskChange::Moved { from, to } => { if *from == *to { None } else { Some((key, *to)) } }
         TaskChange::Added(_) | TaskChange::Withdrawn | TaskChange::Dropped => None,
     }
 }

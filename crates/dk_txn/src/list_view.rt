@@ -54,7 +54,6 @@ fn copy_seen(seen: &Seen) -> Result<Seen, NoMemory>
     }
 }
 
-
 fn is_same_after(a: &Option<Name>, b: &Option<Name>) -> bool
     ensures { result ≡ same_after a.now b.now }
 {

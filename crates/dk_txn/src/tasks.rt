@@ -36,7 +36,13 @@ impl<'a, V: View> Txn<'a, V> {
     }
 
     /// A task after its delay and its period were looked at. Refuses 8.
-    fn add_task(&mut self, kind: u16, arg: Blob, delay: u64, period: u64) -> Result<TaskKey, Refusal>
+    fn add_task(
+        &mut self,
+        kind: u16,
+        arg: Blob,
+        delay: u64,
+        period: u64,
+    ) -> Result<TaskKey, Refusal>
         requires { delay ≤ DELAY_MOST_MS }
         ensures does { Does V.gave refusal_fault self.old self.new (act.scheduled kind arg delay period) result }
         ensures refused { OnErr result (SameChanges self.old.log self.new.log) }
@@ -72,7 +78,13 @@ impl<'a, V: View> Txn<'a, V> {
 
     /// A task that is first due at the run's moment and the delay, and then each period, in ms
     /// (`TaskManager.schedulePeriodicTask`). Refuses 4, 5, 8.
-    pub fn schedule_periodic(&mut self, kind: u16, arg: Blob, delay: u64, period: u64) -> Result<TaskKey, Refusal>
+    pub fn schedule_periodic(
+        &mut self,
+        kind: u16,
+        arg: Blob,
+        delay: u64,
+        period: u64,
+    ) -> Result<TaskKey, Refusal>
         ensures does { Does V.gave refusal_fault self.old self.new (act.schedule_periodic kind arg delay period) result }
         ensures refused { OnErr result (SameChanges self.old.log self.new.log) }
         ensures length { IfErr result (TellsLength arg) }

@@ -30,17 +30,32 @@ fn calls_refuse_in_their_order(rt: HostRuntime) -> Result<(), Fail> {
     let alloc = rt.alloc();
     let mut view = ListView::new(Vec::new(alloc));
     let mut txn = Txn::begin(alloc, &mut view, RUN, 100);
-    let none = ObjectId { run: RunNo(1), k: 0 };
-    let task = TaskKey { run: RunNo(1), k: 0 };
+    let none = ObjectId {
+        run: RunNo(1),
+        k: 0,
+    };
+    let task = TaskKey {
+        run: RunNo(1),
+        k: 0,
+    };
     let late = 1_099_511_627_777;
     let long = Refusal::TooLong { len: 65_536 };
     let record = txn.create(0xFF00, body(alloc, 1)?)?;
     assert!(rt; txn.set_mode(Mode::Game) == Mode::Platform);
-    assert_eq!(rt; txn.create(0xFF00, body(alloc, 65_536)?), Err(Refusal::Reserved));
+    assert_eq!(rt;
+        txn.create(0xFF00, body(alloc, 65_536)?),
+        Err(Refusal::Reserved)
+    );
     assert_eq!(rt; txn.create(0xFEFF, body(alloc, 65_536)?), Err(long));
-    assert_eq!(rt; txn.create(0xFEFF, body(alloc, 65_535)?), Ok(ObjectId { run: RUN, k: 1 }));
+    assert_eq!(rt;
+        txn.create(0xFEFF, body(alloc, 65_535)?),
+        Ok(ObjectId { run: RUN, k: 1 })
+    );
     assert_eq!(rt; txn.save(none, body(alloc, 65_536)?), Err(long));
-    assert_eq!(rt; txn.save(none, body(alloc, 1)?), Err(Refusal::ObjectNotFound));
+    assert_eq!(rt;
+        txn.save(none, body(alloc, 1)?),
+        Err(Refusal::ObjectNotFound)
+    );
     assert_eq!(rt; txn.save(record, body(alloc, 1)?), Err(Refusal::Reserved));
     assert_eq!(rt; txn.get(none).err(), Some(Refusal::ObjectNotFound));
     assert_eq!(rt; txn.mark(none), Err(Refusal::ObjectNotFound));
@@ -52,8 +67,14 @@ fn calls_refuse_in_their_order(rt: HostRuntime) -> Result<(), Fail> {
     assert_eq!(rt; txn.unbind(&name(alloc, "x")?), Err(Refusal::NameNotBound));
     assert_eq!(rt; txn.bound(&name(alloc, "$x")?), Err(Refusal::NameNotBound));
     assert_eq!(rt; txn.schedule(1, body(alloc, 65_536)?, late), Err(long));
-    assert_eq!(rt; txn.schedule(1, body(alloc, 1)?, late), Err(Refusal::BadDelay));
-    assert_eq!(rt; txn.schedule_periodic(1, body(alloc, 65_536)?, 0, 0), Err(long));
+    assert_eq!(rt;
+        txn.schedule(1, body(alloc, 1)?, late),
+        Err(Refusal::BadDelay)
+    );
+    assert_eq!(rt;
+        txn.schedule_periodic(1, body(alloc, 65_536)?, 0, 0),
+        Err(long)
+    );
     for (delay, period) in [(0, 0), (late, 1), (0, late)] {
         let made = txn.schedule_periodic(1, body(alloc, 1)?, delay, period);
         assert_eq!(rt; made, Err(Refusal::BadDelay));
@@ -71,8 +92,14 @@ fn one_run_makes_no_more_than_it_may(rt: HostRuntime) -> Result<(), Fail> {
     let mut txn = Txn::begin(alloc, &mut view, RUN, 100);
     txn.set_mode(Mode::Game);
     for k in 0..65_536 {
-        assert_eq!(rt; txn.create(1, body(alloc, 0)?), Ok(ObjectId { run: RUN, k }));
-        assert_eq!(rt; txn.schedule(1, body(alloc, 0)?, 5), Ok(TaskKey { run: RUN, k }));
+        assert_eq!(rt;
+            txn.create(1, body(alloc, 0)?),
+            Ok(ObjectId { run: RUN, k })
+        );
+        assert_eq!(rt;
+            txn.schedule(1, body(alloc, 0)?, 5),
+            Ok(TaskKey { run: RUN, k })
+        );
         assert_eq!(rt; txn.send(ConnNo(1), Out::Close), Ok(()));
     }
     assert_eq!(rt; txn.create(0xFF00, body(alloc, 0)?), Err(Refusal::Reserved));
@@ -80,7 +107,10 @@ fn one_run_makes_no_more_than_it_may(rt: HostRuntime) -> Result<(), Fail> {
     assert_eq!(rt; txn.create(1, body(alloc, 65_536)?), Err(long));
     assert_eq!(rt; txn.create(1, body(alloc, 0)?), Err(Refusal::TooMany));
     assert_eq!(rt; txn.schedule(1, body(alloc, 0)?, 5), Err(Refusal::TooMany));
-    assert_eq!(rt; txn.schedule_periodic(1, body(alloc, 0)?, 5, 5), Err(Refusal::TooMany));
+    assert_eq!(rt;
+        txn.schedule_periodic(1, body(alloc, 0)?, 5, 5),
+        Err(Refusal::TooMany)
+    );
     assert_eq!(rt; txn.send(ConnNo(1), Out::Close), Err(Refusal::TooMany));
     Ok(())
 }
@@ -118,11 +148,17 @@ fn a_run_sees_its_own_changes(rt: HostRuntime) -> Result<(), Fail> {
 #[test]
 fn the_next_name_is_of_the_view_and_of_the_run(rt: HostRuntime) -> Result<(), Fail> {
     let alloc = rt.alloc();
-    let id = ObjectId { run: RunNo(1), k: 0 };
+    let id = ObjectId {
+        run: RunNo(1),
+        k: 0,
+    };
     let (b, c, d) = (name(alloc, "b")?, name(alloc, "c")?, name(alloc, "d")?);
     let reads = vec![in alloc;
         (Item::NextAfter(None), said(Answer::Next(Some(b.clone()?)))),
-        (Item::NextAfter(Some(b.clone()?)), said(Answer::Next(Some(d.clone()?)))),
+        (
+            Item::NextAfter(Some(b.clone()?)),
+            said(Answer::Next(Some(d.clone()?)))
+        ),
         (Item::Bound(b.clone()?), said(Answer::Named(id))),
     ]?;
     let mut view = ListView::new(reads);
@@ -144,11 +180,29 @@ fn the_next_name_is_of_the_view_and_of_the_run(rt: HostRuntime) -> Result<(), Fa
 #[test]
 fn effects_are_net(rt: HostRuntime) -> Result<(), Fail> {
     let alloc = rt.alloc();
-    let kept = ObjectId { run: RunNo(1), k: 0 };
-    let gone = ObjectId { run: RunNo(1), k: 1 };
+    let kept = ObjectId {
+        run: RunNo(1),
+        k: 0,
+    };
+    let gone = ObjectId {
+        run: RunNo(1),
+        k: 1,
+    };
     let reads = vec![in alloc;
-        (Item::Object(kept), said(Answer::Object(Object { kind: 5, bytes: body(alloc, 2)? }))),
-        (Item::Object(gone), said(Answer::Object(Object { kind: 5, bytes: body(alloc, 2)? }))),
+        (
+            Item::Object(kept),
+            said(Answer::Object(Object {
+                kind: 5,
+                bytes: body(alloc, 2)?
+            }))
+        ),
+        (
+            Item::Object(gone),
+            said(Answer::Object(Object {
+                kind: 5,
+                bytes: body(alloc, 2)?
+            }))
+        ),
     ]?;
     let mut view = ListView::new(reads);
     let mut txn = Txn::begin(alloc, &mut view, RUN, 100);
@@ -170,7 +224,10 @@ fn effects_are_net(rt: HostRuntime) -> Result<(), Fail> {
 #[test]
 fn a_failed_run_keeps_what_it_did_to_its_own_task(rt: HostRuntime) -> Result<(), Fail> {
     let alloc = rt.alloc();
-    let key = TaskKey { run: RunNo(1), k: 0 };
+    let key = TaskKey {
+        run: RunNo(1),
+        k: 0,
+    };
     for (period, dropped, moved) in [(0, 1, 0), (25, 0, 1)] {
         let reads = vec![in alloc; (Item::Task(key), said(Answer::Task))]?;
         let mut view = ListView::new(reads);
@@ -178,7 +235,13 @@ fn a_failed_run_keeps_what_it_did_to_its_own_task(rt: HostRuntime) -> Result<(),
         assert_eq!(rt; txn.own_task(key, 40, period), Ok(true));
         txn.create(1, body(alloc, 1)?)?;
         txn.send(ConnNo(1), Out::Close)?;
-        let job = Job::Task { key, due: 40, period, kind: 1, arg: body(alloc, 0)? };
+        let job = Job::Task {
+            key,
+            due: 40,
+            period,
+            kind: 1,
+            arg: body(alloc, 0)?,
+        };
         let finished = txn.finish(&job, Err(AppFault::Game(3)))?;
         let effects = finished.effects();
         assert_eq!(rt; *finished.outcome(), Outcome::Fail(AppFault::Game(3)));

@@ -13,7 +13,7 @@ invariant_of-self-2 c =
       c.insert.ensures.ordered,
       c.note_bound.ensures.ordered,
       has_noted c.args.name.now _ _ _ c.args.change _ _ _ _ _ _ c.self.invariant.0 c.self.invariant.2 mark key c.is_some.ensures c.reserve-2.ensures.entries c.note_bound.ensures.found
-      c.insert.ensures.entries c.reserve.ensures.entries,
+          c.insert.ensures.entries c.reserve.ensures.entries,
     )
 
 pub returns-clause-ok : goal.returns-clause-ok
