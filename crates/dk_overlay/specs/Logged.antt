@@ -1,0 +1,122 @@
+-- What a run has read and changed, as contracts see it, and what it comes to in a world.
+use Rattle.std.specs.Prelude.{ℕ, ◌+◌, ◌==◌, if◌then◌else◌, Option, Some, None, List, ◌++◌, ◌∷◌, []}
+use Rattle.std.specs.FinMap as map
+use Rattle.dk_types.specs.declared.number.RunNo.{RunNo}
+use Rattle.dk_types.specs.declared.number.ConnNo.{ConnNo}
+use Rattle.dk_types.specs.declared.number.ObjectId.{ObjectId}
+use Rattle.dk_types.specs.declared.number.TaskKey.{TaskKey}
+use Rattle.dk_types.specs.declared.object.Object.{Object}
+use Rattle.dk_types.specs.declared.item.Item.{Item}
+use Rattle.dk_types.specs.declared.item.Item.TheVariants as ask
+use Rattle.dk_types.specs.declared.item.Read.{Read}
+use Rattle.dk_types.specs.declared.job.Out.{Out}
+use Rattle.dk_types.specs.Names.{bytes_cmp}
+use Rattle.dk_model.specs.declared.mode.Mode.{Mode}
+use Rattle.dk_model.specs.declared.mode.Mode.TheVariants.{Platform}
+use Rattle.dk_model.specs.Keys.{id_cmp, key_cmp}
+use Rattle.dk_model.specs.DurableWorlds.{DurableWorld, last_with}
+use Rattle.dk_model.specs.Runs.{Run}
+use Rattle.dk_model.specs.Steps.{next_due}
+use Rattle.dk_overlay.specs.declared.change.Change.{Change}
+use Rattle.dk_overlay.specs.declared.change.Scheduled.{Scheduled}
+use Rattle.dk_overlay.specs.declared.change.TaskChange.{TaskChange}
+use Rattle.dk_overlay.specs.declared.change.TaskChange.TheVariants.{Added}
+use Rattle.dk_overlay.specs.Changes.{value_now, task_now, removing, moving}
+use Rattle.dk_overlay.specs.Layers.{layered}
+
+pub record Logged : Type 0 where
+  -- in the order in which they were first made
+  pub reads : List (Item × Read)
+  pub objects : map.FinMap id_cmp (Change Object)
+  pub names : map.FinMap bytes_cmp (Change ObjectId)
+  pub tasks : map.FinMap key_cmp TaskChange
+  pub touched : List Item
+  pub outs : List (ConnNo × Out)
+  pub run : RunNo
+  pub at : ℕ
+  pub objects_made : ℕ
+  pub tasks_made : ℕ
+  pub mode : Mode
+
+-- the log of a run at its start
+abbrev pub nothing_done : RunNo → ℕ → Logged
+nothing_done run at = record {
+  reads = [];
+  objects = map.empty;
+  names = map.empty;
+  tasks = map.empty;
+  touched = [];
+  outs = [];
+  run = run;
+  at = at;
+  objects_made = 0;
+  tasks_made = 0;
+  mode = Platform;
+}
+
+-- the run in its midst that the log comes to, where the world before it is d
+abbrev pub current : Logged → DurableWorld → Run
+current t d = record {
+  world = record {
+    objects = layered value_now t.objects d.objects;
+    names = layered value_now t.names d.names;
+    tasks = layered task_now t.tasks d.tasks;
+    commits = d.commits + 1;
+    last = last_with d.last t.run;
+  };
+  touched = t.touched;
+  outs = t.outs;
+  number = t.run;
+  at = t.at;
+  objects_made = t.objects_made;
+  tasks_made = t.tasks_made;
+  mode = t.mode;
+}
+
+-- one more read
+abbrev pub reading : Logged → Item → Read → Logged
+reading t item read = record t { reads = t.reads ++ (item, read) ∷ [] }
+
+-- one more change of an object, which is listed as written
+abbrev pub changing_object : Logged → ObjectId → Change Object → Logged
+changing_object t id change = record t { objects = map.insert t.objects id change; touched = t.touched ++ ask.Object id ∷ [] }
+
+-- the id of the next object that the run makes
+abbrev pub new_id : Logged → ObjectId
+new_id t = record { run = t.run; k = t.objects_made }
+
+-- one more object
+abbrev pub creating : Logged → Object → Logged
+creating t object = changing_object (record t { objects_made = t.objects_made + 1 }) (new_id t) (record { before = None; after = Some object })
+
+-- one more change of a name, which is listed as written
+abbrev pub changing_name : Logged → List ℕ → Change ObjectId → Logged
+changing_name t name change = record t { names = map.insert t.names name change; touched = t.touched ++ ask.Bound name ∷ [] }
+
+-- one more change of a task, which is listed as written
+abbrev pub changing_task : Logged → TaskKey → TaskChange → Logged
+changing_task t key change = record t { tasks = map.insert t.tasks key change; touched = t.touched ++ ask.Task key ∷ [] }
+
+-- the key of the next task that the run schedules
+abbrev pub new_key : Logged → TaskKey
+new_key t = record { run = t.run; k = t.tasks_made }
+
+-- one more task
+abbrev pub scheduling : Logged → Scheduled → Logged
+scheduling t task = changing_task (record t { tasks_made = t.tasks_made + 1 }) (new_key t) (Added task)
+
+-- a task taken away
+abbrev pub removing_task : Logged → TaskKey → Logged
+removing_task t key = changing_task t key (removing (map.get t.tasks key))
+
+-- a task with another due moment, which is not listed as written; `from` is the one before the run
+abbrev pub moving_task : Logged → TaskKey → ℕ → ℕ → Logged
+moving_task t key from to = record t { tasks = map.insert t.tasks key (moving (map.get t.tasks key) from to) }
+
+-- one more message
+abbrev pub sending : Logged → ConnNo → Out → Logged
+sending t to out = record t { outs = t.outs ++ (to, out) ∷ [] }
+
+-- what a run does to its own task, where that is pending: a once-task is taken away, and a periodic one gets its next due moment
+abbrev pub passing_own : Logged → TaskKey → ℕ → ℕ → Logged
+passing_own t key due period = if period == 0 then removing_task t key else moving_task t key due (next_due due period t.at)

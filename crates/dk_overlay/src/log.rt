@@ -1,0 +1,354 @@
+//! The log of a run in its midst.
+ghost use Rattle.std.specs.Prelude.{◌≡◌, ◌+◌, ◌<◌, ◌≤◌, ◌++◌, ◌∷◌, [], length, OnOk, OnErr, IfOk, IfSome, IfNone};
+ghost use Rattle.std.specs.FinMap as map;
+ghost use Rattle.std.specs.Option.{option_copied};
+ghost use Rattle.dk_types.specs.Names.{bytes_cmp};
+ghost use Rattle.dk_types.specs.declared.limits.TheConstants.{MOMENT_MOST_MS};
+ghost use Rattle.dk_overlay.specs.Asked.{WasRead, WasNotRead, WasAnswered, IsOnce};
+ghost use Rattle.dk_overlay.specs.Binding.{is_bound_after};
+ghost use Rattle.dk_overlay.specs.Changes.{settled};
+ghost use Rattle.dk_overlay.specs.Finishes.{net_changes};
+ghost use Rattle.dk_overlay.specs.Least.{Least};
+ghost use Rattle.dk_overlay.specs.Logged.{nothing_done, reading, new_id, creating, changing_object, changing_name, new_key, scheduling, removing_task, moving_task, sending};
+
+use crate::change::{Change, Scheduled};
+use crate::names::NameChanges;
+use crate::objects::ObjectChanges;
+use crate::reads::Reads;
+use crate::tasks::TaskChanges;
+use dk_model::Mode;
+use dk_types::{
+    Answer, ConnNo, Effects, Item, Listed, Name, NoMemory, Object, ObjectId, Out, Read, RunNo,
+    TaskKey,
+};
+use std::alloc::Global;
+use std::marker::Model;
+
+/// What a run has read and changed so far. Each call that is refused changes nothing.
+pub struct Log {
+    pub(crate) reads: Reads,
+    pub(crate) objects: ObjectChanges,
+    pub(crate) names: NameChanges,
+    pub(crate) tasks: TaskChanges,
+    pub(crate) touched: Vec<Item>,
+    pub(crate) outs: Vec<(ConnNo, Out)>,
+    run: RunNo,
+    at: u64,
+    objects_made: u32,
+    tasks_made: u32,
+    mode: Mode,
+    alloc: Global,
+}
+
+impl Drop for Log {
+    fn drop(self) {
+        let Log {
+            reads: _,
+            objects: _,
+            names: _,
+            tasks: _,
+            touched: _,
+            outs: _,
+            run: _,
+            at: _,
+            objects_made: _,
+            tasks_made: _,
+            mode: _,
+            alloc: _,
+        } = self;
+    }
+}
+
+impl Model for Log {
+    ghost use Rattle.std.specs.Prelude.{◌≤◌};
+    ghost use Rattle.dk_types.specs.contracts.item.Item as item;
+    ghost use Rattle.dk_types.specs.contracts.item.Read as read;
+    ghost use Rattle.dk_types.specs.contracts.job.Out as out;
+    ghost use Rattle.dk_types.specs.declared.limits.TheConstants.{MOMENT_MOST_MS};
+    ghost use Rattle.dk_overlay.specs.Logged.{Logged};
+    ghost use Rattle.dk_overlay.specs.Codes.{logged_code};
+
+    ghost Value = { Logged };
+
+    ghost coded = { logged_code item.the_row.coded read.the_row.coded out.the_row.coded };
+
+    ghost view = { λ a. record { reads = a.reads; objects = a.objects; names = a.names; tasks = a.tasks; touched = a.touched.items; outs = a.outs.items; run = a.run; at = a.at; objects_made = a.objects_made; tasks_made = a.tasks_made; mode = a.mode } };
+
+    ghost invariant = { λ a. a.at ≤ MOMENT_MOST_MS };
+}
+
+/// What a log hands over at the end: the reads, the items written and the messages.
+#[derive(Drop)]
+pub(crate) struct Parts {
+    pub(crate) reads: Vec<(Item, Read)>,
+    pub(crate) touched: Vec<Item>,
+    pub(crate) outs: Vec<(ConnNo, Out)>,
+}
+
+impl Log {
+    /// The log of a run that has done nothing yet, at its moment in ms.
+    pub fn new(alloc: Global, run: RunNo, at: u64) -> Log
+        requires { at ≤ MOMENT_MOST_MS }
+        ensures { result ≡ nothing_done run at }
+    {
+        Log {
+            reads: Reads::new(alloc),
+            objects: ObjectChanges::new(alloc),
+            names: NameChanges::new(alloc),
+            tasks: TaskChanges::new(alloc),
+            touched: Vec::new(alloc),
+            outs: Vec::new(alloc),
+            run,
+            at,
+            objects_made: 0,
+            tasks_made: 0,
+            mode: Mode::Platform,
+            alloc,
+        }
+    }
+
+    pub fn allocator(&self) -> Global {
+        self.alloc
+    }
+
+    pub fn run(&self) -> RunNo
+        ensures { result ≡ self.now.run }
+    {
+        self.run
+    }
+
+    /// The run's moment, in ms.
+    pub fn at(&self) -> u64
+        ensures is { result ≡ self.now.at }
+        ensures most { result ≤ MOMENT_MOST_MS }
+    {
+        self.at
+    }
+
+    pub fn mode(&self) -> Mode
+        ensures { result ≡ self.now.mode }
+    {
+        self.mode
+    }
+
+    pub fn set_mode(&mut self, mode: Mode)
+        ensures { self.new ≡ record self.old { mode = mode } }
+    {
+        self.mode = mode;
+    }
+
+    /// How many objects the run has made.
+    pub fn objects_made(&self) -> u32
+        ensures { result ≡ self.now.objects_made }
+    {
+        self.objects_made
+    }
+
+    /// How many tasks the run has scheduled.
+    pub fn tasks_made(&self) -> u32
+        ensures { result ≡ self.now.tasks_made }
+    {
+        self.tasks_made
+    }
+
+    /// How many messages the run has sent.
+    pub fn outs_made(&self) -> u64
+        ensures { result ≡ length self.now.outs }
+    {
+        self.outs.len() as u64
+    }
+
+    /// The read of an item, if it was made.
+    pub fn read(&self, item: &Item) -> Option<&Read>
+        ensures some { IfSome result (λ read. WasRead self.now.reads item.now read.now) }
+        ensures none { IfNone result (WasNotRead self.now.reads item.now) }
+    {
+        self.reads.get(item)
+    }
+
+    /// A copy of what was answered to an item, if it was asked.
+    pub fn answer(&self, item: &Item) -> Result<Option<Answer>, NoMemory>
+        ensures some { IfOk result (λ o. IfSome o (WasAnswered self.now.reads item.now)) }
+        ensures none { IfOk result (λ o. IfNone o (WasNotRead self.now.reads item.now)) }
+    {
+        self.reads.answer(item)
+    }
+
+    pub fn add_read(&mut self, item: Item, read: Read) -> Result<(), NoMemory>
+        requires { WasNotRead self.old.reads item }
+        ensures ok { OnOk result (self.new ≡ reading self.old item read) }
+        ensures err { OnErr result (self.new ≡ self.old) }
+    {
+        self.reads.push(item, read)
+    }
+
+    /// A copy of the change of an object, if the run changed it.
+    pub fn object(&self, id: ObjectId) -> Result<Option<Change<Object>>, NoMemory>
+        ensures { IfOk result (λ change. change ≡ map.get self.now.objects id) }
+    {
+        self.objects.copied(id)
+    }
+
+    pub fn name(&self, name: &Name) -> Option<Change<ObjectId>>
+        ensures { result ≡ map.get self.now.names name.now }
+    {
+        self.names.get(name)
+    }
+
+    /// The least name above the given one that the run has bound, or the least of all that it has.
+    pub fn next_bound(&self, after: Option<&Name>) -> Option<&Name>
+        ensures { Least bytes_cmp (is_bound_after self.now.names (option_copied after.entry)) (option_copied result) }
+    {
+        self.names.next_bound(after)
+    }
+
+    /// Whether the task is pending, where the changes alone tell it.
+    pub fn task_settled(&self, key: TaskKey) -> Option<bool>
+        ensures { result ≡ settled (map.get self.now.tasks key) }
+    {
+        self.tasks.settled(key)
+    }
+
+    pub fn change_object(&mut self, id: ObjectId, change: Change<Object>) -> Result<(), NoMemory>
+        ensures ok { OnOk result (self.new ≡ changing_object self.old id change) }
+        ensures err { OnErr result (self.new ≡ self.old) }
+    {
+        self.touched.push(Item::Object(id))?;
+        match self.objects.set(id, change) {
+            Ok(()) => Ok(()),
+            Err(error) => {
+                self.touched.pop();
+                Err(error)
+            }
+        }
+    }
+
+    pub fn create_object(&mut self, object: Object) -> Result<ObjectId, NoMemory>
+        requires { self.old.objects_made < 65536 }
+        ensures ok { IfOk result (λ id. (id ≡ new_id self.old) × (self.new ≡ creating self.old object)) }
+        ensures err { OnErr result (self.new ≡ self.old) }
+    {
+        let id = ObjectId {
+            run: self.run,
+            k: self.objects_made,
+        };
+        let change = Change {
+            before: None,
+            after: Some(object),
+        };
+        self.change_object(id, change)?;
+        self.objects_made += 1;
+        Ok(id)
+    }
+
+    pub fn change_name(&mut self, name: &Name, change: Change<ObjectId>) -> Result<(), NoMemory>
+        ensures ok { OnOk result (self.new ≡ changing_name self.old name.now change) }
+        ensures err { OnErr result (self.new ≡ self.old) }
+    {
+        let item = Item::Bound(name.clone()?);
+        self.touched.push(item)?;
+        match self.names.set(name, change) {
+            Ok(()) => Ok(()),
+            Err(error) => {
+                self.touched.pop();
+                Err(error)
+            }
+        }
+    }
+
+    pub fn schedule_task(&mut self, task: Scheduled) -> Result<TaskKey, NoMemory>
+        requires { self.old.tasks_made < 65536 }
+        ensures ok { IfOk result (λ key. (key ≡ new_key self.old) × (self.new ≡ scheduling self.old task)) }
+        ensures err { OnErr result (self.new ≡ self.old) }
+    {
+        let key = TaskKey {
+            run: self.run,
+            k: self.tasks_made,
+        };
+        self.touched.push(Item::Task(key))?;
+        match self.tasks.add(key, task) {
+            Ok(()) => {
+                self.tasks_made += 1;
+                Ok(key)
+            }
+            Err(error) => {
+                self.touched.pop();
+                Err(error)
+            }
+        }
+    }
+
+    pub fn remove_task(&mut self, key: TaskKey) -> Result<(), NoMemory>
+        ensures ok { OnOk result (self.new ≡ removing_task self.old key) }
+        ensures err { OnErr result (self.new ≡ self.old) }
+    {
+        self.touched.push(Item::Task(key))?;
+        match self.tasks.remove(key) {
+            Ok(()) => Ok(()),
+            Err(error) => {
+                self.touched.pop();
+                Err(error)
+            }
+        }
+    }
+
+    /// Gives a task another due moment, in ms, which lists nothing as written; `from` is the one before the run.
+    pub fn move_task(&mut self, key: TaskKey, from: u64, to: u64) -> Result<(), NoMemory>
+        ensures ok { OnOk result (self.new ≡ moving_task self.old key from to) }
+        ensures err { OnErr result (self.new ≡ self.old) }
+    {
+        self.tasks.move_to(key, from, to)
+    }
+
+    pub fn add_out(&mut self, to: ConnNo, out: Out) -> Result<(), NoMemory>
+        ensures ok { OnOk result (self.new ≡ sending self.old to out) }
+        ensures err { OnErr result (self.new ≡ self.old) }
+    {
+        self.outs.push((to, out))?;
+        Ok(())
+    }
+
+    /// The net effects of the changes.
+    pub fn effects(&self) -> Result<Effects, NoMemory>
+        ensures { IfOk result (λ e. e ≡ net_changes self.now) }
+    {
+        let alloc = self.alloc;
+        Ok(Effects {
+            written: Listed::from_vec(self.objects.written(alloc)?),
+            removed: Listed::from_vec(self.objects.removed(alloc)?),
+            bound: Listed::from_vec(self.names.bound(alloc)?),
+            unbound: Listed::from_vec(self.names.unbound(alloc)?),
+            added: Listed::from_vec(self.tasks.added(alloc)?),
+            dropped: Listed::from_vec(self.tasks.dropped(alloc)?),
+            requeued: Listed::from_vec(self.tasks.requeued(alloc)?),
+        })
+    }
+
+    /// Hands over what does not depend on how the run ended.
+    pub(crate) fn into_parts(self) -> Parts
+        ensures reads { result.reads.items ≡ self.reads }
+        ensures once { IsOnce self.reads }
+        ensures touched { result.touched.items ≡ self.touched }
+        ensures outs { result.outs.items ≡ self.outs }
+    {
+        let Log {
+            reads,
+            objects: _,
+            names: _,
+            tasks: _,
+            touched,
+            outs,
+            run: _,
+            at: _,
+            objects_made: _,
+            tasks_made: _,
+            mode: _,
+            alloc: _,
+        } = self;
+        Parts {
+            reads: reads.into_list(),
+            touched,
+            outs,
+        }
+    }
+}

@@ -1,0 +1,66 @@
+-- The law of a finished run, from what its parts did.
+use Rattle.std.proofs.Common.{◌≡◌, ℕ, suc, Option, Some, None, List, Result, Ok, Err, refl, sym, ap, subst, ◌∙◌, arith}
+use Rattle.std.specs.List.{AllByRecursion}
+use Rattle.std.specs.FinMap as map
+use Rattle.dk_types.specs.declared.number.RunNo.{RunNo}
+use Rattle.dk_types.specs.declared.number.TaskKey.{TaskKey}
+use Rattle.dk_types.specs.declared.item.Item.{Item}
+use Rattle.dk_types.specs.declared.item.Read.{Read}
+use Rattle.dk_types.specs.declared.job.Job.{Job}
+use Rattle.dk_types.specs.declared.fault.AppFault.{AppFault}
+use Rattle.dk_model.specs.declared.mode.Mode.TheVariants.{Game}
+use Rattle.dk_model.specs.Keys.{key_cmp}
+use Rattle.dk_model.specs.DurableWorlds.{DurableWorld, Agrees}
+use Rattle.dk_model.specs.Runs.{Run, Act, begun, within}
+use Rattle.dk_model.specs.Steps.{work, ended}
+use Rattle.dk_overlay.specs.declared.change.TaskChange.{TaskChange}
+use Rattle.dk_overlay.specs.declared.change.TaskChange.TheVariants.{Moved}
+use Rattle.dk_overlay.specs.declared.finished.Finished.{Finished}
+use Rattle.dk_overlay.specs.Logged.{Logged, current, nothing_done}
+use Rattle.dk_overlay.specs.Knowing.{IsNew, IsSound, MovesAlone, MovesOwn, JobFits, OwnIsAsked}
+use Rattle.dk_overlay.specs.Finishes.{told, told_step, TellsEnd, KeepsLaw}
+use Rattle.dk_overlay.proofs.Layers.{at_empty}
+use Rattle.dk_overlay.proofs.Sound.{sound_start}
+use Rattle.dk_overlay.proofs.Owning.{current_start}
+use Rattle.dk_txn.specs.declared.txn.Txn.{Txn}
+use Rattle.dk_txn.specs.Does.{KeepsFor, DoesFor, Keeps, AllGiven, outcome_told}
+use Rattle.dk_txn.specs.Law.{IsBegun}
+
+-- with nothing done no task was moved
+pub nothing_moved : (run : RunNo) (at : ℕ) (key : TaskKey) (due : ℕ) → MovesAlone key due (nothing_done run at)
+nothing_moved run at key due = λ k from to h. at_empty key_cmp (λ _ _. (k ≡ key) × (from ≡ due)) k (Moved from to) h
+
+never : {A : Type 0} (n : ℕ) → n ≡ suc n → A
+never n e = absurd (omega (arith, e))
+
+-- what moves no task but those of every key and moment moves none
+pub unmoved : {S : Type 0} {gave : S → Item → Read → Type 0} {a b : Txn S Logged} (run : RunNo) (at : ℕ) → a.log ≡ nothing_done run at → Keeps gave a b
+    → (k : TaskKey) (from to : ℕ) → map.get b.log.tasks k ≡ Some (Moved from to) → ⊥
+unmoved run at start p k from to h = never from (p.moves k (suc from) tt (subst (MovesAlone k (suc from)) (sym start) (nothing_moved run at k (suc from))) k from to h).1
+
+-- what moves no task but this one, from a start with nothing done, has moved no other
+pub moved_own : {P : TaskKey → ℕ → Type 0} {S : Type 0} {gave : S → Item → Read → Type 0} {a b : Txn S Logged} (run : RunNo) (at : ℕ) (key : TaskKey) (due : ℕ) → P key due
+    → a.log ≡ nothing_done run at → KeepsFor P gave a b → MovesAlone key due b.log
+moved_own run at key due p start k = k.moves key due p (subst (MovesAlone key due) (sym start) (nothing_moved run at key due))
+
+-- a run that did as its job does, from its start, and that tells what its end tells, keeps the law
+pub law_kept : {P : TaskKey → ℕ → Type 0} {S E : Type 0} {gave : S → Item → Read → Type 0} {told_by : E → Option AppFault} {a b : Txn S Logged} {r : Result (Unit {0}) E}
+    (rules : Job → Act (Unit {0})) (job : Job) (run : RunNo) (at : ℕ) (end : Result (Unit {0}) AppFault) (f : Finished)
+    → a.log ≡ nothing_done run at → DoesFor P gave told_by a b (work job (within Game (rules job))) r → outcome_told told_by r ≡ Some end
+    → OwnIsAsked job b.log → MovesOwn job b.log → JobFits job → f.reads.items ≡ b.log.reads → TellsEnd b.log job end f → KeepsLaw rules job run at f
+law_kept {a = a} {b = b} rules job run at end f start p is asked own fits reads tells = record {
+  keeps = λ d agrees new stands.
+      let agrees_then : Agrees d b.log.reads = subst (Agrees d) reads agrees in
+      let same_run : b.log.run ≡ run = p.keeps.same_run ∙ ap (λ (t : Logged). t.run) start in
+      let same_at : b.log.at ≡ at = p.keeps.same_at ∙ ap (λ (t : Logged). t.at) start in
+      let sound : IsSound b.log = p.keeps.sound (subst IsSound (sym start) (sound_start run at)) in
+      tells (record { sound = sound; asked = asked; own = own; fits = fits }) d (record { agrees = agrees_then; new = subst (IsNew d) (sym same_run) new; stands = stands })
+      ∙ ap (λ r. told_step d (ended job d (begun r b.log.at d) (end, current b.log d))) same_run
+      ∙ ap (λ m. told_step d (ended job d (begun run m d) (end, current b.log d))) same_at
+      ∙ ap (λ q. told_step d (ended job d (begun run at d) q)) (sym (p.does end is d agrees_then))
+      ∙ ap (λ s. told_step d (ended job d (begun run at d) (work job (within Game (rules job)) s))) (ap (λ t. current t d) start ∙ current_start run at d);
+}
+
+-- with no reads each was given
+pub none_given : {S : Type 0} {gave : S → Item → Read → Type 0} (a : Txn S Logged) → IsBegun (a.log) → AllGiven gave a
+none_given {gave = gave} a start = record { given = subst (λ (t : Logged). AllByRecursion (λ r. gave a.view.now r.0 r.1) t.reads) (sym start) tt }

@@ -1,0 +1,95 @@
+-- What a read of the view keeps, and what a change of the log keeps.
+use Rattle.std.proofs.Common.{◌≡◌, ℕ, true, false, Option, Some, None, is_some, List, [], ◌∷◌, ◌++◌, Result, Ok, Err, refl, sym, ap, subst, ◌∙◌, append-nil}
+use Rattle.std.specs.Option.{ok_or}
+use Rattle.std.specs.List.{AllByRecursion}
+use Rattle.std.specs.FinMap as map
+use Rattle.dk_types.specs.declared.number.TaskKey.{TaskKey}
+use Rattle.dk_types.specs.declared.item.Item.{Item}
+use Rattle.dk_types.specs.declared.item.Read.{Read}
+use Rattle.dk_types.specs.declared.fault.AppFault.{AppFault}
+use Rattle.dk_types.specs.declared.fault.AppFault.TheVariants.{Refused}
+use Rattle.dk_model.specs.DurableWorlds.{DurableWorld, Agrees, answer}
+use Rattle.dk_model.specs.Runs.{found}
+use Rattle.dk_overlay.specs.declared.change.TaskChange.TheVariants.{Moved}
+use Rattle.dk_overlay.specs.Asked.{IsAsked}
+use Rattle.dk_overlay.specs.Logged.{Logged, current, reading}
+use Rattle.dk_overlay.specs.Knowing.{IsSound, MovesAlone}
+use Rattle.dk_overlay.proofs.Sound.{sound_reading}
+use Rattle.dk_overlay.proofs.Tests.{Some_injective}
+use Rattle.dk_overlay.proofs.Asking.{agrees_read, WasRead-last}
+use Rattle.dk_txn.specs.declared.refusal.Refusal.{Refusal}
+use Rattle.dk_txn.specs.declared.txn.Txn.{Txn}
+use Rattle.dk_txn.specs.Refusals.{refusal_fault}
+use Rattle.dk_txn.specs.Does.{KeepsFor, Keeps, AllGiven, SameChanges, failure, outcome_told}
+
+All-push : {X : Type 0} (P : X → Type 0) (xs : List X) (x : X) → AllByRecursion P xs → P x → AllByRecursion P (xs ++ x ∷ [])
+All-push P [] x h p = (p, tt)
+All-push P (y ∷ xs) x h p = (h.0, All-push P xs x h.1 p)
+
+All-weaker : {X : Type 0} (P Q : X → Type 0) (xs : List X) → ((x : X) → P x → Q x) → AllByRecursion P xs → AllByRecursion Q xs
+All-weaker P Q [] f h = tt
+All-weaker P Q (x ∷ xs) f h = (f x h.0, All-weaker P Q xs f h.1)
+
+module _ {S : Type 0} {gave : S → Item → Read → Type 0} {a b : Txn S Logged} where
+  -- after a read
+  pub keeps_read : (item : Item) (read : Read) → b.view.ghost_name ≡ a.view.ghost_name → gave b.view.now item read
+      → ((i : Item) (r : Read) → gave a.view.now i r → gave b.view.now i r) → b.log ≡ reading a.log item read → Keeps gave a b
+  keeps_read item read same gives keeps e = record {
+    same_view = same;
+    reads_stay = ((item, read) ∷ [], ap (λ (t : Logged). t.reads) e);
+    kept = keeps;
+    given = λ h. record {
+      given = subst (λ (t : Logged). AllByRecursion (λ r. gave b.view.now r.0 r.1) t.reads) (sym e)
+          (All-push (λ r. gave b.view.now r.0 r.1) a.log.reads (item, read) (All-weaker (λ r. gave a.view.now r.0 r.1) (λ r. gave b.view.now r.0 r.1) a.log.reads (λ r. keeps r.0 r.1) h.given) gives);
+    };
+    same_run = ap (λ (t : Logged). t.run) e;
+    same_at = ap (λ (t : Logged). t.at) e;
+    sound = λ s. subst IsSound (sym e) (sound_reading a.log item read s);
+    moves = λ key due p m. subst (MovesAlone key due) (sym e) m;
+  }
+
+  -- after a read that was refused
+  pub keeps_unread : b.view.ghost_name ≡ a.view.ghost_name → ((i : Item) (r : Read) → gave a.view.now i r → gave b.view.now i r) → b.log ≡ a.log → Keeps gave a b
+  keeps_unread same keeps e = record {
+    same_view = same;
+    reads_stay = ([], ap (λ (t : Logged). t.reads) e ∙ sym (append-nil a.log.reads));
+    kept = keeps;
+    given = λ h. record {
+      given = subst (λ (t : Logged). AllByRecursion (λ r. gave b.view.now r.0 r.1) t.reads) (sym e)
+          (All-weaker (λ r. gave a.view.now r.0 r.1) (λ r. gave b.view.now r.0 r.1) a.log.reads (λ r. keeps r.0 r.1) h.given);
+    };
+    same_run = ap (λ (t : Logged). t.run) e;
+    same_at = ap (λ (t : Logged). t.at) e;
+    sound = λ s. subst IsSound (sym e) s;
+    moves = λ key due p m. subst (MovesAlone key due) (sym e) m;
+  }
+
+-- after a read the item was asked, and each agreeing world answers so
+pub reading_answers : (t u : Logged) (item : Item) (read : Read) → u ≡ reading t item read → (d : DurableWorld) → Agrees d u.reads → answer d item ≡ read.answer
+reading_answers t u item read e d h = agrees_read d (t.reads ++ (item, read) ∷ []) item read (subst (λ (v : Logged). Agrees d v.reads) e h) (WasRead-last t.reads item read)
+
+pub reading_asked : (t u : Logged) (item : Item) (read : Read) → u ≡ reading t item read → IsAsked u.reads item
+reading_asked t u item read e = subst (λ (v : Logged). IsAsked v.reads item) (sym e) (read, WasRead-last t.reads item read)
+
+-- reads alone leave the run as it stands
+pub same_current : (a b : Logged) (d : DurableWorld) → SameChanges a b → current a d ≡ current b d
+same_current a b d e = sym (ap (λ t. current t d) e)
+
+-- what a change of the log keeps, with the view as it was
+pub keeps_changed : {P : TaskKey → ℕ → Type 0} {S : Type 0} {gave : S → Item → Read → Type 0} {a b : Txn S Logged} → KeepsFor P gave a b → (t : Logged)
+    → t.reads ≡ b.log.reads → t.run ≡ b.log.run → t.at ≡ b.log.at → (IsSound b.log → IsSound t) → ((key : TaskKey) (due : ℕ) → P key due → MovesAlone key due b.log → MovesAlone key due t)
+    → KeepsFor P gave a (record { view = b.view; log = t })
+keeps_changed {gave = gave} {b = b} k t reads run at sound moves = record {
+  same_view = k.same_view;
+  reads_stay = (k.reads_stay.0, reads ∙ k.reads_stay.1);
+  kept = k.kept;
+  given = λ h. record { given = subst (λ rs. AllByRecursion (λ r. gave b.view.now r.0 r.1) rs) (sym reads) (k.given h).given };
+  same_run = run ∙ k.same_run;
+  same_at = at ∙ k.same_at;
+  sound = λ s. sound (k.sound s);
+  moves = λ key due p m. moves key due p (k.moves key due p m);
+}
+
+pub told_found : {A : Type 0} (n : ℕ) (r : Refusal) → refusal_fault r ≡ Some (Refused n) → (o : Option A) (s : Result A AppFault) → outcome_told refusal_fault (ok_or o r) ≡ Some s → found n o ≡ s
+told_found n r e None s h = Some_injective _ _ (sym (ap failure e) ∙ h)
+told_found n r e (Some x) s h = Some_injective _ _ h

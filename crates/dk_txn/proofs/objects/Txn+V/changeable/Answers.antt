@@ -1,0 +1,18 @@
+use Rattle.std.proofs.Common.{sym, ap, ◌∙◌}
+use Rattle.dk_model.specs.Runs as act
+use Rattle.dk_txn.proofs.ObjectCalls.{absent_unchanged, reserved_unchanged}
+use Rattle.dk_txn.proofs.objects.Txn+V.changeable.Goals as goal
+
+pub returns-in-None-clause-err : goal.returns-in-None-clause-err
+returns-in-None-clause-err g c = absent_unchanged _ c.args.id c.in_ok-known.known c.in_ok-known.ensures.known c.in-None.is
+
+pub returns-then-is_reserved_kind-clause-err : goal.returns-then-is_reserved_kind-clause-err
+returns-then-is_reserved_kind-clause-err g c =
+    reserved_unchanged _ c.args.id c.in_ok-known.known c.in-Some.object c.in_ok-known.ensures.known c.in-Some.is
+    (sym (ap (λ m. act.is_reserved_kind m c.in-Some.object.kind) c.mode.ensures) ∙ sym c.is_reserved_kind.ensures ∙ c.if-is_reserved_kind.true)
+
+pub returns-clause-ok : goal.returns-clause-ok
+returns-clause-ok g c = record {
+  known = c.in_ok-known.ensures.known;
+  there = (c.in-Some.object, c.in-Some.is, sym (ap (λ m. act.is_reserved_kind m c.in-Some.object.kind) c.mode.ensures) ∙ sym c.is_reserved_kind.ensures ∙ c.if-is_reserved_kind.false);
+}

@@ -1,0 +1,110 @@
+-- What a piece of a run does, in every world that agrees with what was read.
+use Rattle.std.specs.Prelude.{◌≡◌, ℕ, Bool, true, false, not, ◌&&◌, Option, Some, None, is_some, List, ◌++◌, Result, Ok, Err}
+use Rattle.std.specs.List.{AllByRecursion}
+use Rattle.std.specs.FinMap as map
+use Rattle.dk_types.specs.declared.number.ObjectId.{ObjectId}
+use Rattle.dk_types.specs.declared.number.TaskKey.{TaskKey}
+use Rattle.dk_types.specs.declared.object.Object.{Object}
+use Rattle.dk_types.specs.declared.item.Item.{Item}
+use Rattle.dk_types.specs.declared.item.Read.{Read}
+use Rattle.dk_types.specs.declared.fault.AppFault.{AppFault}
+use Rattle.dk_types.specs.Names.{bytes_cmp}
+use Rattle.dk_model.specs.DurableWorlds.{DurableWorld, Agrees, is_above}
+use Rattle.dk_model.specs.Runs.{Act, change_object, is_reserved_kind}
+use Rattle.dk_overlay.specs.declared.change.Change.{Change}
+use Rattle.dk_overlay.specs.Changes.{value_now, task_now}
+use Rattle.dk_overlay.specs.Layers.{layered}
+use Rattle.dk_overlay.specs.Least.{passes, Least}
+use Rattle.dk_overlay.specs.Logged.{Logged, current}
+use Rattle.dk_overlay.specs.Knowing.{IsNew, IsSound, MovesAlone}
+use Rattle.dk_txn.specs.declared.txn.Txn.{Txn}
+use Rattle.dk_txn.specs.declared.refusal.Refusal.{Refusal}
+use Rattle.dk_txn.specs.Refusals.{refusal_fault}
+
+-- only reads were added
+abbrev pub SameChanges : Logged → Logged → Type 0
+SameChanges a b = b ≡ record a { reads = b.reads }
+
+-- each read was given by the view
+pub record AllGiven {S : Type 0} (gave : S → Item → Read → Type 0) (t : Txn S Logged) : Type 0 where
+  pub given : AllByRecursion (λ r. gave t.view.now r.0 r.1) t.log.reads
+
+-- what a call keeps, however it ends: the view is the same, and reads were only added, each of them given by the view; the
+-- changes know what was there before, and no task was moved but those for which P holds, of its key and its due moment
+pub record KeepsFor (P : TaskKey → ℕ → Type 0) {S : Type 0} (gave : S → Item → Read → Type 0) (a b : Txn S Logged) : Type 0 where
+  pub same_view : b.view.ghost_name ≡ a.view.ghost_name
+  pub reads_stay : (more : List (Item × Read)) × (b.log.reads ≡ a.log.reads ++ more)
+  pub kept : (item : Item) (read : Read) → gave a.view.now item read → gave b.view.now item read
+  pub given : AllGiven gave a → AllGiven gave b
+  pub same_run : b.log.run ≡ a.log.run
+  pub same_at : b.log.at ≡ a.log.at
+  pub sound : IsSound a.log → IsSound b.log
+  pub moves : (key : TaskKey) (due : ℕ) → P key due → MovesAlone key due a.log → MovesAlone key due b.log
+
+-- the outcome of a fault, if there is one
+abbrev pub failure : {A : Type 0} → Option AppFault → Option (Result A AppFault)
+failure None = None
+failure (Some fault) = Some (Err fault)
+
+-- the outcome that a result tells: none, where memory was refused
+abbrev pub outcome_told : {E A : Type 0} → (E → Option AppFault) → Result A E → Option (Result A AppFault)
+outcome_told told (Ok x) = Some (Ok x)
+outcome_told told (Err e) = failure (told e)
+
+-- in every agreeing world, the call does f and answers as f does; `told` says which fault an error tells
+pub record DoesFor (P : TaskKey → ℕ → Type 0) {S E A : Type 0} (gave : S → Item → Read → Type 0) (told : E → Option AppFault) (a b : Txn S Logged) (f : Act A) (r : Result A E) : Type 0 where
+  pub keeps : KeepsFor P gave a b
+  pub does : (s : Result A AppFault) → outcome_told told r ≡ Some s → (d : DurableWorld) → Agrees d b.log.reads → f (current a.log d) ≡ (s, current b.log d)
+
+-- in every agreeing world, what was left to do at first is what is left to do now
+pub record LeadsFor (P : TaskKey → ℕ → Type 0) {S C : Type 0} (gave : S → Item → Read → Type 0) (a b : Txn S Logged) (f g : Act C) : Type 0 where
+  pub keeps : KeepsFor P gave a b
+  pub leads : (d : DurableWorld) → Agrees d b.log.reads → f (current a.log d) ≡ g (current b.log d)
+
+-- no task is moved
+abbrev pub Every : TaskKey → ℕ → Type 0
+Every key due = Unit {0}
+
+-- no task is moved but this one, from this due moment
+abbrev pub Only : TaskKey → ℕ → TaskKey → ℕ → Type 0
+Only key due k from = (k ≡ key) × (from ≡ due)
+
+abbrev pub Keeps : {S : Type 0} → (S → Item → Read → Type 0) → Txn S Logged → Txn S Logged → Type 0
+Keeps = KeepsFor Every
+
+abbrev pub Does : {S E A : Type 0} → (S → Item → Read → Type 0) → (E → Option AppFault) → Txn S Logged → Txn S Logged → Act A → Result A E → Type 0
+Does = DoesFor Every
+
+abbrev pub Leads : {S C : Type 0} → (S → Item → Read → Type 0) → Txn S Logged → Txn S Logged → Act C → Act C → Type 0
+Leads = LeadsFor Every
+
+-- c is what an object was and is
+pub record KnownObject (t : Logged) (id : ObjectId) (c : Change Object) : Type 0 where
+  pub after : (d : DurableWorld) → Agrees d t.reads → map.get (layered value_now t.objects d.objects) id ≡ c.after
+  pub before : IsSound t → (d : DurableWorld) → Agrees d t.reads → IsNew d t.run → c.before ≡ map.get d.objects id
+
+-- c is that of an object that stands and may be touched
+pub record CanChange (t : Logged) (id : ObjectId) (c : Change Object) : Type 0 where
+  pub known : KnownObject t id c
+  pub there : (object : Object) × (c.after ≡ Some object) × (is_reserved_kind t.mode object.kind ≡ false)
+
+-- any change of the object is refused so
+abbrev pub RefusesChange : Logged → ObjectId → Refusal → Type 0
+RefusesChange t id e = (fault : AppFault) → refusal_fault e ≡ Some fault → (change : Object → Option Object) (d : DurableWorld) → Agrees d t.reads → change_object id change (current t d) ≡ (Err fault, current t d)
+
+-- c is what a name was bound to and is
+pub record KnownName (t : Logged) (name : List ℕ) (c : Change ObjectId) : Type 0 where
+  pub after : (d : DurableWorld) → Agrees d t.reads → map.get (layered value_now t.names d.names) name ≡ c.after
+  pub before : IsSound t → (d : DurableWorld) → Agrees d t.reads → IsNew d t.run → c.before ≡ map.get d.names name
+
+-- b says whether a task is pending
+abbrev pub KnownTask : Logged → TaskKey → Bool → Type 0
+KnownTask t key b = (d : DurableWorld) → Agrees d t.reads → is_some (map.get (layered task_now t.tasks d.tasks) key) ≡ b
+
+-- whether a name above the given one stands in d and was not changed
+abbrev pub is_standing : Logged → DurableWorld → Option (List ℕ) → List ℕ → Bool
+is_standing t d after q = passes (is_above after) (λ _. true) q (map.get d.names q) && not (is_some (map.get t.names q))
+
+-- r is the least such name
+pub record NextStanding (t : Logged) (after : Option (List ℕ)) (r : Option (List ℕ)) : Type 0 where
+  pub least : (d : DurableWorld) → Agrees d t.reads → Least bytes_cmp (is_standing t d after) r

@@ -1,0 +1,125 @@
+//! The calls on objects.
+ghost use Rattle.std.specs.Prelude.{◌≡◌, ℕ, List, OnErr, IfOk, IfErr};
+ghost use Rattle.dk_model.specs.Runs as act;
+ghost use Rattle.dk_txn.specs.Refusals.{refusal_fault, TellsLength};
+
+use crate::checks::{is_reserved_kind, is_too_long, too_long};
+use crate::refusal::Refusal;
+use crate::txn::Txn;
+use crate::view::View;
+use dk_model::limits::OBJECTS_MOST_COUNT;
+use dk_overlay::{Change, copy_value, says_object};
+use dk_types::{Blob, Item, NoMemory, Object, ObjectId};
+
+impl<'a, V: View> Txn<'a, V> {
+    ghost use Rattle.dk_txn.specs.Does.{Keeps, Does, SameChanges, KnownObject, CanChange, RefusesChange};
+
+    /// What an object was before the run, and what it is now.
+    fn known_object(&mut self, id: ObjectId) -> Result<Change<Object>, NoMemory>
+        ensures keeps { Keeps V.gave self.old self.new }
+        ensures same_changes { SameChanges self.old.log self.new.log }
+        ensures known { IfOk result (KnownObject self.new.log id) }
+    {
+        match self.log.object(id)? {
+            Some(change) => Ok(change),
+            None => {
+                let after = says_object(self.ask(Item::Object(id))?);
+                let before = copy_value(&after)?;
+                Ok(Change { before, after })
+            }
+        }
+    }
+
+    /// The same of an object that stands and that may be touched.
+    fn changeable(&mut self, id: ObjectId) -> Result<Change<Object>, Refusal>
+        ensures keeps { Keeps V.gave self.old self.new }
+        ensures same_changes { SameChanges self.old.log self.new.log }
+        ensures ok { IfOk result (CanChange self.new.log id) }
+        ensures err { IfErr result (RefusesChange self.new.log id) }
+        ensures length { (bytes : List ℕ) → IfErr result (TellsLength bytes) }
+    {
+        let known = self.known_object(id)?;
+        let kind = match &known.after {
+            None => return Err(Refusal::ObjectNotFound),
+            Some(object) => object.kind,
+        };
+        if is_reserved_kind(self.log.mode(), kind) {
+            return Err(Refusal::Reserved);
+        }
+        Ok(known)
+    }
+
+    /// The object (`DataManager.getBinding` and `ManagedReference.get` read by it). Refuses 2.
+    pub fn get(&mut self, id: ObjectId) -> Result<Object, Refusal>
+        ensures does { Does V.gave refusal_fault self.old self.new (act.get id) result }
+        ensures refused { OnErr result (SameChanges self.old.log self.new.log) }
+    {
+        let known = self.known_object(id)?;
+        known.after.ok_or(Refusal::ObjectNotFound)
+    }
+
+    /// A new object (`DataManager.createReference`), whose id is the run's number and its place among the objects that the
+    /// run made. Refuses 6, 4, 8.
+    pub fn create(&mut self, kind: u16, bytes: Blob) -> Result<ObjectId, Refusal>
+        ensures does { Does V.gave refusal_fault self.old self.new (act.create kind bytes) result }
+        ensures refused { OnErr result (SameChanges self.old.log self.new.log) }
+        ensures length { IfErr result (TellsLength bytes) }
+    {
+        if is_reserved_kind(self.log.mode(), kind) {
+            return Err(Refusal::Reserved);
+        }
+        if is_too_long(&bytes) {
+            return Err(too_long(&bytes));
+        }
+        if self.log.objects_made() as u64 >= OBJECTS_MOST_COUNT {
+            return Err(Refusal::TooMany);
+        }
+        Ok(self.log.create_object(Object { kind, bytes })?)
+    }
+
+    /// Gives an object these bytes, under its old kind. Refuses 4, 2, 6.
+    pub fn save(&mut self, id: ObjectId, bytes: Blob) -> Result<(), Refusal>
+        ensures does { Does V.gave refusal_fault self.old self.new (act.save id bytes) result }
+        ensures refused { OnErr result (SameChanges self.old.log self.new.log) }
+        ensures length { IfErr result (TellsLength bytes) }
+    {
+        if is_too_long(&bytes) {
+            return Err(too_long(&bytes));
+        }
+        let known = self.changeable(id)?;
+        let kind = match &known.after {
+            None => return Err(Refusal::ObjectNotFound),
+            Some(object) => object.kind,
+        };
+        let change = Change {
+            before: known.before,
+            after: Some(Object { kind, bytes }),
+        };
+        self.log.change_object(id, change)?;
+        Ok(())
+    }
+
+    /// Writes an object as it is, so that it gets a new stamp (`DataManager.markForUpdate`). Refuses 2, 6.
+    pub fn mark(&mut self, id: ObjectId) -> Result<(), Refusal>
+        ensures does { Does V.gave refusal_fault self.old self.new (act.mark id) result }
+        ensures refused { OnErr result (SameChanges self.old.log self.new.log) }
+    {
+        let known = self.changeable(id)?;
+        self.log.change_object(id, known)?;
+        Ok(())
+    }
+
+    /// Takes an object away (`DataManager.removeObject`). Refuses 2, 6.
+    pub fn remove(&mut self, id: ObjectId) -> Result<(), Refusal>
+        ensures does { Does V.gave refusal_fault self.old self.new (act.remove id) result }
+        ensures refused { OnErr result (SameChanges self.old.log self.new.log) }
+    {
+        let known = self.changeable(id)?;
+        let change = Change {
+            before: known.before,
+            after: None,
+        };
+        self.log.change_object(id, change)?;
+        Ok(())
+    }
+}

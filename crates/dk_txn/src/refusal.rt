@@ -1,0 +1,71 @@
+//! Why a call of a transaction was refused.
+ghost use Rattle.std.specs.Prelude.{◌≡◌};
+ghost use Rattle.dk_txn.specs.Refusals.{number_of};
+
+use dk_types::NoMemory;
+use std::alloc::AllocError;
+
+/// Why a call was refused. Each refusal has a number, by which a run that gives up over it tells it.
+#[derive(Clone, Copy, Debug, PartialEq, Eq)]
+pub enum Refusal {
+    /// 1: the name is bound to nothing (`NameNotBoundException`).
+    NameNotBound,
+    /// 2: there is no such object, or no such pending task (`ObjectNotFoundException`).
+    ObjectNotFound,
+    /// 3: the object is of another kind; `found` is the one that it has.
+    WrongKind { found: u16 },
+    /// 4: an object, an argument or a body has more than 65,535 bytes; `len` is how many.
+    TooLong { len: u64 },
+    /// 5: a delay or a period is out of its limits.
+    BadDelay,
+    /// 6: a game may not touch names that begin with `$`, nor kinds from 0xFF00 on.
+    Reserved,
+    /// 7: there was no memory.
+    NoMemory,
+    /// 8: the run has made, scheduled or sent as many as one run may (`TaskRejectedException`).
+    TooMany,
+    /// 9: the name is bound already (`NameExistsException`).
+    NameExists,
+    /// 10: the bytes are none of a value of this type.
+    BadBytes,
+}
+
+impl Refusal {
+    /// The refusal's number.
+    pub fn number(&self) -> u8
+        ensures { result ≡ number_of self.now }
+    {
+        match self {
+            Refusal::NameNotBound => 1,
+            Refusal::ObjectNotFound => 2,
+            Refusal::WrongKind { found: _ } => 3,
+            Refusal::TooLong { len: _ } => 4,
+            Refusal::BadDelay => 5,
+            Refusal::Reserved => 6,
+            Refusal::NoMemory => 7,
+            Refusal::TooMany => 8,
+            Refusal::NameExists => 9,
+            Refusal::BadBytes => 10,
+        }
+    }
+}
+
+impl From<NoMemory> for Refusal {
+    ghost use Rattle.dk_txn.specs.declared.refusal.Refusal.TheVariants as refusal;
+
+    ghost from_gives = { λ _ e. e ≡ refusal.NoMemory };
+
+    fn from(_: NoMemory) -> Refusal {
+        Refusal::NoMemory
+    }
+}
+
+impl From<AllocError> for Refusal {
+    ghost use Rattle.dk_txn.specs.declared.refusal.Refusal.TheVariants as refusal;
+
+    ghost from_gives = { λ _ e. e ≡ refusal.NoMemory };
+
+    fn from(_: AllocError) -> Refusal {
+        Refusal::NoMemory
+    }
+}
