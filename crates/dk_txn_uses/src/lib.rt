@@ -7,5 +7,3 @@ pub use tally::{raise, start, sweep};
 
 pub mod halt;
 pub mod tally;
-#[cfg(test)]
-mod tests;
