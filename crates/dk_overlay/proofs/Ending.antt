@@ -23,7 +23,8 @@ use Rattle.dk_overlay.specs.Changes.{task_now}
 use Rattle.dk_overlay.specs.Layers.{layered}
 use Rattle.dk_overlay.specs.Logged.{Logged, current, nothing_done, passing_own}
 use Rattle.dk_overlay.specs.Knowing.{KnowsBefore, MovesStand, Fits}
-use Rattle.dk_overlay.specs.Finishes.{told, told_step, net_changes, MayBeIn, IsLogOf, IsKeptIn, IsKept, TellsFailed, TellsEnd}
+use Rattle.dk_model.specs.Finishes.{told_step}
+use Rattle.dk_overlay.specs.Finishes.{told, net_changes, MayBeIn, IsLogOf, IsKeptIn, IsKept, TellsFailed, TellsEnd}
 use Rattle.dk_overlay.proofs.Keys.{keys_total, keys_same}
 use Rattle.dk_overlay.proofs.Layers.{layered-empty, at_empty}
 use Rattle.dk_overlay.proofs.Sound.{nothing_known}

@@ -18,7 +18,8 @@ use Rattle.dk_overlay.specs.declared.change.TaskChange.TheVariants.{Moved}
 use Rattle.dk_overlay.specs.Changes.{value_now, task_now, stood, removing, moving}
 use Rattle.dk_overlay.specs.Layers.{layered, newest}
 use Rattle.dk_overlay.specs.Logged.{Logged, current, nothing_done, changing_task, removing_task, moving_task, passing_own}
-use Rattle.dk_overlay.specs.Knowing.{KnowsBefore, MovesStand, MovesOwn, JobStands, JobFits, OwnIsAsked}
+use Rattle.dk_model.specs.Finishes.{HasOwnTask}
+use Rattle.dk_overlay.specs.Knowing.{KnowsBefore, MovesStand, MovesOwn, JobFits, OwnIsAsked}
 use Rattle.dk_overlay.proofs.Keys.{ids_total, ids_same, keys_total, keys_same, names_total, names_same}
 use Rattle.dk_overlay.proofs.Layers.{get-layered, layered-insert, layered-empty, at_changed, at_empty}
 use Rattle.dk_overlay.proofs.Sound.{nothing_known, knows_task, removing_stood, moving_stood, removing_none, moving_some, removing_unmoved, moving_from}
@@ -110,7 +111,7 @@ moves_passed P t key due period here others =
     ]
 
 -- where no task was moved but the job's own, the moved ones stand as they were moved from
-pub moves_stand : (j : Job) (t : Logged) (d : DurableWorld) → MovesOwn j t → JobStands j d → MovesStand t d
+pub moves_stand : (j : Job) (t : Logged) (d : DurableWorld) → MovesOwn j t → HasOwnTask d j → MovesStand t d
 moves_stand (job.Task key due period kind arg) t d own stands = λ k from to h task e.
     let mine = own k from to h in
     ap (λ (x : Task). x.due) (stands task (ap (map.get d.tasks) (sym mine.0) ∙ e)) ∙ sym mine.1

@@ -18,7 +18,8 @@ use Rattle.dk_overlay.specs.declared.change.TaskChange.TheVariants.{Added, Withd
 use Rattle.dk_overlay.specs.Changes.{task_now, task_made, moved_to, stood, removing, moving}
 use Rattle.dk_overlay.specs.Layers.{newest}
 use Rattle.dk_overlay.specs.Logged.{Logged, nothing_done, reading, changing_object, changing_name, changing_task}
-use Rattle.dk_overlay.specs.Knowing.{IsNew, KnowsBefore, IsSound, MovesAlone}
+use Rattle.dk_model.specs.Finishes.{IsNew}
+use Rattle.dk_overlay.specs.Knowing.{KnowsBefore, IsSound, MovesAlone}
 use Rattle.dk_overlay.proofs.Keys.{ids_total, ids_same, keys_total, keys_same, names_total, names_same}
 use Rattle.dk_overlay.proofs.Layers.{at_changed, at_empty}
 use Rattle.dk_overlay.proofs.Tests.{none_some}

@@ -1,23 +1,19 @@
 -- What a finished run tells.
-use Rattle.std.specs.Prelude.{◌≡◌, ℕ, map, List, [], Result, Ok, Err}
+use Rattle.std.specs.Prelude.{◌≡◌, map, Result}
 use Rattle.std.specs.FinMap.{entries}
 use Rattle.std.specs.Map.{keys_of}
-use Rattle.dk_types.specs.declared.number.RunNo.{RunNo}
-use Rattle.dk_types.specs.declared.number.ConnNo.{ConnNo}
-use Rattle.dk_types.specs.declared.item.Item.{Item}
 use Rattle.dk_types.specs.declared.job.Job.{Job}
-use Rattle.dk_types.specs.declared.job.Out.{Out}
 use Rattle.dk_types.specs.declared.durable.Effects.{Effects}
 use Rattle.dk_types.specs.declared.fault.AppFault.{AppFault}
-use Rattle.dk_types.specs.declared.fault.Outcome.{Outcome}
 use Rattle.dk_model.specs.DurableWorlds.{DurableWorld, Agrees}
-use Rattle.dk_model.specs.Runs.{Act, begun}
-use Rattle.dk_model.specs.Effects.{effects, pending_of, same_object, same_id}
-use Rattle.dk_model.specs.Steps.{Stepped, ended, failed, kept_by, step}
+use Rattle.dk_model.specs.Runs.{begun}
+use Rattle.dk_model.specs.Effects.{pending_of, same_object, same_id}
+use Rattle.dk_model.specs.Steps.{ended, failed, kept_by}
+use Rattle.dk_model.specs.Finishes.{Told, told_step, IsNew, HasOwnTask}
 use Rattle.dk_overlay.specs.declared.finished.Finished.{Finished}
 use Rattle.dk_overlay.specs.Asked.{IsOnce}
 use Rattle.dk_overlay.specs.Logged.{Logged, current}
-use Rattle.dk_overlay.specs.Knowing.{IsNew, IsSound, KnowsBefore, MovesStand, MovesOwn, JobStands, JobFits, OwnIsAsked}
+use Rattle.dk_overlay.specs.Knowing.{IsSound, KnowsBefore, MovesStand, MovesOwn, JobFits, OwnIsAsked}
 use Rattle.dk_overlay.specs.Picks.{picked, newly_set, taken_away, task_added, task_dropped, task_moved}
 
 -- the net effects of the changes
@@ -32,26 +28,16 @@ net_changes t = record {
   requeued = picked task_moved (entries t.tasks);
 }
 
--- what tells of a run
-pub record Told : Type 0 where
-  pub outcome : Outcome
-  pub effects : Effects
-  pub touched : List Item
-  pub outs : List (ConnNo × Out)
-
+-- what a finished run tells
 abbrev pub told : Finished → Told
 told f = record { outcome = f.outcome; effects = f.effects; touched = f.touched.items; outs = f.outs.items }
-
--- what the definitions tell of a run on the world d
-abbrev pub told_step : DurableWorld → Stepped → Told
-told_step d s = record { outcome = s.outcome; effects = effects d s.world; touched = s.touched; outs = s.outs }
 
 -- d is a world in which the run may be: it agrees with what was read, no object and no task has the run's number, and the
 -- job's own task stands in it as the job says
 pub record MayBeIn (t : Logged) (job : Job) (d : DurableWorld) : Type 0 where
   pub agrees : Agrees d t.reads
   pub new : IsNew d t.run
-  pub stands : JobStands job d
+  pub stands : HasOwnTask d job
 
 -- the log of a run as its calls leave it: its changes know what was there before, it asked for its own task, whose moments are
 -- within their limits, and moved no other
@@ -78,7 +64,3 @@ pub record IsKeptIn (t : Logged) (job : Job) (k : Logged) (d : DurableWorld) : T
 -- the same in every world in which the run may be
 abbrev pub IsKept : Logged → Job → Logged → Type 0
 IsKept t job k = IsLogOf t job → (d : DurableWorld) → MayBeIn t job d → IsKeptIn t job k d
-
--- the law of a finished run: in every world that agrees with its reads and in which it may be, it did what the job does there
-pub record KeepsLaw (rules : Job → Act (Unit {0})) (job : Job) (run : RunNo) (at : ℕ) (f : Finished) : Type 0 where
-  pub keeps : (d : DurableWorld) → Agrees d f.reads.items → IsNew d run → JobStands job d → told f ≡ told_step d (step rules job run at d)

@@ -1,8 +1,7 @@
 -- What the changes of a run know of the world before it.
-use Rattle.std.specs.Prelude.{◌≡◌, ℕ, ◌+◌, ◌≤◌, Option, Some, None, is_some, List}
+use Rattle.std.specs.Prelude.{◌≡◌, ℕ, ◌+◌, ◌≤◌, Some, is_some, List}
 use Rattle.dk_types.specs.declared.limits.TheConstants.{MOMENT_MOST_MS, DELAY_MOST_MS, PERIOD_MOST_MS}
 use Rattle.std.specs.FinMap as map
-use Rattle.dk_types.specs.declared.number.RunNo.{RunNo}
 use Rattle.dk_types.specs.declared.number.ObjectId.{ObjectId}
 use Rattle.dk_types.specs.declared.number.TaskKey.{TaskKey}
 use Rattle.dk_types.specs.declared.object.Object.{Object}
@@ -10,17 +9,13 @@ use Rattle.dk_types.specs.declared.item.Item.TheVariants as ask
 use Rattle.dk_types.specs.declared.job.Job.{Job}
 use Rattle.dk_types.specs.declared.job.Job.TheVariants as job
 use Rattle.dk_model.specs.DurableWorlds.{DurableWorld, Task, Agrees}
+use Rattle.dk_model.specs.Finishes.{IsNew}
 use Rattle.dk_overlay.specs.declared.change.Change.{Change}
 use Rattle.dk_overlay.specs.declared.change.TaskChange.{TaskChange}
 use Rattle.dk_overlay.specs.declared.change.TaskChange.TheVariants.{Moved}
 use Rattle.dk_overlay.specs.Changes.{stood}
 use Rattle.dk_overlay.specs.Asked.{IsAsked}
 use Rattle.dk_overlay.specs.Logged.{Logged}
-
--- no object and no task of d has this run's number
-pub record IsNew (d : DurableWorld) (run : RunNo) : Type 0 where
-  pub objects : (id : ObjectId) → id.run ≡ run → map.get d.objects id ≡ None
-  pub tasks : (key : TaskKey) → key.run ≡ run → map.get d.tasks key ≡ None
 
 -- each change knows what d had before
 pub record KnowsBefore (t : Logged) (d : DurableWorld) : Type 0 where
@@ -48,15 +43,6 @@ MovesOwn (job.Login conn name) t = (k : TaskKey) (from to : ℕ) → map.get t.t
 MovesOwn (job.Message conn name body) t = (k : TaskKey) (from to : ℕ) → map.get t.tasks k ≡ Some (Moved from to) → ⊥
 MovesOwn (job.Channel conn name channel body) t = (k : TaskKey) (from to : ℕ) → map.get t.tasks k ≡ Some (Moved from to) → ⊥
 MovesOwn (job.Disconnect conn name graceful) t = (k : TaskKey) (from to : ℕ) → map.get t.tasks k ≡ Some (Moved from to) → ⊥
-
--- the job's own task, where it is pending in d, stands there as the job says
-abbrev pub JobStands : Job → DurableWorld → Type 0
-JobStands (job.Task key due period kind arg) d = (task : Task) → map.get d.tasks key ≡ Some task → task ≡ record { due = due; period = period; kind = kind; arg = arg }
-JobStands job.Initialize d = Unit {0}
-JobStands (job.Login conn name) d = Unit {0}
-JobStands (job.Message conn name body) d = Unit {0}
-JobStands (job.Channel conn name channel body) d = Unit {0}
-JobStands (job.Disconnect conn name graceful) d = Unit {0}
 
 -- the run asked whether the job's own task is pending
 abbrev pub OwnIsAsked : Job → Logged → Type 0

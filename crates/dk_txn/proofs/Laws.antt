@@ -13,12 +13,13 @@ use Rattle.dk_model.specs.Keys.{key_cmp}
 use Rattle.dk_model.specs.DurableWorlds.{DurableWorld, Agrees}
 use Rattle.dk_model.specs.Runs.{Run, Act, begun, within}
 use Rattle.dk_model.specs.Steps.{work, ended}
+use Rattle.dk_model.specs.Finishes.{IsNew, told_step, KeepsLaw}
 use Rattle.dk_overlay.specs.declared.change.TaskChange.{TaskChange}
 use Rattle.dk_overlay.specs.declared.change.TaskChange.TheVariants.{Moved}
 use Rattle.dk_overlay.specs.declared.finished.Finished.{Finished}
 use Rattle.dk_overlay.specs.Logged.{Logged, current, nothing_done}
-use Rattle.dk_overlay.specs.Knowing.{IsNew, IsSound, MovesAlone, MovesOwn, JobFits, OwnIsAsked}
-use Rattle.dk_overlay.specs.Finishes.{told, told_step, TellsEnd, KeepsLaw}
+use Rattle.dk_overlay.specs.Knowing.{IsSound, MovesAlone, MovesOwn, JobFits, OwnIsAsked}
+use Rattle.dk_overlay.specs.Finishes.{told, TellsEnd}
 use Rattle.dk_overlay.proofs.Layers.{at_empty}
 use Rattle.dk_overlay.proofs.Sound.{sound_start}
 use Rattle.dk_overlay.proofs.Owning.{current_start}
@@ -47,9 +48,9 @@ moved_own run at key due p start k = k.moves key due p (subst (MovesAlone key du
 pub law_kept : {P : TaskKey → ℕ → Type 0} {S E : Type 0} {gave : S → Item → Read → Type 0} {told_by : E → Option AppFault} {a b : Txn S Logged} {r : Result (Unit {0}) E}
     (rules : Job → Act (Unit {0})) (job : Job) (run : RunNo) (at : ℕ) (end : Result (Unit {0}) AppFault) (f : Finished)
     → a.log ≡ nothing_done run at → DoesFor P gave told_by a b (work job (within Game (rules job))) r → outcome_told told_by r ≡ Some end
-    → OwnIsAsked job b.log → MovesOwn job b.log → JobFits job → f.reads.items ≡ b.log.reads → TellsEnd b.log job end f → KeepsLaw rules job run at f
+    → OwnIsAsked job b.log → MovesOwn job b.log → JobFits job → f.reads.items ≡ b.log.reads → TellsEnd b.log job end f → KeepsLaw rules job run at f.reads.items (told f)
 law_kept {a = a} {b = b} rules job run at end f start p is asked own fits reads tells = record {
-  keeps = λ d agrees new stands.
+  keeps = λ d valid agrees new stands.
       let agrees_then : Agrees d b.log.reads = subst (Agrees d) reads agrees in
       let same_run : b.log.run ≡ run = p.keeps.same_run ∙ ap (λ (t : Logged). t.run) start in
       let same_at : b.log.at ≡ at = p.keeps.same_at ∙ ap (λ (t : Logged). t.at) start in

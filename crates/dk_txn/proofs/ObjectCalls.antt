@@ -21,7 +21,7 @@ use Rattle.dk_overlay.specs.Answers.{object_in, object_in-answer}
 use Rattle.dk_overlay.specs.Changes.{value_now}
 use Rattle.dk_overlay.specs.Layers.{layered, newest}
 use Rattle.dk_overlay.specs.Logged.{Logged, current, changing_object, new_id, creating}
-use Rattle.dk_overlay.specs.Knowing.{IsNew, IsSound, KnowsBefore, MovesAlone}
+use Rattle.dk_overlay.specs.Knowing.{IsSound, KnowsBefore, MovesAlone}
 use Rattle.dk_overlay.proofs.Keys.{ids_total, ids_same}
 use Rattle.dk_overlay.proofs.Layers.{get-layered, layered-insert}
 use Rattle.dk_overlay.proofs.Sound.{sound_object, sound_as}

@@ -22,7 +22,8 @@ use Rattle.dk_overlay.specs.Answers.{is_pending, is_pending-answer}
 use Rattle.dk_overlay.specs.Changes.{task_now, task_made, moved_to, stood, settled, removing, moving}
 use Rattle.dk_overlay.specs.Layers.{layered, newest}
 use Rattle.dk_overlay.specs.Logged.{Logged, current, changing_task, new_key, scheduling, removing_task, moving_task, passing_own, sending}
-use Rattle.dk_overlay.specs.Knowing.{IsNew, IsSound, MovesAlone}
+use Rattle.dk_model.specs.Finishes.{IsNew}
+use Rattle.dk_overlay.specs.Knowing.{IsSound, MovesAlone}
 use Rattle.dk_overlay.proofs.Keys.{keys_total, keys_same}
 use Rattle.dk_overlay.proofs.Layers.{get-layered, at_changed}
 use Rattle.dk_overlay.proofs.Sound.{sound_as, sound_task, removing_stood, removing_unmoved}
