@@ -21,7 +21,8 @@ use Rattle.dk_model.specs.Keys.{id_cmp}
 use Rattle.dk_model.specs.Runs.{Run, begun, give, and_then, within, get, create, save, remove as remove_object, bind, unbind, send}
 use Rattle.dk_model.specs.Records.{session_of, next_session, channel_of, next_channel, next_member}
 use Rattle.dk_wire.specs.Lists.{list_spelling, items_at, list_at}
-use Rattle.dk_model.specs.Platforms.{get_as, is_connected, open_record, new_record, close_record, create_channel, new_channel, join, leave, channel_send}
+use Rattle.dk_model.specs.References.{get_as}
+use Rattle.dk_model.specs.Platforms.{is_connected, open_record, new_record, close_record, create_channel, new_channel, join, leave, channel_send}
 use Rattle.dk_examples.specs.Worked.{run, conn, id, object, in_eight, in_four, listed, nothing}
 use Rattle.dk_examples.specs.SessionRows.{alice, alice_record, session_object}
 use Rattle.dk_examples.specs.ChannelGame.{channel_rules, foo, bar}

@@ -8,7 +8,8 @@ use Rattle.dk_model.specs.declared.records.SessionRecord.{SessionRecord}
 use Rattle.dk_model.specs.declared.records.ChannelRecord.{ChannelRecord}
 use Rattle.dk_model.specs.Runs.{Run, give, and_then, within, get, save, is_too_long, with_object}
 use Rattle.dk_model.specs.Records.{SESSION_KIND, CHANNEL_KIND, session_of, session_bytes, channel_of, channel_bytes, session_name, channel_name}
-use Rattle.dk_model.specs.Platforms.{platform_bound, get_as, join, leave, is_member, without_member, without_channel}
+use Rattle.dk_model.specs.References.{get_as}
+use Rattle.dk_model.specs.Platforms.{platform_bound, join, leave, is_member, without_member, without_channel}
 
 abbrev pub session_at : List ℕ → Object
 session_at bytes = record { kind = SESSION_KIND; bytes = bytes }

@@ -11,7 +11,8 @@ use Rattle.dk_wire.specs.Reading.{u32_at, u64_at, end_at}
 use Rattle.dk_model.specs.Runs.{Run, begun, give, and_then, within, get, create, remove as remove_object, bind, unbind, send}
 use Rattle.dk_model.specs.Records.{session_of, next_session}
 use Rattle.dk_wire.specs.Lists.{list_spelling, items_at, list_at}
-use Rattle.dk_model.specs.Platforms.{get_as, is_connected, open_record, new_record, close_record}
+use Rattle.dk_model.specs.References.{get_as}
+use Rattle.dk_model.specs.Platforms.{is_connected, open_record, new_record, close_record}
 use Rattle.dk_examples.specs.Worked.{run, conn, id, accepting, giving_up, listed, nothing}
 use Rattle.dk_examples.specs.SessionRows.{FirstRunAccepts, LoginIsAccepted, SecondLoginIsRefused, LongLoginFails, GivenUpLoginFails, StrangeMessageIsNothing, DisconnectEnds, StopEnds, alice, alice_record, session_object, with_alice}
 use Rattle.dk_examples.proofs.Running.{runs_ok, runs_failed, looks, puts, at_end}

@@ -12,7 +12,8 @@ use Rattle.dk_wire.specs.Payload.{next_u8, next_u32, next_name, next_id, next_en
 use Rattle.dk_wire.specs.Reading.{u8_at, u32_at, name_at, id_at, end_at}
 use Rattle.dk_wire.specs.Lists.{list_spelling, items_at, list_at}
 use Rattle.dk_model.specs.Runs.{begun, give, and_then, within, get, create, save, bound, bind, send}
-use Rattle.dk_model.specs.Platforms.{get_as, is_connected, open_record, new_record}
+use Rattle.dk_model.specs.References.{get_as}
+use Rattle.dk_model.specs.Platforms.{is_connected, open_record, new_record}
 use Rattle.sword_world.specs.Things.{room_of, next_room, thing_of, next_thing, player_of, next_player}
 use Rattle.sword_world.specs.Labels.{labels}
 use Rattle.sword_world.specs.Rules.{sword_rules, furnish, initialize, new_player, known_player, enter, login, tell, look_round, look_as, look, message}

@@ -11,7 +11,7 @@ use Rattle.dk_wire.specs.Reading.{u64_at, end_at}
 use Rattle.dk_model.specs.Runs.{Run, begun, give, and_then, within, get, create, save, bound, bind, schedule_periodic, cancel}
 use Rattle.dk_model.specs.Steps.{own_task}
 use Rattle.dk_model.specs.Records.{value_of}
-use Rattle.dk_model.specs.Platforms.{get_as}
+use Rattle.dk_model.specs.References.{get_as}
 use Rattle.dk_examples.specs.Worked.{run, id, key, object, in_eight, giving_up, listed}
 use Rattle.dk_examples.specs.TimerGame.{timer_rules}
 use Rattle.dk_examples.specs.TimerRows.{TimerBegins, TimerSkips, TimerGoesOn, TimerEnds, TimerIsOver, TimerFails, OnceFails, one_task, two_tasks, counted, occurrence, each_100_ms, counting}

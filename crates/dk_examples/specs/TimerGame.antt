@@ -8,7 +8,7 @@ use Rattle.dk_wire.specs.Fields.{u64_spelling}
 use Rattle.dk_wire.specs.Payload.{next_u64}
 use Rattle.dk_model.specs.Runs.{Act, give, and_then, create, save, bound, bind, schedule_periodic, cancel}
 use Rattle.dk_model.specs.Records.{value_of}
-use Rattle.dk_model.specs.Platforms.{get_as}
+use Rattle.dk_model.specs.References.{get_as}
 
 -- the kind of the counter, whose bytes are its number
 abbrev pub COUNTER : ℕ

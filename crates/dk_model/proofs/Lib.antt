@@ -6,6 +6,7 @@ pub mod Operations
 pub mod Bytes
 pub mod Readings
 pub mod RecordFacts
+pub mod ReferenceActs
 pub mod PlatformActs
 pub mod Works
 pub mod StepLaws

@@ -17,9 +17,10 @@ use Rattle.dk_model.specs.declared.records.ChannelRecord.{ChannelRecord}
 use Rattle.dk_model.specs.declared.records.Delivery.{Delivery}
 use Rattle.dk_model.specs.Records.{SESSION_KIND, CHANNEL_KIND, session_bytes, session_of, channel_bytes, channel_of, session_name, channel_name, is_name_too_long}
 use Rattle.dk_model.specs.Platforms as does
-use Rattle.dk_model.specs.Platforms.{platform_bound, found_as, is_member, without_member, without_channel, same_session, same_name, is_sender, numbered}
+use Rattle.dk_model.specs.Platforms.{platform_bound, found_as, is_member, without_member, without_channel, same_session, same_name, is_sender, numbered, recorded_as, drop_recorded, drop_each, leave_members}
 use Rattle.dk_model.proofs.Acts.{Anything, AreBytes, IsId, HasIfOk, IsLawful, stays, refused, at_if, lawful_then, lawful_give, lawful_done, lawful_refuse, lawful_if, lawful_if_at, lawful_looks, lawful_within}
 use Rattle.dk_model.proofs.Operations.{lawful_get, lawful_create, lawful_save, lawful_remove, lawful_bound, lawful_bind, lawful_unbind, lawful_send, sent_at}
+use Rattle.dk_model.proofs.ReferenceActs.{lawful_get_as}
 use Rattle.dk_model.proofs.RecordFacts.{HasChannels, HasMembers, IsNamed, session_fits, channel_fits, bytes_of_session, bytes_of_channel, session_named, channel_named}
 
 -- the id, where there is one, has a run's number and a place
@@ -41,17 +42,14 @@ platform_says s name f = elim (is_name_too_long name) as (λ b. IsSomeId (cond b
   | false ↦ bound_says s name f
 ]
 
--- `get_as` needs nothing; its value has what each has that is read from bytes
-pub lawful_get_as : {A Needs : Type 0} {Has : A → Type 0} (kind : ℕ) (read : List ℕ → Option A) (id : ObjectId) → ((bytes : List ℕ) (x : A) → AreBytes bytes → read bytes ≡ Some x → Has x) → IsLawful Needs Has (does.get_as kind read id)
-unfolding does.get_as
-lawful_get_as {Has = Has} kind read id why = lawful_then (lawful_get id) (λ object. record {
-  at = λ s. at_if (object.kind == kind)
-      (λ _. stays s _ (λ n f. elim (read object.bytes) as (λ o. read object.bytes ≡ o → HasIfOk Has (found BAD_BYTES o)) [
-        | None ↦ λ _. tt
-        | Some x ↦ λ e. why object.bytes x n.1.body.bytes e
-      ] refl))
-      (λ _. refused s _);
-})
+-- a session's record and its id, where there is one
+abbrev pub HasRecord : Option (ObjectId × SessionRecord) → Type 0
+HasRecord None = Unit {0}
+HasRecord (Some p) = IsId p.0 × HasChannels p.1
+
+record_told : (b : Bool) (id : ObjectId) (r : SessionRecord) → IsId id → HasChannels r → HasRecord (if b then Some (id, r) else None)
+record_told true id r is has = (is, has)
+record_told false id r is has = tt
 
 lawful_found_as : {A Needs : Type 0} {Has : A → Type 0} (o : Option ObjectId) (kind : ℕ) (read : List ℕ → Option A) → ((bytes : List ℕ) (x : A) → AreBytes bytes → read bytes ≡ Some x → Has x)
     → IsLawful (Needs × IsSomeId o) (λ p. IsId p.0 × Has p.1) (found_as o kind read)
@@ -155,19 +153,33 @@ lawful_leave name session = lawful_within Platform (lawful_then (lawful_channel_
     )))
     (lawful_done tt))))
 
-lawful_leave_member : {Needs : Type 0} (name : List ℕ) (session : Session) → IsLawful Needs Anything (does.leave_member name session)
-lawful_leave_member name session = lawful_then (lawful_is_connected session) (λ connected.
-    lawful_if connected (lawful_leave name session) (lawful_then (lawful_channel_under name) (λ c. lawful_save c.0 (channel_bytes (record (c.1) { members = without_member session c.1.members })) (λ n.
-    bytes_of_channel (record (c.1) { members = without_member session c.1.members }) (All-filter (λ m. not (same_session session m)) IsNamed c.1.members n.1.1)))))
+lawful_recorded_as : {Needs : Type 0} (o : Option ObjectId) (conn : ConnNo) → IsLawful (Needs × IsSomeId o) HasRecord (recorded_as o conn)
+lawful_recorded_as None conn = record { at = λ s. stays s _ (λ n f. tt) }
+lawful_recorded_as (Some id) conn = lawful_then (lawful_get_as SESSION_KIND session_of id session_fits) (λ r. lawful_give (if nat_eq r.conn.0 conn.0 then Some (id, r) else None) (λ n. record_told (nat_eq r.conn.0 conn.0) id r n.0.1 n.1))
 
-lawful_leave_each : {Needs : Type 0} (name : List ℕ) (members : List Session) → IsLawful Needs Anything (does.leave_each name members)
-lawful_leave_each name [] = lawful_done tt
-lawful_leave_each name (m ∷ members) = lawful_then (lawful_leave_member name m) (λ _. lawful_leave_each name members)
+lawful_drop_recorded : {Needs : Type 0} (name : List ℕ) (o : Option (ObjectId × SessionRecord)) → IsLawful (Needs × HasRecord o) Anything (drop_recorded name o)
+lawful_drop_recorded name None = lawful_done tt
+lawful_drop_recorded name (Some r) = lawful_save r.0 (session_bytes (record (r.1) { channels = without_channel name r.1.channels })) (λ n.
+    bytes_of_session (record (r.1) { channels = without_channel name r.1.channels }) (All-filter (λ c. not (same_name name c)) IsName r.1.channels n.1.1))
+
+lawful_drop_channel : {Needs : Type 0} (name : List ℕ) (session : Session) → IsLawful Needs Anything (does.drop_channel name session)
+unfolding does.drop_channel
+lawful_drop_channel name session = lawful_then
+    (lawful_looks (λ s. platform_bound s (session_name session.name)) (λ o. recorded_as o session.conn) IsSomeId (λ s f. platform_says s (session_name session.name) f) (λ o. lawful_recorded_as o session.conn))
+    (λ o. lawful_drop_recorded name o)
+
+lawful_drop_each : {Needs : Type 0} (name : List ℕ) (members : List Session) → IsLawful Needs Anything (drop_each name members)
+lawful_drop_each name [] = lawful_done tt
+lawful_drop_each name (m ∷ members) = lawful_then (lawful_drop_channel name m) (λ _. lawful_drop_each name members)
+
+lawful_leave_members : {Needs : Type 0} (name : List ℕ) (c : ObjectId × ChannelRecord) (members : List Session) → IsLawful Needs Anything (leave_members name c members)
+lawful_leave_members name c [] = lawful_done tt
+lawful_leave_members name c (m ∷ members) = lawful_then (lawful_save c.0 (channel_bytes (record (c.1) { members = [] })) (λ n. bytes_of_channel (record (c.1) { members = [] }) (All-nil IsNamed))) (λ _. lawful_drop_each name (m ∷ members))
 
 -- `leave_all` needs nothing
 pub lawful_leave_all : {Needs : Type 0} (name : List ℕ) → IsLawful Needs Anything (does.leave_all name)
 unfolding does.leave_all
-lawful_leave_all name = lawful_within Platform (lawful_then (lawful_channel_under name) (λ c. lawful_leave_each name c.1.members))
+lawful_leave_all name = lawful_within Platform (lawful_then (lawful_channel_under name) (λ c. lawful_leave_members name c c.1.members))
 
 -- `members` needs nothing; each of them has a name
 pub lawful_members : {Needs : Type 0} (name : List ℕ) → IsLawful Needs (All IsNamed) (does.members name)

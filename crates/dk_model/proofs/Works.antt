@@ -24,7 +24,8 @@ use Rattle.dk_model.proofs.Fits.{fit_tasks, fit_task, leaves_at}
 use Rattle.dk_model.proofs.Acts.{Anything, HasIfOk, LawfulAt, IsLawful, lawful_then, lawful_done, lawful_needs, lawful_if, lawful_looks}
 use Rattle.dk_model.proofs.Operations.{lawful_send}
 use Rattle.dk_model.proofs.RecordFacts.{IsNamed, channel_fits}
-use Rattle.dk_model.proofs.PlatformActs.{lawful_get_as, lawful_is_connected, lawful_open_record, lawful_close_record, lawful_own_record, lawful_leave, lawful_channel_send}
+use Rattle.dk_model.proofs.ReferenceActs.{lawful_get_as}
+use Rattle.dk_model.proofs.PlatformActs.{lawful_is_connected, lawful_open_record, lawful_close_record, lawful_own_record, lawful_leave, lawful_channel_send}
 
 same_left : {X : Type 0} (o : Option X) (x y : X) → o ≡ Some x → o ≡ Some y → y ≡ x
 same_left o x y e g = some_is y x (sym g ∙ e)

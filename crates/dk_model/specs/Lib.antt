@@ -3,6 +3,7 @@ pub mod DurableWorlds
 pub mod Validity
 pub mod Effects
 pub mod Runs
+pub mod References
 pub mod Records
 pub mod Platforms
 pub mod Steps

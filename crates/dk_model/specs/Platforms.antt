@@ -11,6 +11,7 @@ use Rattle.dk_types.specs.declared.job.Out.{Out}
 use Rattle.dk_types.specs.declared.job.Out.TheVariants as out
 use Rattle.dk_types.specs.declared.limits.TheConstants.{MESSAGES_MOST_COUNT}
 use Rattle.dk_model.specs.Runs.{Run, Act, give, and_then, within, found, refuse, get, create, save, remove, bound, bind, unbind, send, is_too_long, NAME_NOT_BOUND, WRONG_KIND, TOO_LONG, TOO_MANY, NAME_EXISTS, BAD_BYTES}
+use Rattle.dk_model.specs.References.{get_as}
 use Rattle.dk_model.specs.declared.mode.Mode.TheVariants.{Platform}
 use Rattle.dk_model.specs.declared.records.SessionRecord.{SessionRecord}
 use Rattle.dk_model.specs.declared.records.ChannelRecord.{ChannelRecord}
@@ -26,10 +27,6 @@ same_session a b = same_name a.name b.name && nat_eq a.conn.0 b.conn.0
 -- what a platform name is bound to; one that would pass 255 bytes is bound to nothing
 abbrev pub platform_bound : Run → List ℕ → Option ObjectId
 platform_bound s name = if is_name_too_long name then None else maps.get s.world.names name
-
--- the value of an object of this kind
-unfoldable pub get_as : {A : Type 0} → ℕ → (List ℕ → Option A) → ObjectId → Act A
-get_as kind read id = and_then (get id) (λ object s. if object.kind == kind then (found BAD_BYTES (read object.bytes), s) else refuse WRONG_KIND s)
 
 abbrev pub found_as : {A : Type 0} → Option ObjectId → ℕ → (List ℕ → Option A) → Act (ObjectId × A)
 found_as None kind read s = refuse NAME_NOT_BOUND s
@@ -131,20 +128,33 @@ leave_records name session c r =
 unfoldable pub leave : List ℕ → Session → Act (Unit {0})
 leave name session = within Platform (and_then (channel_under name) (λ c. and_then (own_record session) (λ r. leave_records name session c r)))
 
--- a member whose session is not recorded with its number loses its place among the members alone
-abbrev pub leave_member : List ℕ → Session → Act (Unit {0})
-leave_member name session =
-    and_then (is_connected session) (λ connected.
-    if connected then leave name session
-    else and_then (channel_under name) (λ c. save c.0 (channel_bytes (record (c.1) { members = without_member session c.1.members }))))
+abbrev pub recorded_as : Option ObjectId → ConnNo → Act (Option (ObjectId × SessionRecord))
+recorded_as None conn s = (Ok None, s)
+recorded_as (Some id) conn s = and_then (get_as SESSION_KIND session_of id) (λ r. give (Ok (if nat_eq r.conn.0 conn.0 then Some (id, r) else None))) s
 
-abbrev pub leave_each : List ℕ → List Session → Act (Unit {0})
-leave_each name [] = give (Ok tt)
-leave_each name (m ∷ members) = and_then (leave_member name m) (λ _. leave_each name members)
+-- the session's record, where it is recorded with its number
+abbrev pub record_if_connected : Session → Act (Option (ObjectId × SessionRecord))
+record_if_connected session s = recorded_as (platform_bound s (session_name session.name)) session.conn s
 
--- each member leaves, in joining order
+abbrev pub drop_recorded : List ℕ → Option (ObjectId × SessionRecord) → Act (Unit {0})
+drop_recorded name None = give (Ok tt)
+drop_recorded name (Some r) = save r.0 (session_bytes (record (r.1) { channels = without_channel name r.1.channels }))
+
+-- the channel leaves the record of a session that is recorded with its number
+unfoldable pub drop_channel : List ℕ → Session → Act (Unit {0})
+drop_channel name session = and_then (record_if_connected session) (drop_recorded name)
+
+abbrev pub drop_each : List ℕ → List Session → Act (Unit {0})
+drop_each name [] = give (Ok tt)
+drop_each name (m ∷ members) = and_then (drop_channel name m) (λ _. drop_each name members)
+
+abbrev pub leave_members : List ℕ → ObjectId × ChannelRecord → List Session → Act (Unit {0})
+leave_members name c [] = give (Ok tt)
+leave_members name c (m ∷ members) = and_then (save c.0 (channel_bytes (record (c.1) { members = [] }))) (λ _. drop_each name (m ∷ members))
+
+-- each member leaves, in joining order; one whose session is not recorded with its number loses its place among the members alone
 unfoldable pub leave_all : List ℕ → Act (Unit {0})
-leave_all name = within Platform (and_then (channel_under name) (λ c. leave_each name c.1.members))
+leave_all name = within Platform (and_then (channel_under name) (λ c. leave_members name c c.1.members))
 
 -- the members, in joining order
 unfoldable pub members : List ℕ → Act (List Session)

@@ -22,7 +22,8 @@ use Rattle.dk_model.specs.Effects.{effects, effects_length}
 use Rattle.dk_model.specs.Runs.{Run, Act, begun, give, and_then, within, send, with_task}
 use Rattle.dk_model.specs.declared.records.ChannelRecord.{ChannelRecord}
 use Rattle.dk_model.specs.Records.{session_name, channel_name, CHANNEL_KIND, channel_of}
-use Rattle.dk_model.specs.Platforms.{platform_bound, is_connected, open_record, close_record, own_record, leave, get_as, is_member, channel_send}
+use Rattle.dk_model.specs.References.{get_as}
+use Rattle.dk_model.specs.Platforms.{platform_bound, is_connected, open_record, close_record, own_record, leave, is_member, channel_send}
 
 -- the least `due + m * period` with m at least 1 that is above the moment
 abbrev pub next_due : ℕ → ℕ → ℕ → ℕ

@@ -10,7 +10,8 @@ use Rattle.dk_model.specs.declared.records.SessionRecord.{SessionRecord}
 use Rattle.dk_model.specs.Runs as act
 use Rattle.dk_model.specs.Runs.{Run, Act, and_then, give, found, refuse}
 use Rattle.dk_model.specs.Records.{SESSION_KIND, session_of, session_bytes, session_name, is_name_too_long}
-use Rattle.dk_model.specs.Platforms.{get_as, is_connected, new_record, platform_bound, numbered}
+use Rattle.dk_model.specs.References.{get_as}
+use Rattle.dk_model.specs.Platforms.{is_connected, new_record, platform_bound, numbered}
 use Rattle.dk_plain.specs.declared.halt.Halt.{Halt}
 use Rattle.dk_plain.specs.declared.halt.Halt.TheVariants as halt
 use Rattle.dk_plain.specs.declared.run.PlainRun.{PlainRun}

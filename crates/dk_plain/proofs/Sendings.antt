@@ -18,7 +18,8 @@ use Rattle.dk_model.specs.DurableWorlds.{DurableWorld}
 use Rattle.dk_model.specs.Runs as act
 use Rattle.dk_model.specs.Runs.{Run, Act, give, and_then, carry_on, within, refuse, begun, send}
 use Rattle.dk_model.specs.Records.{SESSION_KIND, session_of, session_name, is_name_too_long}
-use Rattle.dk_model.specs.Platforms.{platform_bound, get_as, found_as, record_under, session_under, numbered, is_connected, new_record, open_record}
+use Rattle.dk_model.specs.References.{get_as}
+use Rattle.dk_model.specs.Platforms.{platform_bound, found_as, record_under, session_under, numbered, is_connected, new_record, open_record}
 use Rattle.dk_model.specs.Steps.{of_session, login_found, login, for_session, work, Stepped, step, ended, kept_by, failed_outs, is_too_large}
 use Rattle.dk_plain.specs.PlainJobs.{IsPlain}
 use Rattle.dk_plain.specs.Sendings.{SendsAtMost, IsTerse}

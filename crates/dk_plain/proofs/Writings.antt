@@ -20,7 +20,8 @@ use Rattle.dk_model.specs.Effects.{effects, effects_length}
 use Rattle.dk_model.specs.Runs as act
 use Rattle.dk_model.specs.Runs.{Run, Act, give, and_then, carry_on, within, refuse, begun, send}
 use Rattle.dk_model.specs.Records.{SESSION_KIND, session_bytes, session_of, session_name}
-use Rattle.dk_model.specs.Platforms.{platform_bound, get_as, numbered, is_connected, new_record, open_record}
+use Rattle.dk_model.specs.References.{get_as}
+use Rattle.dk_model.specs.Platforms.{platform_bound, numbered, is_connected, new_record, open_record}
 use Rattle.dk_model.specs.Steps.{of_session, login_found, login, for_session, work, is_too_large}
 use Rattle.dk_plain.specs.PlainJobs.{IsPlain}
 use Rattle.dk_plain.specs.Writings.{WritesAtMost, IsFrugal}

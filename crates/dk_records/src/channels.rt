@@ -127,7 +127,6 @@ fn delivery_from(number: u8) -> Delivery
 
 /// The bytes of a channel's record.
 pub fn encode_channel(alloc: Global, channel: &ChannelRecord) -> Result<Blob, NoMemory>
-    requires { IsChannelRecord channel.now }
     ensures { IfOk result (λ bytes. bytes ≡ channel_bytes channel.now) }
 {
     encode::<ChannelRecord, ChannelForm>(alloc, channel)

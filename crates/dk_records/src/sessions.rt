@@ -48,7 +48,6 @@ impl Form<SessionRecord> for SessionForm {
 
 /// The bytes of a session's record.
 pub fn encode_session(alloc: Global, session: &SessionRecord) -> Result<Blob, NoMemory>
-    requires { IsSessionRecord session.now }
     ensures { IfOk result (λ bytes. bytes ≡ session_bytes session.now) }
 {
     encode::<SessionRecord, SessionForm>(alloc, session)

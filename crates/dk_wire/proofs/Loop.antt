@@ -1,5 +1,5 @@
 -- Items read one after the other, as a loop does.
-use Rattle.std.proofs.Common.{◌≡◌, ℕ, zero, suc, ◌-◌, ◌+◌, ◌≤◌, ◌<◌, List, [], ◌∷◌, ◌++◌, length, Option, Some, Result, Ok, Err, refl, sym, ap, subst, get_or, ◌∙◌, append_assoc, length-append, arith}
+use Rattle.std.proofs.Common.{◌≡◌, ℕ, suc, ◌-◌, ◌+◌, ◌≤◌, ◌<◌, List, [], ◌∷◌, ◌++◌, length, Option, Some, Result, Ok, Err, refl, sym, ap, ◌∙◌, append_assoc, length-append, arith}
 use Rattle.std.specs.List.{slice_get}
 use Rattle.std.proofs.lemmas.List.{append-nil}
 use Rattle.dk_wire.specs.declared.payload.PayloadRefused.{PayloadRefused}
@@ -7,7 +7,7 @@ use Rattle.dk_wire.specs.declared.payload.PayloadRefused.TheVariants.{NotInGramm
 use Rattle.dk_wire.specs.Rest.{Rest}
 use Rattle.dk_wire.specs.Reading.{◌>>=◌}
 use Rattle.dk_wire.specs.Payload.{Misses}
-use Rattle.dk_wire.specs.Lists.{AreChained, items_at}
+use Rattle.dk_wire.specs.Lists.{items_at}
 
 -- the last item, if there is one
 abbrev pub last_of : {A : Type 0} → List A → Option A
@@ -55,9 +55,3 @@ is_done item front count i r total le so_far =
     let k : count - i ≡ 0 = omega arith in
     let one : with_front front (items_at item (last_of front) (count - i) r) ≡ Ok (front, r) = rw k (ap (λ (xs : List _). Ok (xs, r)) (append-nil front)) in
     sym so_far ∙ one
-
--- each item of a chain fits behind some item or none
-pub chained_fits : {A : Type 0} (Fits : Option A → A → Type 0) (before : Option A) (xs : List A) (i : ℕ) (x : A) → AreChained Fits before xs → i < length xs → x ≡ get_or xs i x → (last : Option A) × Fits last x
-chained_fits Fits before [] i x each lt is = absurd (omega (arith, lt))
-chained_fits Fits before (y ∷ xs) zero x each lt is = (before, subst (Fits before) (sym is) each.0)
-chained_fits Fits before (y ∷ xs) (suc i) x each lt is = chained_fits Fits (Some y) xs i x each.1 (omega (arith, lt)) is

@@ -30,7 +30,6 @@ pub trait Form<T> {
 
     /// Puts an item. Where there is no memory, what the writer holds is not said: let it go.
     fn put(writer: &mut Writer, item: &T) -> Result<(), NoMemory>
-        requires { (before : Option T) × fits before item.now }
         ensures { OnOk result (writer.new ≡ writer.old ++ spelling item.now) };
 
     /// Takes an item that stands behind `before`.
@@ -41,9 +40,8 @@ pub trait Form<T> {
     ghost exact: { (before : Option T) → IsExact (fits before) spelling (reading before) };
 }
 
-/// The spelling of a value.
+/// The spelling of a value. That of one that does not fit is no value's own, and `decode` refuses it.
 pub fn encode<T, F: Form<T>>(alloc: Global, value: &T) -> Result<Blob, NoMemory>
-    requires { F.fits None value.now }
     ensures { IfOk result (λ payload. payload ≡ F.spelling value.now) }
 {
     let mut writer = Writer::new(alloc);
@@ -68,13 +66,12 @@ fn decode_any<T: Drop, F: Form<T>>(alloc: Global, payload: &[u8]) -> Result<T, P
     Ok(value)
 }
 
-/// Puts the number of the items, and the items. Where there is no memory, what the writer holds is not said: let it go.
+/// Puts the number of the items, the low 32 bits of it where there are more, and the items. Where there is no memory, what the writer holds is not said: let it go.
 #[tactic(auto, unfolding(crate::specs::Lists::list_spelling))]
 pub fn put_list<T, F: Form<T>>(writer: &mut Writer, items: &[T]) -> Result<(), NoMemory>
-    requires { IsList F.fits items.now }
     ensures { OnOk result (writer.new ≡ writer.old ++ list_spelling F.spelling items.now) }
 {
-    writer.put_u32(items.len() as u32)?;
+    writer.put_count(items.len() as u64)?;
     for item in items {
         F::put(writer, item)?;
     }

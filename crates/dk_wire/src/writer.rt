@@ -70,6 +70,18 @@ impl Writer {
         Ok(())
     }
 
+    /// Puts the number of a list's items: its low 32 bits, which are all of it below 2^32.
+    #[tactic(auto, unfolding(crate::specs::Fields::u32_spelling))]
+    pub(crate) fn put_count(&mut self, count: u64) -> Result<(), NoMemory>
+        ensures ok { OnOk result (self.new ≡ self.old ++ u32_spelling count) }
+        ensures err { OnErr result (self.new ≡ self.old) }
+    {
+        let mut bytes = [0; 8];
+        BigEndian::write_u64(&mut bytes, count);
+        self.out.extend_from_slice(&bytes[4..])?;
+        Ok(())
+    }
+
     #[tactic(auto, unfolding(crate::specs::Fields::u64_spelling))]
     pub fn put_u64(&mut self, value: u64) -> Result<(), NoMemory>
         ensures ok { OnOk result (self.new ≡ self.old ++ u64_spelling value) }
@@ -90,17 +102,16 @@ impl Writer {
         append_both(&mut self.out, &[name.len() as u8], name)
     }
 
-    /// Puts the blob, which the caller holds below 2^32 bytes.
+    /// Puts the blob, whose length is its low 32 bits where it has more bytes.
     #[tactic(auto, unfolding(crate::specs::Fields::blob_spelling, crate::specs::Fields::u32_spelling))]
     pub fn put_blob(&mut self, value: &Blob) -> Result<(), NoMemory>
-        requires { length value.now < 2 ^ 32 }
         ensures ok { OnOk result (self.new ≡ self.old ++ blob_spelling value.now) }
         ensures err { OnErr result (self.new ≡ self.old) }
     {
         let blob = value.as_slice();
-        let mut len = [0; 4];
-        BigEndian::write_u32(&mut len, blob.len() as u32);
-        append_both(&mut self.out, &len, blob)
+        let mut len = [0; 8];
+        BigEndian::write_u64(&mut len, blob.len() as u64);
+        append_both(&mut self.out, &len[4..], blob)
     }
 
     #[tactic(auto, unfolding(crate::specs::Fields::id_spelling, crate::specs::Fields::u64_spelling, crate::specs::Fields::u32_spelling))]

@@ -96,7 +96,6 @@ impl Form<Scores> for ScoresForm {
 
 /// The spelling of scores.
 pub fn encode_scores(alloc: Global, scores: &Scores) -> Result<Blob, NoMemory>
-    requires { AreScores scores.now }
     ensures { IfOk result (λ payload. payload ≡ scores_spelling scores.now) }
 {
     encode::<Scores, ScoresForm>(alloc, scores)

@@ -4,7 +4,7 @@ use Rattle.std.specs.Result.{IsErrAnd}
 use Rattle.std.proofs.lemmas.List.{drop_all}
 use Rattle.dk_types.specs.declared.number.ObjectId.{ObjectId}
 use Rattle.dk_model.specs.Runs.{Run, Act, give, and_then, carry_on}
-use Rattle.dk_model.specs.Platforms.{get_as}
+use Rattle.dk_model.specs.References.{get_as}
 use Rattle.dk_plain.specs.declared.halt.Halt.{Halt}
 use Rattle.dk_plain.specs.declared.run.PlainRun.{PlainRun}
 use Rattle.dk_plain.specs.Plains.{run_of, Does}

@@ -2,7 +2,7 @@
 use Rattle.std.specs.Prelude.{ℕ, Option, List, [], ◌∷◌, ◌++◌, Ok}
 use Rattle.dk_types.specs.declared.number.ObjectId.{ObjectId}
 use Rattle.dk_model.specs.Runs.{Act, give, and_then}
-use Rattle.dk_model.specs.Platforms.{get_as}
+use Rattle.dk_model.specs.References.{get_as}
 
 -- what each object is called, after those so far
 abbrev pub labels_from : {A : Type 0} → ℕ → (List ℕ → Option A) → (A → List ℕ) → List (List ℕ) → List ObjectId → Act (List (List ℕ))

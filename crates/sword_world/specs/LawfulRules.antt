@@ -15,7 +15,8 @@ use Rattle.dk_wire.specs.Lists.{list_spelling}
 use Rattle.dk_model.specs.Lawful.{IsJob, AreLawful}
 use Rattle.dk_model.proofs.Acts.{Anything, AreBytes, IsId, IsLawful, lawful_rules, lawful_then, lawful_give, lawful_done, lawful_refuse, lawful_needs, lawful_if, lawful_if_at, lawful_looks}
 use Rattle.dk_model.proofs.Operations.{lawful_create, lawful_save, lawful_bound, lawful_bind, lawful_send}
-use Rattle.dk_model.proofs.PlatformActs.{IsSomeId, bound_says, lawful_get_as}
+use Rattle.dk_model.proofs.ReferenceActs.{lawful_get_as}
+use Rattle.dk_model.proofs.PlatformActs.{IsSomeId, bound_says}
 use Rattle.dk_model.proofs.Bytes.{bytes_append, bytes_nil, bytes_cons, bytes_of_id, bytes_of_list, bytes_of_name, name_of_ascii, name_after}
 use Rattle.sword_world.specs.declared.things.Room.{Room}
 use Rattle.sword_world.specs.Things.{ROOM, THING, PLAYER, room_bytes, room_of, thing_bytes, thing_of, player_bytes, player_of}

@@ -8,7 +8,8 @@ use Rattle.dk_types.specs.declared.job.Job.TheVariants as job
 use Rattle.dk_types.specs.declared.job.Out.TheVariants as out
 use Rattle.dk_model.specs.Runs.{Run, Act, give, and_then, refuse, create, save, bound, bind, send, TOO_LONG}
 use Rattle.dk_model.specs.Effects.{same_id}
-use Rattle.dk_model.specs.Platforms.{get_as, same_name}
+use Rattle.dk_model.specs.References.{get_as}
+use Rattle.dk_model.specs.Platforms.{same_name}
 use Rattle.dk_model.specs.Records.{is_name_too_long}
 use Rattle.std.specs.Str.{str_to_ascii_lowercase}
 use Rattle.sword_world.specs.declared.things.Room.{Room}

@@ -1,5 +1,5 @@
 use Rattle.std.proofs.Common.{sym, ap, ◌∙◌}
-use Rattle.dk_model.specs.Platforms.{get_as}
+use Rattle.dk_model.specs.References.{get_as}
 use Rattle.dk_plain.proofs.Parts.{halts}
 use Rattle.dk_plain.proofs.Platform.{get_as_wrong, get_as_bad, get_as_good}
 use Rattle.dk_plain.proofs.run.PlainRun.get_as.Goals as goal
