@@ -7,4 +7,3 @@ pub mod Memories
 pub mod Parts
 pub mod Made
 pub mod TornImages
-pub mod Moments

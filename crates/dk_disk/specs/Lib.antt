@@ -8,4 +8,3 @@ pub mod Step
 pub mod CallRecord
 pub mod Memory
 pub mod Torn
-pub mod Stops

@@ -21,10 +21,6 @@ other_side One = Zero
 abbrev pub MayLeave : Past → ℕ → List ℕ → List ℕ → Type 0
 MayLeave past t zero one = IsImage (past.disks t Zero) zero × IsImage (past.disks t One) one
 
--- a stop at some moment from t on may have left these two files
-abbrev pub LeftSince : Past → ℕ → List ℕ → List ℕ → Type 0
-LeftSince past t zero one = (k : ℕ) × (t ≤ k) × (k ≤ past.clock) × MayLeave past k zero one
-
 -- Time goes on: what was stays, and each later moment has what there is now. What a read gives is an image.
 pub record Elapses (old new : Past) : Type 0 where
   pub later : old.clock ≤ new.clock

@@ -13,7 +13,7 @@ use Rattle.dk_types.specs.Names.{IsName, bytes_cmp}
 use Rattle.dk_model.specs.DurableWorlds.{Task, is_above, first_key, next_name}
 use Rattle.dk_model.specs.Validity.{IsObject, IsTask, IsBody}
 use Rattle.dk_model.specs.Runs as act
-use Rattle.dk_model.specs.Runs.{Run, Act, found, refuse, with_object, with_name, with_task}
+use Rattle.dk_model.specs.Runs.{Run, found, with_name}
 use Rattle.dk_model.specs.Lawful.{IsFit}
 use Rattle.dk_model.proofs.Maps.{names_total, keys_total, exact_keys, get-with_value_cases, not_both, some_is}
 use Rattle.dk_model.proofs.Goings.{goes_sending, goes_object, goes_name, goes_task}

@@ -21,9 +21,13 @@ pub struct Store<L: Side, J: Naming> {
 }
 
 impl<L: Side, J: Naming> Store<L, J> {
+    /// A store that has seen nothing.
     pub fn new(pass: Pass<World<L>, J>, share: Share<L>) -> Store<L, J>
         requires pass { pass.front ≡ [] }
         requires share { (share.parts ≡ L.all) × (share.amount ≡ 0) }
+        ensures stored { result.stored ≡ 0 }
+        ensures pass { result.pass ≡ pass }
+        ensures share { result.share ≡ share }
     {
         Store {
             stored: 0,
