@@ -52,6 +52,10 @@ stamped_code =
     (λ p. record { objects = p.0.0; names = p.0.1.0; tasks = p.0.1.1; commits = p.1.0.0; last = p.1.0.1; room = p.1.1 })
     (λ _. refl)
 
+-- nothing at all, and no room
+abbrev pub nothing : Stamped
+nothing = record { objects = map.empty; names = map.empty; tasks = map.empty; commits = 0; last = None; room = record { objects = 0; names = 0; tasks = 0 } }
+
 -- the same world with other room
 abbrev pub with_room : Room → Stamped → Stamped
 with_room room w = record w { room = room }
