@@ -7,7 +7,7 @@ use Rattle.std.specs.Ordering.{eq_by_cmp}
 use Rattle.std.specs.Option.{option_map}
 use Rattle.std.specs.List.{list_any}
 use Rattle.std.specs.FinMap.{FinMap, IsAntisymmetric, get}
-use Rattle.std.specs.FinMap.Entries.{find, is_some-find}
+use Rattle.std.specs.FinMap.Entries.{is_some-find}
 use Rattle.dk_types.specs.declared.number.RunNo.{RunNo}
 use Rattle.dk_types.specs.declared.number.ObjectId.{ObjectId}
 use Rattle.dk_types.specs.declared.number.TaskKey.{TaskKey}
@@ -17,7 +17,6 @@ use Rattle.dk_types.specs.declared.item.Item.TheVariants as ask
 use Rattle.dk_types.specs.declared.item.Seen.TheVariants as sight
 use Rattle.dk_types.specs.declared.durable.Effects.{Effects}
 use Rattle.dk_types.specs.Names.{bytes_cmp}
-use Rattle.dk_map.specs.Values.{values_with}
 use Rattle.dk_map.proofs.Values.{get_values}
 use Rattle.dk_model.specs.Keys.{id_cmp, key_cmp}
 use Rattle.dk_model.specs.DurableWorlds.{DurableWorld, Task, task_answer, last_with}
@@ -27,9 +26,9 @@ use Rattle.dk_model.specs.Steps.{Stepped}
 use Rattle.dk_model.proofs.Maps.{some_is, ids_total, exact_ids, keys_total, exact_keys, names_total, exact_names}
 use Rattle.dk_laws.proofs.EffectsMade.{Tells, Kept as KeptIn, find-kept, objects_told, ids_told, apply-effects}
 use Rattle.dk_laws.proofs.Stamps.{lacked, same_object_item, same_name_item, same_task_item}
-use Rattle.dk_tasks.specs.Tasks.{Kept, durable_tasks}
+use Rattle.dk_tasks.specs.Tasks.{Kept}
 use Rattle.dk_tasks.proofs.Durable.{get-durable}
-use Rattle.dk_durable.specs.StampedWorlds.{Stamped, Room, with_room, durable_of, stamp_in, sight_of, seen_now, HasStamps}
+use Rattle.dk_durable.specs.StampedWorlds.{Stamped, with_room, durable_of, stamp_in, sight_of, HasStamps}
 use Rattle.dk_durable.specs.Publishing.{published, committed}
 use Rattle.dk_durable.specs.Commits.{next_entry, sets, StampsAfter, claimed_at, ClaimsAfter, StepsFrom, ComesTo}
 use Rattle.dk_durable.proofs.MapFacts.{any-same}

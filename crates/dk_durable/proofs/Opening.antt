@@ -3,10 +3,9 @@ use Rattle.std.proofs.Common.{◌≡◌, ℕ, refl, sym, ap, subst, ◌∙◌, B
 use Rattle.std.specs.Ordering.{eq_by_cmp}
 use Rattle.std.specs.Option.{option_map}
 use Rattle.std.specs.List.{list_any}
-use Rattle.std.specs.FinMap.{FinMap, empty, get, get-empty}
+use Rattle.std.specs.FinMap.{FinMap, empty, get-empty}
 use Rattle.dk_types.specs.declared.number.RunNo.{RunNo}
 use Rattle.dk_types.specs.declared.number.ObjectId.{ObjectId}
-use Rattle.dk_types.specs.declared.number.TaskKey.{TaskKey}
 use Rattle.dk_types.specs.declared.object.Object.{Object}
 use Rattle.dk_types.specs.declared.item.Item.TheVariants as ask
 use Rattle.dk_types.specs.declared.durable.Pending.{Pending}

@@ -1,5 +1,5 @@
 -- Reads that stand, and the first that does not.
-use Rattle.std.proofs.Common.{◌≡◌, ℕ, ◌+◌, ◌<◌, refl, sym, ap, subst, ◌∙◌, Bool, true, false, suc, nat_eq, List, [], ◌∷◌, ◌++◌, length, take, drop, get_or, take-append-drop, drop-cons, Option, None, Some}
+use Rattle.std.proofs.Common.{◌≡◌, ℕ, ◌+◌, ◌<◌, refl, sym, ap, subst, ◌∙◌, true, false, suc, nat_eq, List, [], ◌∷◌, ◌++◌, length, take, drop, get_or, take-append-drop, drop-cons, Option, None, Some}
 use Rattle.std.proofs.lemmas.List.{take_more}
 use Rattle.std.specs.List.{AllByRecursion}
 use Rattle.std.specs.Cmp.Lexicographic.{pointwise}

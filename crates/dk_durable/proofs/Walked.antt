@@ -1,11 +1,9 @@
 -- The lists that a walk over the stores copies.
 use Rattle.std.proofs.Common.{◌≡◌, ℕ, refl, sym, ap, ◌∙◌, List, [], ◌∷◌, ◌++◌, map}
 use Rattle.std.proofs.lemmas.List.{append-nil}
-use Rattle.dk_types.specs.declared.number.ObjectId.{ObjectId}
-use Rattle.dk_types.specs.declared.object.Object.{Object}
 use Rattle.std.specs.FinMap.{FinMap, entries}
 use Rattle.std.specs.declared.cmp.Ordering.{Ordering}
-use Rattle.dk_map.specs.Values.{values_with, entries_with}
+use Rattle.dk_map.specs.Values.{values_with}
 use Rattle.dk_map.proofs.Values.{entries_values}
 
 -- a walk that has come to its end has listed all

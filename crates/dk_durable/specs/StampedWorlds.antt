@@ -1,5 +1,5 @@
 -- What the world in its stores is seen as: the durable world with a stamp on each item, and what a read sees of it.
-use Rattle.std.specs.Prelude.{◌≡◌, ℕ, Option, Some, None, List, refl}
+use Rattle.std.specs.Prelude.{◌≡◌, ℕ, Option, Some, None, refl}
 use Rattle.std.specs.Option.{option_map}
 use Rattle.std.specs.Coded.{Coded, code_by, coded×, coded_ℕ, coded_list, coded_option}
 use Rattle.std.specs.FinMap as map

@@ -1,5 +1,5 @@
 // Runs on a world, committed one after another.
-use crate::{Changed, Committed, StampedWorld};
+use crate::{Changed, Committed, StampedWorld, WorldLook};
 use dk_txn::{Finished, Txn};
 use dk_types::{Answer, Blob, Item, Job, Name, ObjectId, Read, RunNo, Seen, TaskKey};
 use std::alloc::Global;
@@ -17,63 +17,64 @@ fn place_0(run: u64) -> ObjectId {
     }
 }
 
-/// A run that makes an object and binds the name to it.
-fn builds(alloc: Global, world: &StampedWorld, run: u64) -> Result<Finished, Fail> {
-    let mut look = world.look();
-    let mut txn = Txn::begin(alloc, &mut look, RunNo(run), 0);
-    let id = txn
-        .create(1, Blob::from_vec(Vec::new(alloc)))
-        .ok()
-        .ok_or("an object")?;
-    txn.bind(&hall(alloc)?, id).ok().ok_or("bound")?;
-    Ok(txn
-        .finish(&Job::Initialize, Ok(()))
-        .ok()
-        .ok_or("finished")?)
+/// What a run does.
+#[derive(Clone, Copy)]
+enum Deed {
+    /// Makes an object and binds the name to it.
+    Build,
+    /// Unbinds the name.
+    Leave,
+    /// Schedules a task for every 10 ms.
+    Schedule,
+    /// That task's own occurrence.
+    Occur(TaskKey),
 }
 
-/// A run that unbinds the name.
-fn leaves(alloc: Global, world: &StampedWorld, run: u64) -> Result<Finished, Fail> {
-    let mut look = world.look();
-    let mut txn = Txn::begin(alloc, &mut look, RunNo(run), 0);
-    txn.unbind(&hall(alloc)?).ok().ok_or("unbound")?;
-    Ok(txn
-        .finish(&Job::Initialize, Ok(()))
-        .ok()
-        .ok_or("finished")?)
+fn play(alloc: Global, txn: &mut Txn<'_, WorldLook<'_>>, deed: Deed) -> Result<(), Fail> {
+    let nothing = Blob::from_vec(Vec::new(alloc));
+    match deed {
+        Deed::Build => {
+            let id = txn.create(1, nothing).ok().ok_or("an object")?;
+            txn.bind(&hall(alloc)?, id).ok().ok_or("bound")?;
+        }
+        Deed::Leave => txn.unbind(&hall(alloc)?).ok().ok_or("unbound")?,
+        Deed::Schedule => {
+            txn.schedule_periodic(3, nothing, 10, 10)
+                .ok()
+                .ok_or("scheduled")?;
+        }
+        Deed::Occur(key) => {
+            txn.own_task(key, 10, 10).ok().ok_or("its task")?;
+        }
+    }
+    Ok(())
 }
 
-/// A run that schedules a task for every 10 ms.
-fn schedules(alloc: Global, world: &StampedWorld, run: u64) -> Result<Finished, Fail> {
-    let mut look = world.look();
-    let mut txn = Txn::begin(alloc, &mut look, RunNo(run), 0);
-    txn.schedule_periodic(3, Blob::from_vec(Vec::new(alloc)), 10, 10)
-        .ok()
-        .ok_or("scheduled")?;
-    Ok(txn
-        .finish(&Job::Initialize, Ok(()))
-        .ok()
-        .ok_or("finished")?)
+fn job(alloc: Global, deed: Deed) -> Job {
+    match deed {
+        Deed::Build | Deed::Leave | Deed::Schedule => Job::Initialize,
+        Deed::Occur(key) => Job::Task {
+            key,
+            due: 10,
+            period: 10,
+            kind: 3,
+            arg: Blob::from_vec(Vec::new(alloc)),
+        },
+    }
 }
 
-/// An occurrence of that task, at 15 ms.
-fn occurs(
-    alloc: Global,
-    world: &StampedWorld,
-    key: TaskKey,
-    run: u64,
-) -> Result<Finished, Fail> {
-    let mut look = world.look();
-    let mut txn = Txn::begin(alloc, &mut look, RunNo(run), 15);
-    txn.own_task(key, 10, 10).ok().ok_or("its task")?;
-    let job = Job::Task {
-        key,
-        due: 10,
-        period: 10,
-        kind: 3,
-        arg: Blob::from_vec(Vec::new(alloc)),
+/// A run at 0 ms, or at 15 ms where it is an occurrence.
+fn run(alloc: Global, world: &StampedWorld, number: u64, deed: Deed) -> Result<Finished, Fail> {
+    let at = match deed {
+        Deed::Build | Deed::Leave | Deed::Schedule => 0,
+        Deed::Occur(_) => 15,
     };
-    Ok(txn.finish(&job, Ok(())).ok().ok_or("finished")?)
+    let mut look = world.look();
+    let mut txn = Txn::begin(alloc, &mut look, RunNo(number), at);
+    let played = play(alloc, &mut txn, deed);
+    let finished = txn.finish(&job(alloc, deed), Ok(()));
+    played?;
+    Ok(finished.ok().ok_or("finished")?)
 }
 
 fn commit(
@@ -101,8 +102,8 @@ fn named(id: ObjectId, stamp: u64) -> Read {
 fn a_stale_read_is_told(rt: HostRuntime) -> Result<(), Fail> {
     let alloc = rt.alloc();
     let mut world = StampedWorld::new(alloc);
-    let first = builds(alloc, &world, 0)?;
-    let second = builds(alloc, &world, 1)?;
+    let first = run(alloc, &world, 0, Deed::Build)?;
+    let second = run(alloc, &world, 1, Deed::Build)?;
     assert_eq!(rt; commit(&rt, &mut world, first, 0)?.seq, 1);
     let item = Item::Bound(hall(alloc)?);
     assert!(rt; world.read(&item) == Ok(named(place_0(0), 1)));
@@ -119,9 +120,9 @@ fn a_stale_read_is_told(rt: HostRuntime) -> Result<(), Fail> {
 fn an_unbound_name_is_gone(rt: HostRuntime) -> Result<(), Fail> {
     let alloc = rt.alloc();
     let mut world = StampedWorld::new(alloc);
-    let first = builds(alloc, &world, 0)?;
+    let first = run(alloc, &world, 0, Deed::Build)?;
     commit(&rt, &mut world, first, 0)?;
-    let second = leaves(alloc, &world, 3)?;
+    let second = run(alloc, &world, 3, Deed::Leave)?;
     assert_eq!(rt; commit(&rt, &mut world, second, 3)?.seq, 2);
     let next = Read {
         answer: Answer::Next(None),
@@ -138,12 +139,12 @@ fn an_unbound_name_is_gone(rt: HostRuntime) -> Result<(), Fail> {
 fn a_task_that_is_due_again_keeps_its_stamp(rt: HostRuntime) -> Result<(), Fail> {
     let alloc = rt.alloc();
     let mut world = StampedWorld::new(alloc);
-    let first = schedules(alloc, &world, 0)?;
+    let first = run(alloc, &world, 0, Deed::Schedule)?;
     commit(&rt, &mut world, first, 0)?;
     let Some(key) = world.least_due(10) else {
         return Err(Fail::from("a task"));
     };
-    let second = occurs(alloc, &world, key, 1)?;
+    let second = run(alloc, &world, 1, Deed::Occur(key))?;
     commit(&rt, &mut world, second, 1)?;
     assert!(rt; world.least_due(19).is_none());
     assert_eq!(rt; world.least_due(20), Some(key));
@@ -159,9 +160,9 @@ fn a_task_that_is_due_again_keeps_its_stamp(rt: HostRuntime) -> Result<(), Fail>
 fn a_list_is_opened_and_copied(rt: HostRuntime) -> Result<(), Fail> {
     let alloc = rt.alloc();
     let mut world = StampedWorld::new(alloc);
-    let first = builds(alloc, &world, 0)?;
+    let first = run(alloc, &world, 0, Deed::Build)?;
     commit(&rt, &mut world, first, 0)?;
-    let second = schedules(alloc, &world, 1)?;
+    let second = run(alloc, &world, 1, Deed::Schedule)?;
     commit(&rt, &mut world, second, 1)?;
     let list = world.durable(alloc).ok().ok_or("a list")?;
     let again = StampedWorld::open(alloc, list).ok().ok_or("a world")?;

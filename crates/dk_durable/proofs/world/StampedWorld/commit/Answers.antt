@@ -1,5 +1,4 @@
-use Rattle.std.proofs.Common.{◌≡◌, ap, ◌∙◌, List}
-use Rattle.dk_types.specs.declared.item.Item.{Item}
+use Rattle.std.proofs.Common.{◌≡◌, ap, ◌∙◌}
 use Rattle.dk_model.specs.Finishes.{Told}
 use Rattle.dk_durable.specs.StampedWorlds.{with_room}
 use Rattle.dk_durable.specs.Publishing.{committed}
