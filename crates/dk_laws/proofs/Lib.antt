@@ -5,6 +5,7 @@ pub mod ClaimedOnce
 pub mod EffectsMade
 pub mod Handed
 pub mod Stamps
+pub mod StepDues
 pub mod Entries
 pub mod Picked
 pub mod OpenClaims

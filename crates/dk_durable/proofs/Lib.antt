@@ -1,0 +1,11 @@
+pub mod AfterCommit
+pub mod Claiming
+pub mod Forgotten
+pub mod Keys
+pub mod LawfulSteps
+pub mod MapFacts
+pub mod Opening
+pub mod Reading
+pub mod Stamped
+pub mod Standing
+pub mod Walked
