@@ -1,5 +1,5 @@
 -- What the store is seen as: a finite map from numbers to connections, each with whether a claimed run has its first input.
-use Rattle.std.specs.Prelude.{◌≡◌, ℕ, refl, ◌&&◌, not, Bool, true, false, Option, None, Some, List, if◌then◌else◌}
+use Rattle.std.specs.Prelude.{◌≡◌, ℕ, refl, ◌&&◌, not, Bool, true, false, Option, None, Some, List, drop, if◌then◌else◌}
 use Rattle.std.specs.Coded.{Coded, code_by, coded×, coded_ℕ, coded_bool, coded_list}
 use Rattle.std.specs.FinMap.{FinMap, code, get, insert, retain_keys}
 use Rattle.dk_types.specs.declared.number.ConnNo.{ConnNo}
@@ -52,6 +52,14 @@ unclaimed c = record { connection = c; claimed = false }
 -- a change of the connection, which leaves the mark
 abbrev pub linked : (Connection → Connection) → Linked → Linked
 linked f l = record l { connection = f l.connection }
+
+-- the first messages are handed
+abbrev pub less_first : ℕ → Connection → Connection
+less_first most c = record c { outbox = drop most c.outbox }
+
+-- nothing more is sent to it
+abbrev pub over_now : Connection → Connection
+over_now c = record c { over = true }
 
 -- a claimed run has its first input, and gives it its turn
 abbrev pub with_turn : ℕ → Linked → Linked

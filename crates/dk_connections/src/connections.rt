@@ -8,7 +8,7 @@ ghost use Rattle.dk_model.specs.Openings.{ended_connection};
 ghost use Rattle.dk_model.specs.Deliveries.{change_connection, without_done};
 ghost use Rattle.dk_model.specs.Events.{outbox_at, put_last};
 ghost use Rattle.dk_model.specs.Picks.{pick_input};
-ghost use Rattle.dk_connections.specs.Linked.{all_of, change, left, linked, released, unclaimed, with_turn, IsSwept};
+ghost use Rattle.dk_connections.specs.Linked.{all_of, change, left, less_first, linked, released, unclaimed, with_turn, IsSwept};
 ghost use Rattle.dk_connections.specs.Posts.{PostAnswer};
 ghost use Rattle.dk_connections.specs.Ready.{first_at, job_at, least_ready as least_ready_of, HasConnections, HasInput, IsReadyAt};
 
@@ -194,7 +194,7 @@ impl Connections {
     /// The list alone takes memory; refused, it changes nothing.
     pub fn hand(&mut self, conn: ConnNo, most: u32) -> Result<Handed, NoMemory>
         ensures handed { IfOk result (λ handed. handed.outs ≡ take most (outbox_at (map.get (all_of self.old.connections) conn))) }
-        ensures linked { OnOk result (self.new.connections ≡ left (change conn (linked (λ c. record c { outbox = drop most c.outbox })) self.old.connections)) }
+        ensures linked { OnOk result (self.new.connections ≡ left (change conn (linked (less_first most)) self.old.connections)) }
         ensures world { OnOk result (all_of self.new.connections ≡ without_done (change_connection conn (λ c. record c { outbox = drop most c.outbox }) (all_of self.old.connections))) }
         ensures end { IfOk result (λ handed. handed.end ≡ is_none (map.get (all_of self.new.connections) conn)) }
         ensures swept { IsSwept self.new.connections }

@@ -1,12 +1,12 @@
 // A connection, as the store keeps it.
-ghost use Rattle.std.specs.Prelude.{◌≡◌, ◌==◌, ◌<◌, ◌||◌, not, length, take, drop, true, false, Some, IfOk, OnOk, OnErr};
+ghost use Rattle.std.specs.Prelude.{◌≡◌, ◌==◌, ◌<◌, ◌||◌, not, length, take, false, Some, IfOk, OnOk, OnErr};
 ghost use Rattle.dk_types.specs.declared.limits.TheConstants.{INPUTS_MOST_COUNT};
 ghost use Rattle.dk_model.specs.declared.waiting.Waiting.TheVariants as waits;
 ghost use Rattle.dk_model.specs.Worlds.{new_connection};
 ghost use Rattle.dk_model.specs.Openings.{ended_connection};
 ghost use Rattle.dk_model.specs.Deliveries.{close_off as closed_off, is_disconnect, is_done as is_done_at, takes, with_out};
 ghost use Rattle.dk_model.specs.Events.{put_last};
-ghost use Rattle.dk_connections.specs.Linked.{linked, released, run_ended, unclaimed, with_turn};
+ghost use Rattle.dk_connections.specs.Linked.{less_first, linked, over_now, released, run_ended, unclaimed, with_turn};
 ghost use Rattle.dk_connections.specs.Places.{place_of};
 ghost use Rattle.dk_connections.specs.Posts.{has_no_place_at, PostAnswer};
 ghost use Rattle.dk_connections.specs.Ready.{first_at};
@@ -205,7 +205,7 @@ impl Slot {
 
     /// Nothing more is sent to the connection.
     pub(crate) fn end(&mut self)
-        ensures { self.new ≡ linked (λ c. record c { over = true }) self.old }
+        ensures { self.new ≡ linked over_now self.old }
     {
         self.over = true;
     }
@@ -213,7 +213,7 @@ impl Slot {
     /// Takes the first messages off, `most` of them or all. Refused, it changes nothing.
     pub(crate) fn hand(&mut self, most: u32) -> Result<Listed<Out>, NoMemory>
         ensures handed { IfOk result (λ handed. handed ≡ take most self.old.connection.outbox) }
-        ensures left { OnOk result (self.new ≡ linked (λ c. record c { outbox = drop most c.outbox }) self.old) }
+        ensures left { OnOk result (self.new ≡ linked (less_first most) self.old) }
         ensures refused { OnErr result (self.new ≡ self.old) }
     {
         self.outbox.hand(most)

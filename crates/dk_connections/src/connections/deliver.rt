@@ -1,8 +1,8 @@
 // What a commit does to the connections.
-ghost use Rattle.std.specs.Prelude.{◌≡◌, true};
+ghost use Rattle.std.specs.Prelude.{◌≡◌};
 ghost use Rattle.std.specs.FinMap as map;
 ghost use Rattle.dk_model.specs.Deliveries.{closed_by, close_off as closed_off, conn_of as conn_of_job, delivered, ended_by as ended_by_job, for_conn, is_close, takes, with_closed, with_out, with_outs, without_done};
-ghost use Rattle.dk_connections.specs.Linked.{all_of, change, change_some, left, linked, run_ended, IsAlive, IsSwept, KeepsMarks, KeepsMarksBut};
+ghost use Rattle.dk_connections.specs.Linked.{all_of, change, change_some, left, linked, over_now, run_ended, IsAlive, IsSwept, KeepsMarks, KeepsMarksBut};
 
 use super::Connections;
 use crate::deliveries::Deliveries;
@@ -102,7 +102,7 @@ impl Connections {
     /// Nothing more is sent to a connection whose end was run.
     fn end(&mut self, conn: Option<ConnNo>)
         requires { IsAlive self.old.connections }
-        ensures linked { self.new.connections ≡ left (change_some conn (linked (λ c. record c { over = true })) self.old.connections) }
+        ensures linked { self.new.connections ≡ left (change_some conn (linked over_now) self.old.connections) }
         ensures alive { IsAlive self.new.connections }
     {
         let Some(conn) = conn else {

@@ -12,7 +12,7 @@ impl Connections {
     pub(crate) fn make_room(&mut self) -> Result<(), NoMemory>
         ensures connections { self.new.connections ≡ self.old.connections }
         ensures room { OnOk result (0 < self.new.spare) }
-        ensures alive { IsAlive self.new.connections }
+        ensures alive { IsAlive self.old.connections }
         ensures refused { OnErr result (self.new ≡ self.old) }
     {
         // The tree with more room comes first: `spare` is that of the other, so that a refusal leaves it.
