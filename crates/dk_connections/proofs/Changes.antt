@@ -133,29 +133,46 @@ unmapped : (r : Option Connection) → option_map (λ c. c) r ≡ r
 unmapped None = refl
 unmapped (Some c) = refl
 
-module _ (all : Connections) (k : ConnNo) (g : Connection → Connection) (q : ConnNo) where
-  get-changed_at : (r : Option Connection) → get all k ≡ r → get (connection_changed_at r k g all) q ≡ cond (eq_by_cmp conn_cmp q k) (option_map g (get all q)) (get all q)
-  get-changed_at None e =
-      elim (eq_by_cmp conn_cmp q k) as (λ b. eq_by_cmp conn_cmp q k ≡ b → get all q ≡ cond b (option_map g (get all q)) (get all q)) [
-        | true ↦ λ t. let none : get all q ≡ None = ap (get all) (conn_tied q k t) ∙ e in none ∙ sym (ap (option_map g) none)
-        | false ↦ λ _. refl
-      ] refl
-  get-changed_at (Some c) e =
-      get-insert conns_total all k (g c) q
-      ∙ elim (eq_by_cmp conn_cmp q k) as (λ b. eq_by_cmp conn_cmp q k ≡ b → cond b (Some (g c)) (get all q) ≡ cond b (option_map g (get all q)) (get all q)) [
-        | true ↦ λ t. ap (option_map g) (sym (ap (get all) (conn_tied q k t) ∙ e))
+module _ {X : Type 0} (m : FinMap conn_cmp X) (k : ConnNo) (g : X → X) (q : ConnNo) where
+  -- where nothing stands at the number, and where something does
+  changed_none : get m k ≡ None → get m q ≡ cond (eq_by_cmp conn_cmp q k) (option_map g (get m q)) (get m q)
+  changed_none e =
+      elim (eq_by_cmp conn_cmp q k) as (λ b. eq_by_cmp conn_cmp q k ≡ b → get m q ≡ cond b (option_map g (get m q)) (get m q)) [
+        | true ↦ λ t. let none : get m q ≡ None = ap (get m) (conn_tied q k t) ∙ e in none ∙ sym (ap (option_map g) none)
         | false ↦ λ _. refl
       ] refl
 
+  changed_some : (x : X) → get m k ≡ Some x → get (insert m k (g x)) q ≡ cond (eq_by_cmp conn_cmp q k) (option_map g (get m q)) (get m q)
+  changed_some x e =
+      get-insert conns_total m k (g x) q
+      ∙ elim (eq_by_cmp conn_cmp q k) as (λ b. eq_by_cmp conn_cmp q k ≡ b → cond b (Some (g x)) (get m q) ≡ cond b (option_map g (get m q)) (get m q)) [
+        | true ↦ λ t. ap (option_map g) (sym (ap (get m) (conn_tied q k t) ∙ e))
+        | false ↦ λ _. refl
+      ] refl
+
+module _ (all : Connections) (k : ConnNo) (g : Connection → Connection) (q : ConnNo) where
+  get-connection_changed_at : (r : Option Connection) → get all k ≡ r → get (connection_changed_at r k g all) q ≡ cond (eq_by_cmp conn_cmp q k) (option_map g (get all q)) (get all q)
+  get-connection_changed_at None e = changed_none all k g q e
+  get-connection_changed_at (Some c) e = changed_some all k g q c e
+
+  -- what is there in the world once one was changed
+  pub get-change_connection : get (change_connection k g all) q ≡ cond (eq_by_cmp conn_cmp q k) (option_map g (get all q)) (get all q)
+  get-change_connection = get-connection_changed_at (get all k) refl
+
+module _ (all : FinMap conn_cmp Linked) (k : ConnNo) (f : Linked → Linked) (q : ConnNo) where
+  get-changed_at : (r : Option Linked) → get all k ≡ r → get (changed_at r k f all) q ≡ cond (eq_by_cmp conn_cmp q k) (option_map f (get all q)) (get all q)
+  get-changed_at None e = changed_none all k f q e
+  get-changed_at (Some l) e = changed_some all k f q l e
+
   -- what is there once one was changed
-  pub get-change : get (change_connection k g all) q ≡ cond (eq_by_cmp conn_cmp q k) (option_map g (get all q)) (get all q)
+  pub get-change : get (change k f all) q ≡ cond (eq_by_cmp conn_cmp q k) (option_map f (get all q)) (get all q)
   get-change = get-changed_at (get all k) refl
 
 -- where the change is of the mark alone, the world's connections stay
 pub all_of-same : (all : FinMap conn_cmp Linked) (k : ConnNo) (f : Linked → Linked) → ((l : Linked) → (f l).connection ≡ l.connection) → all_of (change k f all) ≡ all_of all
 all_of-same all k f same =
     all_of-change all k f (λ c. c) same
-    ∙ same_map conns_total exact_conns _ _ (λ q. get-change (all_of all) k (λ c. c) q ∙ ap (λ r. cond (eq_by_cmp conn_cmp q k) r (get (all_of all) q)) (unmapped (get (all_of all) q)) ∙ unmoved (eq_by_cmp conn_cmp q k) (get (all_of all) q))
+    ∙ same_map conns_total exact_conns _ _ (λ q. get-change_connection (all_of all) k (λ c. c) q ∙ ap (λ r. cond (eq_by_cmp conn_cmp q k) r (get (all_of all) q)) (unmapped (get (all_of all) q)) ∙ unmoved (eq_by_cmp conn_cmp q k) (get (all_of all) q))
 
 pub all_of-change_some : (all : FinMap conn_cmp Linked) (conn : Option ConnNo) (f : Linked → Linked) (g : Connection → Connection) → ((l : Linked) → (f l).connection ≡ g l.connection)
     → all_of (change_some conn f all) ≡ for_conn conn g (all_of all)

@@ -1,4 +1,5 @@
-use Rattle.std.proofs.Common.{refl, sym, ap, ◌∙◌, take, is_none}
+use Rattle.std.proofs.Common.{refl, sym, ap, ◌∙◌, take, is_none, None}
+use Rattle.std.proofs.Math.Seq.{take-nil}
 use Rattle.dk_model.specs.Deliveries.{without_done}
 use Rattle.dk_model.specs.Events.{outbox_at}
 use Rattle.dk_connections.specs.Linked.{all_of, less_first, linked}
@@ -8,7 +9,7 @@ use Rattle.dk_connections.proofs.connections.Connections.hand.Goals as goal
 
 pub returns-in_default-clause-handed : goal.returns-in_default-clause-handed
 returns-in_default-clause-handed c =
-    c.from_vec.ensures ∙ c.new.ensures.items ∙ ap (λ r. take c.args.most (outbox_at r)) (sym (found_in _ c.args.conn _ c.in_default.ensures.found))
+    c.from_vec.ensures ∙ c.new.ensures.items ∙ sym (take-nil c.args.most) ∙ ap (λ r. take c.args.most (outbox_at r)) (sym (found_in _ c.args.conn _ c.in_default.ensures.found))
 
 pub returns-in_default-clause-linked : goal.returns-in_default-clause-linked
 returns-in_default-clause-linked c = left_unchanged _ _ c.args.conn c.in_default.ensures.connections (linked (less_first c.args.most)) c.in_default.ensures.found c.in_default.ensures.alive
@@ -18,7 +19,7 @@ returns-in_default-clause-world c =
     ap all_of (returns-in_default-clause-linked c) ∙ all_of-left _ ∙ ap without_done (all_of-change _ c.args.conn (linked (less_first c.args.most)) (less_first c.args.most) (λ l. refl))
 
 pub returns-in_default-clause-end : goal.returns-in_default-clause-end
-returns-in_default-clause-end c = ap is_none (sym ?)
+returns-in_default-clause-end c = sym (ap is_none (found_in _ c.args.conn None (sym (absent _ _ c.args.conn c.in_default.ensures.connections))))
 
 pub returns-in_default-clause-swept : goal.returns-in_default-clause-swept
 returns-in_default-clause-swept c = swept_none _ _ c.args.conn c.in_default.ensures.connections c.in_default.ensures.found c.in_default.ensures.alive
@@ -41,7 +42,7 @@ returns-in-Ok-clause-world c =
     ap all_of (returns-in-Ok-clause-linked c) ∙ all_of-left _ ∙ ap without_done (all_of-change _ c.args.conn (linked (less_first c.args.most)) (less_first c.args.most) (λ l. refl))
 
 pub returns-in-Ok-clause-end : goal.returns-in-Ok-clause-end
-returns-in-Ok-clause-end c = ?
+returns-in-Ok-clause-end c = c.is_done-end.ensures ∙ settled_gone _ _ c.args.conn c.in-Some.ensures.connections c.hand.new.self _ c.settle.ensures.connections
 
 pub returns-in-Ok-clause-swept : goal.returns-in-Ok-clause-swept
 returns-in-Ok-clause-swept c =
