@@ -42,7 +42,7 @@ input_at : (conn : ConnNo) (name : List ℕ) (turn : ℕ) (queue : List Waiting)
     ≡ cond (not (claimed || (length queue == 0))) ((record { turn = turn; job = job_of conn name (head_of queue) }) ∷ rest) rest
 input_at conn name turn queue true rest = refl
 input_at conn name turn [] false rest = refl
-input_at conn name turn (x ∷ queue) false rest = ap (λ b. cond (not b) ((record { turn = turn; job = job_of conn name x }) ∷ rest) rest) (some_wait queue x)
+input_at conn name turn (x ∷ queue) false rest = sym (ap (λ b. cond (not b) ((record { turn = turn; job = job_of conn name x }) ∷ rest) rest) (some_wait queue x))
 
 map_cond : (b : Bool) (e : ConnNo × Linked) (es : List (ConnNo × Linked)) → cond b (turn_at e ∷ map turn_at es) (map turn_at es) ≡ map turn_at (cond b (e ∷ es) es)
 map_cond true e es = refl

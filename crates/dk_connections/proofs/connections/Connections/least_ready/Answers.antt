@@ -22,7 +22,7 @@ returns-then-place-clause-least c = least_of _ None (none_ready c)
 pub returns-then-place-clause-picked : goal.returns-then-place-clause-picked
 returns-then-place-clause-picked c = picked_of _ None (none_ready c)
 
-at_front : (c : goal.Else-place) → IsSoonest c.args.self.now.connections (Some c.in-Some.place.now.conn)
+at_front : (c : goal.After-result-1) → IsSoonest c.args.self.now.connections (Some c.in-Some.place.now.conn)
 at_front c =
     subst (λ m. IsSoonest m (Some c.in-Some.place.now.conn)) (ap (λ s. s.connections) c.self.view_is)
     (soonest_at_front _ _ c.self.invariant c.in-Some.place.now _ (sym c.in-Some.ensures) c.if-place.false)
