@@ -18,7 +18,7 @@ module _ (j : Job) (outs : List (ConnNo × Out)) (first ran sent shut last : Fin
       → end ≡ ended_by j → all_of last ≡ without_done (delivered j outs (all_of first))
   delivered_is sends closes shuts end_is =
       let out : all_of ran ≡ for_conn (conn_of j) input_left (all_of first) =
-          ap all_of runs ∙ all_of-change_some first conn run_ended input_left (λ l. refl) ∙ ap (λ c. for_conn c input_left (all_of first)) conn_is
+      ap all_of runs ∙ all_of-change_some first conn run_ended input_left (λ l. refl) ∙ ap (λ c. for_conn c input_left (all_of first)) conn_is
       in
       let names = closes ∙ ap (closed_by outs) out in
       let boxes = sends ∙ ap (with_outs outs) out in

@@ -72,7 +72,7 @@ pub closing_next : (before now after : FinMap conn_cmp Linked) (conns rest : Lis
     → Closing before now conns (k ∷ rest) → after ≡ left (change k (linked close_off) now) → IsAlive after → Closing before after conns rest
 closing_next before now after conns rest k s e a =
     let closed : all_of after ≡ without_done (change_connection k close_off (all_of now)) =
-        ap all_of e ∙ all_of-left (change k (linked close_off) now) ∙ ap without_done (all_of-change now k (linked close_off) close_off (λ l. refl))
+    ap all_of e ∙ all_of-left (change k (linked close_off) now) ∙ ap without_done (all_of-change now k (linked close_off) close_off (λ l. refl))
     in
     record {
       world = ap (λ m. without_done (with_closed rest m)) closed ∙ without-closed rest (change_connection k close_off (all_of now)) ∙ s.world;

@@ -158,7 +158,7 @@ module _ (t : List (ConnNo × Linked)) (p : List (Place × Unit {0})) (i : IsInS
           | true ↦ λ _. refl
           | false ↦ λ idle.
               let first : is_lt (ordering_then (bool_cmp false true) (turn_cmp (l.connection.turn, k) (q.turn, q.conn))) ≡ false =
-                  subst (λ c. is_lt (ordering_then c (turn_cmp (l.connection.turn, k) (q.turn, q.conn))) ≡ false) (λ j. bool_cmp (idle j) (a j)) (front k l f)
+              subst (λ c. is_lt (ordering_then c (turn_cmp (l.connection.turn, k) (q.turn, q.conn))) ≡ false) (λ j. bool_cmp (idle j) (a j)) (front k l f)
               in
               cc
         ] refl)
@@ -177,7 +177,7 @@ module _ (t : List (ConnNo × Linked)) (p : List (Place × Unit {0})) (i : IsInS
           get-map_of conn_cmp t i.ordered q.conn ∙ l.1,
           ready,
           ap (λ es. least is_before (filter is_ready es)) (entries-map_of conn_cmp t i.ordered)
-          ∙ first_is q.conn l.0 ready t i.ordered l.1 (all_of_found (IsFrom q.conn l.0 ready) t i.ordered (λ j s f r.
+              ∙ first_is q.conn l.0 ready t i.ordered l.1 (all_of_found (IsFrom q.conn l.0 ready) t i.ordered (λ j s f r.
               subst (λ n. is_lt (turn_cmp (s.connection.turn, j) (n, q.conn)) ≡ false) turn
               (subst (λ c. is_lt (ordering_then c (turn_cmp (s.connection.turn, j) (q.turn, q.conn))) ≡ false) (λ m. bool_cmp (busy s r m) (a m)) (front j s f)))),
         )

@@ -95,3 +95,8 @@ ready_parts (x ∷ queue) false r = (refl, omega arith)
 -- a ready connection is there, with an input that no claimed run has
 pub ready_of : (m : FinMap conn_cmp Linked) (k : ConnNo) → IsSoonest m (Some k) → IsReadyAt (get m k)
 ready_of m k s = subst IsReadyAt (sym s.1) (ready_parts s.0.connection.queue s.0.claimed s.2)
+
+-- an input that can be run waits
+pub has_input : (r : Option Linked) → IsReadyAt r → HasInput r
+has_input None h = h
+has_input (Some l) h = h.1

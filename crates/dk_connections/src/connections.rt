@@ -130,6 +130,7 @@ impl Connections {
         ensures least { result ≡ least_ready_of self.now.connections }
         ensures picked { (w : World) → HasConnections w self.now.connections → pick_input w ≡ job_at self.now.connections result }
         ensures ready { IfSome result (λ conn. IsReadyAt (map.get self.now.connections conn)) }
+        ensures waits { IfSome result (λ conn. HasInput (map.get self.now.connections conn)) }
     {
         let Some((place, _)) = self.places.first() else {
             return None;

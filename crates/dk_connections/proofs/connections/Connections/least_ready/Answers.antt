@@ -1,6 +1,6 @@
 use Rattle.std.proofs.Common.{None, Some, sym, ap, subst}
 use Rattle.dk_connections.proofs.Soonest.{IsSoonest, least_of, soonest_of_none, soonest_of_idle, soonest_at_front}
-use Rattle.dk_connections.proofs.Turns.{picked_of, ready_of}
+use Rattle.dk_connections.proofs.Turns.{has_input, picked_of, ready_of}
 use Rattle.dk_connections.proofs.connections.Connections.least_ready.Goals as goal
 
 none_at_all : (c : goal.In_default) → IsSoonest c.args.self.now.connections None
@@ -35,3 +35,6 @@ returns-clause-picked c = picked_of _ (Some c.in-Some.place.now.conn) (at_front 
 
 pub returns-clause-ready : goal.returns-clause-ready
 returns-clause-ready c = ready_of _ c.in-Some.place.now.conn (at_front c)
+
+pub returns-clause-waits : goal.returns-clause-waits
+returns-clause-waits c = has_input _ (ready_of _ c.in-Some.place.now.conn (at_front c))

@@ -16,4 +16,3 @@ returns-in_ok-reserve-2-clause-alive c = alive_seen _ _ c.self.invariant _ (ap (
 
 pub returns-in_ok-reserve-4-clause-alive : goal.returns-in_ok-reserve-4-clause-alive
 returns-in_ok-reserve-4-clause-alive c = alive_seen _ _ c.self.invariant _ (ap (λ s. s.connections) c.self.view_is)
-

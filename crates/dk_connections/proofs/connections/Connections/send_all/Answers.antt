@@ -34,10 +34,10 @@ loop-letter-preserved c =
     let closes = c.into_parts-ready.result.2 in
     let count = ap length c.in-Some.ensures.steps.0 in
     let not_closed : (if c.send.result && closes then shut ++ conn ∷ [] else shut) ≡ shut =
-        elim c.else-send.either [
-          | inl p ↦ λ i. if p.0 i && p.1 i then shut ++ conn ∷ [] else shut
-          | inr q ↦ λ i. if q i && closes then shut ++ conn ∷ [] else shut
-        ]
+    elim c.else-send.either [
+      | inl p ↦ λ i. if p.0 i && p.1 i then shut ++ conn ∷ [] else shut
+      | inr q ↦ λ i. if q i && closes then shut ++ conn ∷ [] else shut
+    ]
     in
     record {
       sent =
