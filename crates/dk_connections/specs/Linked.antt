@@ -22,10 +22,11 @@ pub record Shown : Type 0 where
   pub connections : FinMap conn_cmp Linked
   pub spare : ℕ
 
--- a number, a connection and what is shown are stored as the pairs of their fields
+-- a number is stored as itself
 abbrev pub conn_code : Coded ConnNo
 conn_code = code_by ℕ coded_ℕ (λ c. c.0) (λ n. record { 0 = n }) (λ _. refl)
 
+-- a connection is stored as pairs of its fields
 abbrev pub connection_code : Coded Waiting → Coded Out → Coded Connection
 connection_code waiting out =
     code_by ((List ℕ × ℕ) × ((List Waiting × List Out) × (Bool × (Bool × Bool))))
@@ -33,10 +34,12 @@ connection_code waiting out =
     (λ c. ((c.name, c.turn), ((c.queue, c.outbox), (c.closed, (c.cut, c.over)))))
     (λ p. record { name = p.0.0; queue = p.1.0.0; outbox = p.1.0.1; turn = p.0.1; closed = p.1.1.0; cut = p.1.1.1.0; over = p.1.1.1.1 }) (λ _. refl)
 
+-- with its mark, as the pair of both
 abbrev pub linked_code : Coded Waiting → Coded Out → Coded Linked
 linked_code waiting out =
     code_by (Connection × Bool) (coded× (connection_code waiting out) coded_bool) (λ l. (l.connection, l.claimed)) (λ p. record { connection = p.0; claimed = p.1 }) (λ _. refl)
 
+-- and what is shown as the pair of its fields
 abbrev pub shown_code : Coded Waiting → Coded Out → Coded Shown
 shown_code waiting out =
     code_by (FinMap conn_cmp Linked × ℕ) (coded× (code conn_code (linked_code waiting out)) coded_ℕ) (λ s. (s.connections, s.spare)) (λ p. record { connections = p.0; spare = p.1 }) (λ _. refl)
@@ -73,6 +76,7 @@ released l = record l { claimed = false }
 abbrev pub run_ended : Linked → Linked
 run_ended l = unclaimed (input_left l.connection)
 
+-- the connections with what was found at a number changed
 abbrev pub changed_at : Option Linked → ConnNo → (Linked → Linked) → FinMap conn_cmp Linked → FinMap conn_cmp Linked
 changed_at None conn f all = all
 changed_at (Some l) conn f all = insert all conn (f l)
@@ -86,6 +90,7 @@ abbrev pub change_some : Option ConnNo → (Linked → Linked) → FinMap conn_c
 change_some None f all = all
 change_some (Some conn) f all = change conn f all
 
+-- what was found is over with nothing left to hand
 abbrev pub is_done_at : Option Linked → Bool
 is_done_at None = false
 is_done_at (Some l) = is_done (Some l.connection)
@@ -94,11 +99,11 @@ is_done_at (Some l) = is_done (Some l.connection)
 abbrev pub left : FinMap conn_cmp Linked → FinMap conn_cmp Linked
 left all = retain_keys all (λ conn. not (is_done_at (get all conn)))
 
--- none is over with nothing left to hand
+-- in the world, none is over with nothing left to hand
 abbrev pub IsSwept : FinMap conn_cmp Linked → Type 0
 IsSwept all = without_done (all_of all) ≡ all_of all
 
--- the same of each connection
+-- none that is found is over with nothing left to hand
 abbrev pub IsAlive : FinMap conn_cmp Linked → Type 0
 IsAlive all = (conn : ConnNo) → is_done_at (get all conn) ≡ false
 

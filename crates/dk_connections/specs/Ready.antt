@@ -14,6 +14,7 @@ use Rattle.dk_connections.specs.Places.{is_idle}
 abbrev pub is_ready : ConnNo × Linked → Bool
 is_ready e = not (is_idle e.1)
 
+-- by turn alone
 abbrev pub is_before : ConnNo × Linked → ConnNo × Linked → Bool
 is_before a b = nat_lt a.1.connection.turn b.1.connection.turn
 

@@ -18,12 +18,46 @@ fn body(alloc: Global, text: &str) -> Result<Blob, Fail> {
     Ok(Blob::copy_of(alloc, text.as_bytes()).ok().ok_or("a body")?)
 }
 
-fn says(alloc: Global, text: &str) -> Result<Input, Fail> {
-    Ok(Input::Message(body(alloc, text)?))
+/// The message of a text, or what it names.
+fn out(alloc: Global, text: &str) -> Result<Out, Fail> {
+    match text {
+        "accepted" => Ok(Out::Accepted),
+        "refused" => Ok(Out::Refused),
+        "close" => Ok(Out::Close),
+        _ => Ok(Out::Message(body(alloc, text)?)),
+    }
 }
 
-fn hears(alloc: Global, text: &str) -> Result<Out, Fail> {
-    Ok(Out::Message(body(alloc, text)?))
+/// The input of a text, or what it names.
+fn input(alloc: Global, text: &str) -> Result<Input, Fail> {
+    match text {
+        "quit" => Ok(Input::Disconnect { graceful: true }),
+        "lost" => Ok(Input::Disconnect { graceful: false }),
+        _ => Ok(Input::Message(body(alloc, text)?)),
+    }
+}
+
+/// The job of that input of Alice, or of the end of her session.
+fn alices(alloc: Global, text: &str) -> Result<Job, Fail> {
+    let conn = ALICE;
+    let name = name(alloc, "alice")?;
+    match text {
+        "login" => Ok(Job::Login { conn, name }),
+        "quit" => Ok(Job::Disconnect {
+            conn,
+            name,
+            graceful: true,
+        }),
+        "lost" => Ok(Job::Disconnect {
+            conn,
+            name,
+            graceful: false,
+        }),
+        _ => {
+            let body = body(alloc, text)?;
+            Ok(Job::Message { conn, name, body })
+        }
+    }
 }
 
 fn connect(
@@ -33,11 +67,9 @@ fn connect(
     conn: ConnNo,
     text: &str,
 ) -> Result<(), Fail> {
+    let name = name(alloc, text)?;
     assert!(rt; !connections.contains(conn));
-    connections
-        .connect(conn, &name(alloc, text)?)
-        .ok()
-        .ok_or("room for a connection")?;
+    connections.connect(conn, &name).ok().ok_or("room")?;
     Ok(())
 }
 
@@ -49,46 +81,73 @@ fn alice_and_bob(rt: &impl Abort, alloc: Global) -> Result<Connections, Fail> {
     Ok(connections)
 }
 
-/// Claims the input that comes next, and gives its job.
-fn claim_next(
+fn post(
     rt: &impl Abort,
+    alloc: Global,
     connections: &mut Connections,
     conn: ConnNo,
+    text: &str,
+    answer: Result<(), PostRefused>,
+) -> Result<(), Fail> {
+    let input = input(alloc, text)?;
+    assert_eq!(rt; connections.post(conn, input), answer);
+    Ok(())
+}
+
+/// Claims Alice's input, which comes next.
+fn claim_alices(
+    rt: &impl Abort,
+    alloc: Global,
+    connections: &mut Connections,
+    text: &str,
     turn: u64,
-) -> Result<Job, Fail> {
+) -> Result<(), Fail> {
+    let expected = alices(alloc, text)?;
     let Some(next) = connections.least_ready() else {
         panic!(rt; "an input waits");
     };
-    assert!(rt; next == conn);
+    assert!(rt; next == ALICE);
     let job = connections.job(next).ok().ok_or("a job")?;
+    assert!(rt; job == expected);
     connections.claim(next, turn);
-    Ok(job)
+    Ok(())
 }
 
+/// Delivers what a commit of that job of Alice sends.
 fn deliver(
     alloc: Global,
     connections: &mut Connections,
-    job: &Job,
-    outs: &[(ConnNo, Out)],
+    job: &str,
+    texts: &[(ConnNo, &str)],
 ) -> Result<(), Fail> {
-    let deliveries = Deliveries::new(alloc, outs).ok().ok_or("room")?;
-    connections.deliver(job, deliveries);
+    let job = alices(alloc, job)?;
+    let mut outs = Vec::new(alloc);
+    for (conn, text) in texts {
+        outs.push((*conn, out(alloc, text)?))?;
+    }
+    let deliveries = Deliveries::new(alloc, outs.as_slice()).ok().ok_or("room")?;
+    connections.deliver(&job, deliveries);
     Ok(())
 }
 
 /// Asserts what is handed, and whether the connection is gone.
 fn assert_handed(
     rt: &impl Abort,
+    alloc: Global,
     connections: &mut Connections,
     conn: ConnNo,
     most: u32,
-    outs: &[Out],
+    texts: &[&str],
     end: bool,
 ) -> Result<(), Fail> {
     let handed = connections.hand(conn, most).ok().ok_or("a list")?;
-    assert!(rt; handed.outs.as_slice() == outs);
-    assert_eq!(rt; handed.end, end);
-    assert_eq!(rt; connections.contains(conn), !end);
+    assert_eq!(rt; (handed.end, connections.contains(conn)), (end, !end));
+    let outs = handed.outs.into_vec();
+    assert_eq!(rt; outs.len(), texts.len());
+    for (given, text) in outs.iter().zip(texts.iter()) {
+        let expected = out(alloc, text)?;
+        assert!(rt; *given == expected);
+    }
     Ok(())
 }
 
@@ -96,30 +155,31 @@ fn assert_handed(
 fn inputs_are_claimed_by_turn(rt: HostRuntime) -> Result<(), Fail> {
     let alloc = rt.alloc();
     let mut connections = alice_and_bob(&rt, alloc)?;
-    assert_eq!(&rt; connections.len(), 2);
-    let login = claim_next(&rt, &mut connections, ALICE, 3)?;
-    let name = name(alloc, "alice")?;
-    assert!(&rt; login == Job::Login { conn: ALICE, name });
-    assert_eq!(&rt; connections.post(ALICE, says(alloc, "look")?), Ok(()));
-    claim_next(&rt, &mut connections, BOB, 4)?;
+    claim_alices(&rt, alloc, &mut connections, "login", 3)?;
+    post(&rt, alloc, &mut connections, ALICE, "look", Ok(()))?;
+    assert!(&rt; connections.least_ready() == Some(BOB));
+    connections.claim(BOB, 4);
     assert!(&rt; connections.least_ready() == None);
-    deliver(
-        alloc,
-        &mut connections,
-        &login,
-        [(ALICE, Out::Accepted)].as_slice(),
-    )?;
-    assert!(&rt; connections.least_ready() == Some(ALICE));
+    deliver(alloc, &mut connections, "login", &[])?;
     connections.release(BOB);
     // Alice's turn is 3, and Bob's 4.
-    let look = claim_next(&rt, &mut connections, ALICE, 5)?;
-    deliver(alloc, &mut connections, &look, [].as_slice())?;
-    assert_eq!(&rt; connections.post(ALICE, says(alloc, "go")?), Ok(()));
+    claim_alices(&rt, alloc, &mut connections, "look", 5)?;
     assert!(&rt; connections.least_ready() == Some(BOB));
-    connections.claim(BOB, 5);
-    connections.release(BOB);
-    // Both turns are 5.
+    Ok(())
+}
+
+#[test]
+fn among_equal_turns_the_least_number_comes_first(rt: HostRuntime) -> Result<(), Fail> {
+    let alloc = rt.alloc();
+    let mut connections = alice_and_bob(&rt, alloc)?;
+    for conn in [ALICE, BOB] {
+        connections.claim(conn, 3);
+        connections.release(conn);
+    }
     assert!(&rt; connections.least_ready() == Some(ALICE));
+    connections.claim(ALICE, 4);
+    connections.release(ALICE);
+    assert!(&rt; connections.least_ready() == Some(BOB));
     Ok(())
 }
 
@@ -127,35 +187,22 @@ fn inputs_are_claimed_by_turn(rt: HostRuntime) -> Result<(), Fail> {
 fn messages_wait_and_are_handed(rt: HostRuntime) -> Result<(), Fail> {
     let alloc = rt.alloc();
     let mut connections = alice_and_bob(&rt, alloc)?;
-    let login = claim_next(&rt, &mut connections, ALICE, 3)?;
-    let outs = [
-        (ALICE, Out::Accepted),
-        (BOB, hears(alloc, "hello")?),
-        (ConnNo(9), Out::Close),
+    let texts = [
+        (ALICE, "accepted"),
+        (BOB, "hello"),
+        (ConnNo(9), "close"),
+        (BOB, "you"),
     ];
-    deliver(alloc, &mut connections, &login, outs.as_slice())?;
+    deliver(alloc, &mut connections, "login", &texts)?;
     assert_eq!(&rt;
         (connections.outbox_len(ALICE), connections.outbox_len(BOB)),
-        (1, 1)
+        (1, 2)
     );
-    assert_handed(
-        &rt,
-        &mut connections,
-        ALICE,
-        5,
-        [Out::Accepted].as_slice(),
-        false,
-    )?;
-    assert_handed(&rt, &mut connections, ALICE, 5, [].as_slice(), false)?;
-    assert_handed(
-        &rt,
-        &mut connections,
-        BOB,
-        1,
-        [hears(alloc, "hello")?].as_slice(),
-        false,
-    )?;
-    assert_handed(&rt, &mut connections, ConnNo(9), 1, [].as_slice(), true)?;
+    assert_handed(&rt, alloc, &mut connections, ALICE, 5, &["accepted"], false)?;
+    assert_handed(&rt, alloc, &mut connections, ALICE, 5, &[], false)?;
+    assert_handed(&rt, alloc, &mut connections, BOB, 1, &["hello"], false)?;
+    assert_handed(&rt, alloc, &mut connections, BOB, 0, &[], false)?;
+    assert_handed(&rt, alloc, &mut connections, ConnNo(9), 1, &[], true)?;
     Ok(())
 }
 
@@ -163,43 +210,30 @@ fn messages_wait_and_are_handed(rt: HostRuntime) -> Result<(), Fail> {
 fn a_close_ends_a_connection_once_all_is_handed(rt: HostRuntime) -> Result<(), Fail> {
     let alloc = rt.alloc();
     let mut connections = alice_and_bob(&rt, alloc)?;
-    let login = claim_next(&rt, &mut connections, ALICE, 3)?;
-    assert_eq!(&rt; connections.post(BOB, says(alloc, "look")?), Ok(()));
-    let outs = [
-        (BOB, Out::Refused),
-        (BOB, Out::Close),
-        (BOB, hears(alloc, "bye")?),
-    ];
-    deliver(alloc, &mut connections, &login, outs.as_slice())?;
-    // The message behind the Close was sent by the same commit.
-    assert_eq!(&rt; connections.outbox_len(BOB), 3);
+    post(&rt, alloc, &mut connections, BOB, "look", Ok(()))?;
+    // The message behind the Close is of the same commit.
+    let texts = [(BOB, "refused"), (BOB, "close"), (BOB, "bye")];
+    deliver(alloc, &mut connections, "login", &texts)?;
     assert!(&rt; connections.least_ready() == None);
-    assert_eq!(&rt;
-        connections.post(BOB, says(alloc, "go")?),
-        Err(PostRefused::Closed)
-    );
-    deliver(
+    post(
+        &rt,
         alloc,
         &mut connections,
-        &login,
-        [(BOB, hears(alloc, "late")?)].as_slice(),
+        BOB,
+        "go",
+        Err(PostRefused::Closed),
     )?;
+    deliver(alloc, &mut connections, "look", &[(BOB, "late")])?;
     assert_handed(
         &rt,
+        alloc,
         &mut connections,
         BOB,
         2,
-        [Out::Refused, Out::Close].as_slice(),
+        &["refused", "close"],
         false,
     )?;
-    assert_handed(
-        &rt,
-        &mut connections,
-        BOB,
-        2,
-        [hears(alloc, "bye")?].as_slice(),
-        true,
-    )?;
+    assert_handed(&rt, alloc, &mut connections, BOB, 2, &["bye"], true)?;
     Ok(())
 }
 
@@ -207,43 +241,22 @@ fn a_close_ends_a_connection_once_all_is_handed(rt: HostRuntime) -> Result<(), F
 fn a_disconnect_ends_a_connection(rt: HostRuntime) -> Result<(), Fail> {
     let alloc = rt.alloc();
     let mut connections = alice_and_bob(&rt, alloc)?;
-    let login = claim_next(&rt, &mut connections, ALICE, 3)?;
-    let quit = Input::Disconnect { graceful: true };
-    assert_eq!(&rt; connections.post(ALICE, quit), Ok(()));
-    assert_eq!(&rt;
-        connections.post(ALICE, says(alloc, "go")?),
-        Err(PostRefused::Closed)
-    );
-    deliver(
-        alloc,
-        &mut connections,
-        &login,
-        [(ALICE, Out::Accepted)].as_slice(),
-    )?;
-    connections.claim(BOB, 4);
-    let end = claim_next(&rt, &mut connections, ALICE, 5)?;
-    let name = name(alloc, "alice")?;
-    assert!(&rt;
-        end == Job::Disconnect {
-            conn: ALICE,
-            name,
-            graceful: true
-        }
-    );
-    deliver(
-        alloc,
-        &mut connections,
-        &end,
-        [(BOB, hears(alloc, "alice left")?)].as_slice(),
-    )?;
-    assert_handed(
+    post(&rt, alloc, &mut connections, ALICE, "quit", Ok(()))?;
+    post(
         &rt,
+        alloc,
         &mut connections,
         ALICE,
-        5,
-        [Out::Accepted].as_slice(),
-        true,
+        "go",
+        Err(PostRefused::Closed),
     )?;
+    claim_alices(&rt, alloc, &mut connections, "login", 3)?;
+    deliver(alloc, &mut connections, "login", &[(ALICE, "accepted")])?;
+    connections.claim(BOB, 4);
+    claim_alices(&rt, alloc, &mut connections, "quit", 5)?;
+    deliver(alloc, &mut connections, "quit", &[(BOB, "alice left")])?;
+    assert_handed(&rt, alloc, &mut connections, ALICE, 5, &["accepted"], true)?;
+    assert_eq!(&rt; connections.len(), 1);
     Ok(())
 }
 
@@ -251,35 +264,22 @@ fn a_disconnect_ends_a_connection(rt: HostRuntime) -> Result<(), Fail> {
 fn an_ended_session_is_told_and_gone(rt: HostRuntime) -> Result<(), Fail> {
     let alloc = rt.alloc();
     let mut connections = Connections::new(alloc);
-    let session = Session {
-        name: name(alloc, "alice")?,
-        conn: ALICE,
-    };
+    let name = name(alloc, "alice")?;
+    let session = Session { name, conn: ALICE };
     assert!(&rt; !connections.contains(session.conn));
     connections.open_ended(&session).ok().ok_or("room")?;
-    assert_eq!(&rt;
-        connections.post(ALICE, says(alloc, "go")?),
-        Err(PostRefused::Closed)
-    );
-    let end = claim_next(&rt, &mut connections, ALICE, 3)?;
-    let Session { name, conn } = session;
-    assert!(&rt;
-        end == Job::Disconnect {
-            conn,
-            name,
-            graceful: false
-        }
-    );
-    deliver(
+    post(
+        &rt,
         alloc,
         &mut connections,
-        &end,
-        [(ALICE, hears(alloc, "bye")?)].as_slice(),
+        ALICE,
+        "go",
+        Err(PostRefused::Closed),
     )?;
-    assert_eq!(&rt;
-        (connections.len(), connections.contains(ALICE)),
-        (0, false)
-    );
+    claim_alices(&rt, alloc, &mut connections, "lost", 3)?;
+    // What is sent to it is dropped, so nothing is left to hand.
+    deliver(alloc, &mut connections, "lost", &[(ALICE, "bye")])?;
+    assert_eq!(&rt; connections.len(), 0);
     Ok(())
 }
 
@@ -289,75 +289,76 @@ fn as_many_inputs_wait_as_may(rt: HostRuntime) -> Result<(), Fail> {
     let mut connections = alice_and_bob(&rt, alloc)?;
     // The login is one of them.
     for _ in 1..INPUTS_MOST_COUNT {
-        assert_eq!(&rt; connections.post(ALICE, says(alloc, "look")?), Ok(()));
+        post(&rt, alloc, &mut connections, ALICE, "look", Ok(()))?;
     }
     let full = PostRefused::QueueFull {
         waiting: INPUTS_MOST_COUNT,
     };
-    assert_eq!(&rt; connections.post(ALICE, says(alloc, "look")?), Err(full));
-    let quit = Input::Disconnect { graceful: false };
-    assert_eq!(&rt; connections.post(ALICE, quit), Ok(()));
-    assert_eq!(&rt;
-        connections.post(ALICE, says(alloc, "look")?),
-        Err(PostRefused::Closed)
-    );
-    assert_eq!(&rt;
-        connections.post(ConnNo(3), says(alloc, "look")?),
-        Err(PostRefused::Closed)
-    );
-    assert_eq!(&rt; connections.post(BOB, says(alloc, "look")?), Ok(()));
+    post(&rt, alloc, &mut connections, ALICE, "look", Err(full))?;
+    post(&rt, alloc, &mut connections, ALICE, "lost", Ok(()))?;
+    post(
+        &rt,
+        alloc,
+        &mut connections,
+        ALICE,
+        "look",
+        Err(PostRefused::Closed),
+    )?;
+    post(
+        &rt,
+        alloc,
+        &mut connections,
+        ConnNo(3),
+        "look",
+        Err(PostRefused::Closed),
+    )?;
+    post(&rt, alloc, &mut connections, BOB, "look", Ok(()))?;
     Ok(())
+}
+
+/// Alice's outbox is full, and her queue is empty.
+fn with_full_outbox(rt: &impl Abort, alloc: Global) -> Result<Connections, Fail> {
+    let mut connections = alice_and_bob(rt, alloc)?;
+    let mut texts = Vec::new(alloc);
+    for _ in 0..OUTS_MOST_COUNT {
+        texts.push((ALICE, "refused"))?;
+    }
+    deliver(alloc, &mut connections, "login", texts.as_slice())?;
+    assert_eq!(rt; connections.outbox_len(ALICE), OUTS_MOST_COUNT);
+    assert!(rt; connections.least_ready() == Some(BOB));
+    connections.claim(BOB, 3);
+    Ok(connections)
 }
 
 #[test]
 fn the_message_after_4096_cuts_the_connection(rt: HostRuntime) -> Result<(), Fail> {
     let alloc = rt.alloc();
-    let mut connections = alice_and_bob(&rt, alloc)?;
-    let login = claim_next(&rt, &mut connections, ALICE, 3)?;
-    let mut outs = Vec::new(alloc);
-    for _ in 0..OUTS_MOST_COUNT {
-        outs.push((ALICE, Out::Refused))?;
-    }
-    deliver(alloc, &mut connections, &login, outs.as_slice())?;
-    assert_eq!(&rt; connections.outbox_len(ALICE), OUTS_MOST_COUNT);
-    connections.claim(BOB, 4);
+    let mut connections = with_full_outbox(&rt, alloc)?;
     assert!(&rt; connections.least_ready() == None);
-    deliver(
-        alloc,
-        &mut connections,
-        &Job::Initialize,
-        [(ALICE, Out::Close)].as_slice(),
-    )?;
-    assert_eq!(&rt;
-        connections.post(ALICE, says(alloc, "go")?),
-        Err(PostRefused::Closed)
-    );
-    let handed = connections.hand(ALICE, 4_095).ok().ok_or("a list")?;
-    assert_eq!(&rt; (handed.outs.as_slice().len(), handed.end), (4_095, false));
-    deliver(
-        alloc,
-        &mut connections,
-        &Job::Initialize,
-        [(ALICE, Out::Accepted)].as_slice(),
-    )?;
-    assert_eq!(&rt; connections.outbox_len(ALICE), 1);
-    let end = claim_next(&rt, &mut connections, ALICE, 5)?;
-    let name = name(alloc, "alice")?;
-    assert!(&rt;
-        end == Job::Disconnect {
-            conn: ALICE,
-            name,
-            graceful: false
-        }
-    );
-    deliver(alloc, &mut connections, &end, [].as_slice())?;
-    assert_handed(
+    deliver(alloc, &mut connections, "look", &[(ALICE, "close")])?;
+    assert_eq!(&rt; connections.outbox_len(ALICE), OUTS_MOST_COUNT);
+    post(
         &rt,
+        alloc,
         &mut connections,
         ALICE,
-        9,
-        [Out::Refused].as_slice(),
-        true,
+        "go",
+        Err(PostRefused::Closed),
     )?;
+    claim_alices(&rt, alloc, &mut connections, "lost", 5)?;
+    deliver(alloc, &mut connections, "lost", &[(ALICE, "late")])?;
+    assert_eq!(&rt; connections.outbox_len(ALICE), OUTS_MOST_COUNT);
+    Ok(())
+}
+
+#[test]
+fn a_cut_connection_gets_no_message(rt: HostRuntime) -> Result<(), Fail> {
+    let alloc = rt.alloc();
+    let mut connections = with_full_outbox(&rt, alloc)?;
+    deliver(alloc, &mut connections, "look", &[(ALICE, "one more")])?;
+    let handed = connections.hand(ALICE, 4_095).ok().ok_or("a list")?;
+    assert!(&rt; !handed.end);
+    deliver(alloc, &mut connections, "login", &[(ALICE, "late")])?;
+    assert_handed(&rt, alloc, &mut connections, ALICE, 9, &["refused"], false)?;
     Ok(())
 }
