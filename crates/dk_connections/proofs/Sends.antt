@@ -1,11 +1,11 @@
 -- Messages put into outboxes one after another, and connections closed one after another.
-use Rattle.std.proofs.Common.{◌≡◌, ℕ, ◌+◌, ◌≤◌, refl, sym, ap, subst, ◌∙◌, Bool, true, false, cond, ◌&&◌, if◌then◌else◌, List, [], ◌∷◌, ◌++◌, length, append_assoc, append-nil, length-append, arith}
+use Rattle.std.proofs.Common.{◌≡◌, refl, sym, ap, subst, ◌∙◌, Bool, true, false, ◌&&◌, if◌then◌else◌, List, [], ◌∷◌, ◌++◌, append_assoc}
 use Rattle.std.specs.FinMap.{FinMap, get}
 use Rattle.dk_types.specs.declared.number.ConnNo.{ConnNo}
 use Rattle.dk_types.specs.declared.job.Out.{Out}
 use Rattle.dk_model.specs.Keys.{conn_cmp}
 use Rattle.dk_model.specs.Deliveries.{change_connection, close_off, closed_by, is_close, takes, with_closed, with_out, with_outs, without_done}
-use Rattle.dk_connections.specs.Linked.{Linked, all_of, change, left, linked, IsAlive, IsSwept, KeepsMarks}
+use Rattle.dk_connections.specs.Linked.{Linked, all_of, change, left, linked, IsAlive, KeepsMarks}
 use Rattle.dk_connections.proofs.Changes.{all_of-change, all_of-left, swept_alive}
 use Rattle.dk_connections.proofs.Closings.{without-closed}
 use Rattle.dk_connections.proofs.Marks.{keeps_change, keeps_left, keeps_same, marks_then}

@@ -1,12 +1,12 @@
 -- The connection at the front by place is the ready one that comes first, if any is ready.
-use Rattle.std.proofs.Common.{◌≡◌, ℕ, ◌<◌, ◌≤◌, refl, sym, ap, subst, ◌∙◌, Bool, true, false, cond, not, if◌then◌else◌, List, [], ◌∷◌, Option, None, Some, is_some, nat_lt, arith}
+use Rattle.std.proofs.Common.{◌≡◌, ℕ, ◌<◌, refl, sym, ap, subst, ◌∙◌, Bool, true, false, cond, not, if◌then◌else◌, List, [], ◌∷◌, Option, None, Some, is_some, nat_lt, arith}
 use Rattle.std.proofs.lemmas.Bool.Decides.{nat_tests}
 use Rattle.std.specs.List.{AllByRecursion, filter}
 use Rattle.std.specs.declared.cmp.Ordering.{Ordering}
 use Rattle.std.specs.declared.cmp.Ordering.TheVariants.{Less, Equal, Greater}
 use Rattle.std.specs.Ordering.{is_lt, eq_by_cmp, nat_cmp, bool_cmp, ordering_then}
 use Rattle.std.specs.Cmp.{ranked}
-use Rattle.std.specs.FinMap.{FinMap, entries, entries_sorted, get, get-entries}
+use Rattle.std.specs.FinMap.{FinMap, entries, get}
 use Rattle.dk_types.specs.declared.number.ConnNo.{ConnNo}
 use Rattle.dk_map.specs.AsMap.{map_of, IsNext}
 use Rattle.dk_map.specs.Entries.{find, first_entry, IsOrdered}

@@ -10,8 +10,8 @@ use Rattle.dk_model.specs.declared.waiting.Waiting.{Waiting}
 use Rattle.dk_model.specs.declared.waiting.Waiting.TheVariants.{Login}
 use Rattle.dk_model.specs.Keys.{conn_cmp}
 use Rattle.dk_model.specs.Worlds.{World}
-use Rattle.dk_model.specs.Picks.{Turn, first_job, inputs, input_of, is_claimed, is_earlier, is_of, job_of, least, lesser, mapped, pick_input, turn_of}
-use Rattle.dk_connections.specs.Linked.{Linked, all_of}
+use Rattle.dk_model.specs.Picks.{Turn, first_job, input_of, is_claimed, is_earlier, is_of, job_of, least, lesser, mapped, pick_input, turn_of}
+use Rattle.dk_connections.specs.Linked.{Linked}
 use Rattle.dk_connections.specs.Ready.{first_at, is_before, is_ready, job_at, HasConnections, HasInput, IsReadyAt}
 use Rattle.dk_connections.proofs.Changes.{connection_in}
 use Rattle.dk_connections.proofs.Found.{all_of_found}

@@ -1,5 +1,5 @@
 -- Which connections' first inputs can be run, and which of them comes first.
-use Rattle.std.specs.Prelude.{◌≡◌, ℕ, ◌<◌, not, Bool, false, length, nat_lt, Option, None, Some}
+use Rattle.std.specs.Prelude.{◌≡◌, ◌<◌, not, Bool, false, length, nat_lt, Option, None, Some}
 use Rattle.std.specs.List.{filter}
 use Rattle.std.specs.FinMap.{FinMap, entries, get}
 use Rattle.dk_types.specs.declared.number.ConnNo.{ConnNo}

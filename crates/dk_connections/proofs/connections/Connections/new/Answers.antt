@@ -1,4 +1,4 @@
-use Rattle.std.proofs.Common.{refl, ap, ◌∙◌}
+use Rattle.std.proofs.Common.{ap, ◌∙◌}
 use Rattle.dk_map.specs.AsMap.{map_of}
 use Rattle.dk_map.proofs.Maps.{map_of-empty}
 use Rattle.dk_map.proofs.Values.{values-empty}

@@ -1,4 +1,4 @@
-use Rattle.std.proofs.Common.{◌≡◌, ◌&&◌, ◌++◌, ◌∷◌, [], ◌∙◌, ap, sym, subst, true, false, if◌then◌else◌, length, length-append, inl, inr, arith}
+use Rattle.std.proofs.Common.{◌≡◌, ◌&&◌, ◌++◌, ◌∷◌, [], ◌∙◌, ap, sym, subst, if◌then◌else◌, length, length-append, inl, inr, arith}
 use Rattle.std.specs.Vec.Iter.{into_iter_items}
 use Rattle.dk_connections.proofs.Sends.{Sending, sending_step}
 use Rattle.dk_connections.proofs.connections.Connections.send_all.Goals as goal
