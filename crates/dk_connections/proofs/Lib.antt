@@ -1,0 +1,12 @@
+pub mod Changes
+pub mod Closings
+pub mod Delivered
+pub mod Found
+pub mod Kept
+pub mod Marks
+pub mod Orders
+pub mod Rooms
+pub mod Sends
+pub mod Soonest
+pub mod Steps
+pub mod Turns

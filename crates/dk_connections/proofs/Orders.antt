@@ -1,0 +1,34 @@
+-- The order of places is total, and only equal places tie.
+use Rattle.std.proofs.Common.{ℕ, refl, true, false}
+use Rattle.std.specs.declared.cmp.Ordering.{Ordering}
+use Rattle.std.specs.Ordering.{nat_cmp, bool_cmp, on, then_cmp}
+use Rattle.std.specs.Cmp.{IsTotalOrder, on_total, then_total, nat_cmp_total, bool_cmp_total}
+use Rattle.std.specs.FinMap.{IsAntisymmetric, nat_cmp-IsAntisymmetric}
+use Rattle.dk_types.specs.declared.number.ConnNo.{ConnNo}
+use Rattle.dk_map.proofs.Keys.{then-IsAntisymmetric}
+use Rattle.dk_model.specs.Keys.{conn_cmp}
+use Rattle.dk_model.proofs.Maps.{conns_total, exact_conns}
+use Rattle.dk_connections.specs.declared.place.Place.{Place}
+use Rattle.dk_connections.specs.Places.{place_cmp}
+
+-- by turn, and then by number
+abbrev pub turn_cmp : ℕ × ConnNo → ℕ × ConnNo → Ordering
+turn_cmp = then_cmp (on (λ t. t.0) nat_cmp) (on (λ t. t.1) conn_cmp)
+
+turns_total : IsTotalOrder turn_cmp
+turns_total = then_total (on_total (λ (t : ℕ × ConnNo). t.0) nat_cmp_total) (on_total (λ (t : ℕ × ConnNo). t.1) conns_total)
+
+exact_turns : IsAntisymmetric turn_cmp
+exact_turns = then-IsAntisymmetric (λ (t : ℕ × ConnNo). t.0) (λ (t : ℕ × ConnNo). t.1) nat_cmp-IsAntisymmetric exact_conns (λ x y p q i. (p i, q i))
+
+exact_bools : IsAntisymmetric bool_cmp
+exact_bools false false e = refl
+exact_bools false true e = cc
+exact_bools true false e = cc
+exact_bools true true e = refl
+
+pub places_total : IsTotalOrder place_cmp
+places_total = then_total (on_total (λ (p : Place). p.idle) bool_cmp_total) (on_total (λ (p : Place). (p.turn, p.conn)) turns_total)
+
+pub exact_places : IsAntisymmetric place_cmp
+exact_places = then-IsAntisymmetric (λ (p : Place). p.idle) (λ (p : Place). (p.turn, p.conn)) exact_bools exact_turns (λ x y p q i. record { idle = p i; turn = (q i).0; conn = (q i).1 })

@@ -1,0 +1,5 @@
+pub mod Linked
+pub mod Places
+pub mod Posts
+pub mod Queues
+pub mod Ready
