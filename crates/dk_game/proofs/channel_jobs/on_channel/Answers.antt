@@ -19,5 +19,5 @@ returns-in-Ok g c = channel_does _ _ _ _ c.in-Ok.ensures (if_true_does _ (ap (is
 pub returns-in-NameNotBound : goal.returns-in-NameNotBound
 returns-in-NameNotBound g c = channel_none _ _ _ _ (rw c.in-NameNotBound.is at c.in-Err.ensures)
 
-pub returns-in_default : goal.returns-in_default
-returns-in_default g c = channel_halts _ _ _ _ c.in-Err.ensures c.in_default.not-NameNotBound c.from.ensures
+pub returns : goal.returns
+returns g c = channel_halts _ _ _ _ c.in-Err.ensures c.in_default.not-NameNotBound c.from.ensures
