@@ -1,4 +1,4 @@
-use Rattle.dk_txn.proofs.Kit.{then_does, halts, stops, halts_last, then_last, give_does, if_true_does, if_false_does, leads_does, leads_then, same_error, keeps_all}
+use Rattle.dk_txn.proofs.Kit.{then_does, halts, give_does, if_true_does, if_false_does}
 use Rattle.dk_game.proofs.session_jobs.disconnect.Goals as goal
 
 pub returns-in_err-is_connected : goal.returns-in_err-is_connected

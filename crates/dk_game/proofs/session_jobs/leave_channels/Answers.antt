@@ -1,5 +1,5 @@
 use Rattle.std.proofs.Common.{◌∙◌}
-use Rattle.dk_txn.proofs.Kit.{then_does, halts, stops, halts_last, then_last, give_does, if_true_does, if_false_does, leads_does, leads_then, same_error, keeps_all}
+use Rattle.dk_txn.proofs.Kit.{stops, give_does, leads_does, leads_then, same_error, keeps_all}
 use Rattle.dk_txn.proofs.ObjectCalls.{forgotten}
 use Rattle.dk_game.proofs.SessionJobs.{at_channel, at_end}
 use Rattle.dk_game.proofs.session_jobs.leave_channels.Goals as goal
