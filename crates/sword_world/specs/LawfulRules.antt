@@ -7,7 +7,7 @@ use Rattle.dk_types.specs.declared.job.Job.{Job}
 use Rattle.dk_types.specs.declared.job.Job.TheVariants as job
 use Rattle.dk_types.specs.declared.job.Out.TheVariants as out
 use Rattle.dk_types.specs.Names.{IsName}
-use Rattle.dk_wire.specs.Fields.{name_spelling, id_spelling}
+use Rattle.dk_wire.specs.Fields.{u8_spelling, name_spelling, id_spelling}
 use Rattle.dk_wire.specs.Lists.{list_spelling}
 use Rattle.dk_model.specs.Runs.{TOO_LONG}
 use Rattle.dk_model.specs.Records.{is_name_too_long}
@@ -40,8 +40,9 @@ bytes_of_sword : AreBytes (thing_bytes the_sword)
 bytes_of_sword = bytes_of_name (codes "a shiny sword") (name_of_ascii (codes "a shiny sword") refl refl refl)
 
 bytes_of_carried : (carried : Option ObjectId) → AreBytes (carried_bytes carried)
+unfolding u8_spelling
 bytes_of_carried None = bytes_cons 0 [] (lit< tt) bytes_nil
-bytes_of_carried (Some id) = bytes_cons 1 (id_spelling id) (lit< tt) (bytes_of_id id)
+bytes_of_carried (Some id) = bytes_append (u8_spelling 1) (id_spelling id) (bytes_cons 1 [] (lit< tt) bytes_nil) (bytes_of_id id)
 
 bytes_of_player : (player : Player) → IsName player.name → AreBytes (player_bytes player)
 bytes_of_player player is = bytes_append (name_spelling player.name) (carried_bytes player.carried) (bytes_of_name player.name is) (bytes_of_carried player.carried)

@@ -9,6 +9,7 @@ pub use game::SwordWorld;
 pub use things::{Player, Room, Thing};
 
 pub mod command;
+pub mod forms;
 pub mod game;
 pub mod scene;
 pub mod texts;
