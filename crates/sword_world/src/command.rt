@@ -5,7 +5,7 @@ ghost use Rattle.dk_game.specs.Halted.{halt_fault};
 ghost use Rattle.sword_world.specs.Rules as rules;
 
 use crate::labels::labels_of;
-use crate::scene::{Scene, scene};
+use crate::scene::{Scene, find_scene};
 use crate::texts::{already_body, bare_body, drop_body, empty_body, look_body, take_body};
 use crate::things::{Player, Thing, others_of};
 use dk_game::Halt;
@@ -174,7 +174,7 @@ pub fn answer<V: View>(
 ) -> Result<(), Halt>
     ensures { Does V.gave halt_fault txn.old txn.new (rules.answer conn name.now command) result }
 {
-    let scene = scene(alloc, txn, name)?;
+    let scene = find_scene(alloc, txn, name)?;
     let text = obey(alloc, txn, command, scene)?;
     txn.send(conn, Out::Message(text))?;
     Ok(())

@@ -94,7 +94,7 @@ pub fn room_to_change<V: View>(
 }
 
 /// What a command of the player of a login name finds.
-pub fn scene<V: View>(alloc: Global, txn: &mut Txn<'_, V>, name: &Name) -> Result<Scene, Halt>
+pub fn find_scene<V: View>(alloc: Global, txn: &mut Txn<'_, V>, name: &Name) -> Result<Scene, Halt>
     ensures { Does V.gave halt_fault txn.old txn.new (rules.scene name.now) result }
 {
     let (me, player) = player_there(alloc, txn, name)?;
@@ -108,7 +108,7 @@ pub fn scene<V: View>(alloc: Global, txn: &mut Txn<'_, V>, name: &Name) -> Resul
 }
 
 /// What the end of the player's session finds: the run is to change the room.
-pub fn last_scene<V: View>(
+pub fn find_last_scene<V: View>(
     alloc: Global,
     txn: &mut Txn<'_, V>,
     name: &Name,

@@ -4,7 +4,7 @@ ghost use Rattle.dk_txn.specs.Does.{Does};
 ghost use Rattle.dk_game.specs.Halted.{halt_fault};
 ghost use Rattle.sword_world.specs.Rules as rules;
 
-use crate::scene::{NAME_TOO_LONG, Scene, last_scene, player_key, room_to_change};
+use crate::scene::{NAME_TOO_LONG, Scene, find_last_scene, player_key, room_to_change};
 use crate::things::{Player, Room};
 use dk_game::Halt;
 use dk_refs::ManagedRef;
@@ -42,7 +42,7 @@ fn known_player<V: View>(
     match txn.bound(key) {
         Ok(id) => Ok(id),
         Err(Refusal::NameNotBound) => new_player(alloc, txn, name, key),
-        Err(_) => Err(Halt::NoMemory),
+        Err(refusal) => Err(Halt::from(refusal)),
     }
 }
 
@@ -115,6 +115,6 @@ fn leave<V: View>(alloc: Global, txn: &mut Txn<'_, V>, scene: Scene) -> Result<(
 pub fn disconnect<V: View>(alloc: Global, txn: &mut Txn<'_, V>, name: &Name) -> Result<(), Halt>
     ensures { Does V.gave halt_fault txn.old txn.new (rules.disconnect name.now) result }
 {
-    let scene = last_scene(alloc, txn, name)?;
+    let scene = find_last_scene(alloc, txn, name)?;
     leave(alloc, txn, scene)
 }
