@@ -13,8 +13,7 @@ use Rattle.dk_wire.proofs.Steps.{bind_ok, ok_is}
 use Rattle.dk_wire.proofs.NextLaws.{next_u8_exact, next_name_exact, next_id_exact}
 use Rattle.dk_wire.proofs.ListLaws.{list_exact}
 use Rattle.dk_records.specs.FieldLaws.{each_id_exact}
-use Rattle.dk_refs.specs.Managing.{ReadsExactly}
-use Rattle.dk_refs.proofs.Exact.{reads_exactly}
+use Rattle.dk_refs.specs.Managing.{ReadsExactly, reads_exactly}
 use Rattle.sword_world.specs.declared.things.Room.{Room}
 use Rattle.sword_world.specs.declared.things.Thing.{Thing}
 use Rattle.sword_world.specs.declared.things.Player.{Player}

@@ -14,5 +14,7 @@ pub mod game;
 pub mod labels;
 pub mod scene;
 pub mod sessions;
+#[cfg(test)]
+mod tests;
 pub mod texts;
 pub mod things;

@@ -8,7 +8,7 @@ use crate::scene::{NAME_TOO_LONG, Scene, find_last_scene, player_key, room_to_ch
 use crate::things::{Player, Room};
 use dk_game::Halt;
 use dk_refs::ManagedRef;
-use dk_txn::{Refusal, Txn, View};
+use dk_txn::{Txn, View};
 use dk_types::{Name, NoMemory, ObjectId};
 use std::alloc::Global;
 
@@ -39,10 +39,9 @@ fn known_player<V: View>(
     requires { key.now ≡ rules.player_name name.now }
     ensures { Does V.gave halt_fault txn.old txn.new (rules.known_player name.now) result }
 {
-    match txn.bound(key) {
-        Ok(id) => Ok(id),
-        Err(Refusal::NameNotBound) => new_player(alloc, txn, name, key),
-        Err(refusal) => Err(Halt::from(refusal)),
+    match txn.binding(key)? {
+        Some(id) => Ok(id),
+        None => new_player(alloc, txn, name, key),
     }
 }
 
