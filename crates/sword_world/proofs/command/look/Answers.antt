@@ -1,4 +1,3 @@
-use Rattle.std.proofs.Common.{refl}
 use Rattle.dk_txn.proofs.Kit.{then_does, give_does, stops}
 use Rattle.sword_world.specs.Rules.{look}
 use Rattle.sword_world.proofs.Parts.{starves}

@@ -7,10 +7,6 @@ pub returns-in_err-thing : goal.returns-in_err-thing
 unfolding put_down
 returns-in_err-thing g c = stops _ c.in_err-thing.ensures c.from_residual.ensures.1
 
-pub returns-in_err-room : goal.returns-in_err-room
-unfolding put_down
-returns-in_err-room g c = then_does _ c.in_ok-thing.ensures (starves c.from_residual-in_err-room.ensures.1)
-
 pub returns-in_err-save : goal.returns-in_err-save
 unfolding put_down
 returns-in_err-save g c = then_does _ c.in_ok-thing.ensures (halts _ (rw c.in_ok-room.ensures at c.in_err-save.ensures.does) c.from_residual-in_err-save.ensures.1)

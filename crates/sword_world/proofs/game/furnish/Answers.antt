@@ -1,18 +1,10 @@
 use Rattle.dk_txn.proofs.Kit.{then_does, then_last, halts, halts_last}
 use Rattle.sword_world.specs.Rules.{furnish}
-use Rattle.sword_world.proofs.Parts.{starves}
 use Rattle.sword_world.proofs.game.furnish.Goals as goal
-
-pub returns-in_err-room : goal.returns-in_err-room
-returns-in_err-room g c = starves c.from_residual.ensures.1
 
 pub returns-in_err-place : goal.returns-in_err-place
 unfolding furnish
 returns-in_err-place g c = halts _ (rw c.in_ok-room.ensures at c.in_err-place.ensures.does) c.from_residual-in_err-place.ensures.1
-
-pub returns-in_err-name : goal.returns-in_err-name
-unfolding furnish
-returns-in_err-name g c = then_does _ (rw c.in_ok-room.ensures at c.in_ok-place.ensures.does) (starves c.from_residual-in_err-name.ensures.1)
 
 pub returns-in_err-bind : goal.returns-in_err-bind
 unfolding furnish

@@ -1,10 +1,6 @@
 use Rattle.dk_txn.proofs.Kit.{then_does, halts}
 use Rattle.sword_world.specs.Rules.{initialize}
-use Rattle.sword_world.proofs.Parts.{starves}
 use Rattle.sword_world.proofs.game.initialize.Goals as goal
-
-pub returns-in_err-thing : goal.returns-in_err-thing
-returns-in_err-thing g c = starves c.from_residual.ensures.1
 
 pub returns-in_err-sword : goal.returns-in_err-sword
 unfolding initialize

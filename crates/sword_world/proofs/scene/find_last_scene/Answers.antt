@@ -2,14 +2,14 @@ use Rattle.dk_txn.proofs.Kit.{then_does, give_does, stops}
 use Rattle.sword_world.specs.Rules.{last_scene}
 use Rattle.sword_world.proofs.scene.find_last_scene.Goals as goal
 
-pub returns-in_err-player_there : goal.returns-in_err-player_there
+pub returns-in_err-me : goal.returns-in_err-me
 unfolding last_scene
-returns-in_err-player_there g c = stops _ c.in_err-player_there.ensures c.from_residual.ensures.1
+returns-in_err-me g c = stops _ c.in_err-me.ensures c.from_residual.ensures.1
 
-pub returns-in_err-room_to_change : goal.returns-in_err-room_to_change
+pub returns-in_err-place : goal.returns-in_err-place
 unfolding last_scene
-returns-in_err-room_to_change g c = then_does _ c.in_ok-player_there.ensures (stops _ c.in_err-room_to_change.ensures c.from_residual-in_err-room_to_change.ensures.1)
+returns-in_err-place g c = then_does _ c.in_ok-me.ensures (stops _ c.in_err-place.ensures c.from_residual-in_err-place.ensures.1)
 
 pub returns : goal.returns
 unfolding last_scene
-returns g c = then_does _ c.in_ok-player_there.ensures (then_does _ c.in_ok-room_to_change.ensures give_does)
+returns g c = then_does _ c.in_ok-me.ensures (then_does _ c.in_ok-place.ensures give_does)

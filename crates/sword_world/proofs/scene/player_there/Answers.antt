@@ -1,12 +1,7 @@
-use Rattle.std.proofs.Common.{refl}
 use Rattle.dk_txn.proofs.Kit.{if_true_does, if_false_does}
-use Rattle.dk_txn.proofs.ObjectCalls.{refused_here}
 use Rattle.sword_world.specs.Rules.{player_there}
-use Rattle.sword_world.proofs.Parts.{starves, turned_away}
+use Rattle.sword_world.proofs.Parts.{turned_away}
 use Rattle.sword_world.proofs.scene.player_there.Goals as goal
-
-pub returns-in_err-player_key : goal.returns-in_err-player_key
-returns-in_err-player_key g c = starves c.from_residual.ensures.1
 
 pub returns-in-None : goal.returns-in-None
 unfolding player_there

@@ -8,8 +8,8 @@ returns-in_err-id g c = halts _ c.in_err-id.ensures.does c.from_residual.ensures
 
 pub returns-in_err-player : goal.returns-in_err-player
 unfolding player_under
-returns-in_err-player g c = then_does _ c.in_ok-id.ensures.does (halts _ (rw c.of.ensures at c.in_err-player.ensures.does) c.from_residual-in_err-player.ensures.1)
+returns-in_err-player g c = then_does _ c.in_ok-id.ensures.does (halts _ (rw c.of-me.ensures at c.in_err-player.ensures.does) c.from_residual-in_err-player.ensures.1)
 
 pub returns : goal.returns
 unfolding player_under
-returns g c = rw c.of.ensures (then_does _ c.in_ok-id.ensures.does (then_does _ (rw c.of.ensures at c.in_ok-player.ensures.does) give_does))
+returns g c = rw c.of-me.ensures (then_does _ c.in_ok-id.ensures.does (then_does _ (rw c.of-me.ensures at c.in_ok-player.ensures.does) give_does))

@@ -1,10 +1,7 @@
 use Rattle.dk_txn.proofs.Kit.{if_true_does, if_false_does}
 use Rattle.sword_world.specs.Rules.{login}
-use Rattle.sword_world.proofs.Parts.{starves, turned_away}
+use Rattle.sword_world.proofs.Parts.{turned_away}
 use Rattle.sword_world.proofs.sessions.login.Goals as goal
-
-pub returns-in_err-player_key : goal.returns-in_err-player_key
-returns-in_err-player_key g c = starves c.from_residual.ensures.1
 
 pub returns-in-None : goal.returns-in-None
 unfolding login

@@ -1,12 +1,6 @@
-use Rattle.std.proofs.Common.{◌≡◌, List, ℕ, None, ap}
 use Rattle.dk_txn.proofs.Kit.{then_does, give_does, halts}
-use Rattle.sword_world.specs.Things.{player_bytes}
 use Rattle.sword_world.specs.Rules.{new_player}
-use Rattle.sword_world.proofs.Parts.{starves}
 use Rattle.sword_world.proofs.sessions.new_player.Goals as goal
-
-pub returns-in_err-clone : goal.returns-in_err-clone
-returns-in_err-clone g c = starves c.from_residual.ensures.1
 
 pub returns-in_err-made : goal.returns-in_err-made
 unfolding new_player
