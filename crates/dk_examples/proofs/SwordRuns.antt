@@ -1,5 +1,5 @@
 -- The runs of SwordWorld.
-use Rattle.std.proofs.Common.{◌≡◌, true, Some, None, [], ◌∷◌, codes, refl}
+use Rattle.std.proofs.Common.{◌≡◌, true, Ok, Some, None, [], ◌∷◌, codes, refl}
 use Rattle.std.specs.FinMap.{empty, insert, remove, from_entries}
 use Rattle.std.specs.Str.{is_utf8, chars}
 use Rattle.std.specs.Str.Lossy.{utf8_valid_len}
@@ -11,6 +11,8 @@ use Rattle.dk_wire.specs.Fields.{u8_spelling, u64_spelling, u32_spelling, name_s
 use Rattle.dk_wire.specs.Payload.{next_u8, next_u32, next_name, next_id, next_end}
 use Rattle.dk_wire.specs.Reading.{u8_at, u32_at, name_at, id_at, end_at}
 use Rattle.dk_wire.specs.Lists.{list_spelling, items_at, list_at}
+use Rattle.dk_model.specs.declared.mode.Mode.TheVariants.{Game}
+use Rattle.dk_model.specs.DurableWorlds.{DurableWorld}
 use Rattle.dk_model.specs.Runs.{begun, give, and_then, within, get, create, mark, save, remove as remove_object, bound, bind, unbind, send}
 use Rattle.dk_model.specs.References.{get_as, get_for_update_as, save_as}
 use Rattle.dk_model.specs.Platforms.{is_connected, open_record, new_record, close_record}
@@ -133,16 +135,24 @@ sword_drop_nothing = runs_ok sword_rules (job.Message (conn 1) alice (codes "dro
     record { objects = refl; names = refl; tasks = refl } (simp (looks, session_read, a_player, room_of_one))
     record { objects = simp puts; names = simp puts; tasks = simp puts; sorted = record { objects = refl; names = refl; tasks = refl } } refl
 
+-- the room and the player as the game leaves them
+left_world : DurableWorld
+left_world = record (listed taken 4 (Some (run 5))) {
+  objects = insert (insert (insert (from_entries taken.objects) (id 0 1) (bare_object 1 (id 2 1 ∷ []))) (id 0 1) (room_object 0 [])) (id 2 1) alice_player;
+}
+
+-- the game's part of the end
+alice_leaves : disconnect alice (record (begun (run 5) 0 (listed taken 3 (Some (run 4)))) { mode = Game })
+    ≡ (Ok tt, record (at_end left_world (ask.Object (id 0 1) ∷ ask.Object (id 0 1) ∷ ask.Object (id 2 1) ∷ []) [] (run 5) 0 0 0) { mode = Game })
+unfolding left_world and_then give get get_as get_for_update_as mark save_as save bound disconnect last_scene player_there player_under room_to_change leave u8_spelling u64_spelling u32_spelling list_spelling name_spelling id_spelling
+alice_leaves = simp (looks, armed, bare_room)
+
 pub sword_leave : SwordLeave
-unfolding within and_then give get get_as get_for_update_as mark save_as save bound is_connected unbind remove_object close_record disconnect last_scene player_there player_under room_to_change leave u8_spelling u64_spelling u32_spelling list_spelling name_spelling id_spelling
+unfolding left_world within and_then give get get_as is_connected unbind remove_object close_record
 sword_leave = runs_ok sword_rules (job.Disconnect (conn 1) alice true) (run 5) 0 taken alice_left 3 (Some (run 4))
-    (at_end
-    (record (listed taken 4 (Some (run 5))) {
-      objects = remove (insert (insert (insert (from_entries taken.objects) (id 0 1) (bare_object 1 (id 2 1 ∷ []))) (id 0 1) (room_object 0 [])) (id 2 1) alice_player) (id 2 0);
-      names = remove (from_entries taken.names) alice_record;
-    })
+    (at_end (record left_world { objects = remove left_world.objects (id 2 0); names = remove (from_entries taken.names) alice_record })
     (ask.Object (id 0 1) ∷ ask.Object (id 0 1) ∷ ask.Object (id 2 1) ∷ ask.Bound alice_record ∷ ask.Object (id 2 0) ∷ []) [] (run 5) 0 0 0)
-    record { objects = refl; names = refl; tasks = refl } (simp (looks, session_read, armed, bare_room))
+    record { objects = refl; names = refl; tasks = refl } (simp (looks, session_read, alice_leaves))
     record { objects = simp puts; names = simp puts; tasks = simp puts; sorted = record { objects = refl; names = refl; tasks = refl } } refl
 
 pub sword_lengths : SwordLengths
