@@ -1,5 +1,4 @@
 pub mod ListSteps
-pub mod LabelParts
-pub mod Lengths
+pub mod Parts
+pub mod Commands
 pub mod SwordSends
-pub mod SwordWrites

@@ -1,58 +1,18 @@
 //! What objects are called.
-ghost use Rattle.std.specs.Prelude.{◌≡◌};
-ghost use Rattle.dk_plain.specs.Plains.{Does};
+ghost use Rattle.std.specs.Prelude.{◌≡◌, ◌++◌, ◌∷◌, [], IfOk};
+ghost use Rattle.dk_txn.specs.Does.{Does};
+ghost use Rattle.dk_game.specs.Halted.{halt_fault};
 ghost use Rattle.sword_world.specs.Labels.{labels};
 
-use crate::reads::{read_player, read_room, read_thing};
-use crate::things::{Player, Room, Thing};
-use dk_plain::{Halt, PlainRun, Stored};
+use crate::things::{Player, Thing};
+use dk_game::Halt;
+use dk_refs::{Managed, ManagedRef};
+use dk_txn::{Txn, View};
 use dk_types::{Listed, Name, NoMemory, ObjectId};
 use std::alloc::Global;
 
-impl Stored for Room {
-    ghost use Rattle.sword_world.specs.Things.{room_of};
-
-    const KIND: u16 = 1;
-
-    ghost KIND = { 1 };
-
-    ghost of = { room_of };
-
-    fn read(alloc: Global, bytes: &[u8]) -> Result<Option<Room>, NoMemory> {
-        read_room(alloc, bytes)
-    }
-}
-
-impl Stored for Thing {
-    ghost use Rattle.sword_world.specs.Things.{thing_of};
-
-    const KIND: u16 = 2;
-
-    ghost KIND = { 2 };
-
-    ghost of = { thing_of };
-
-    fn read(alloc: Global, bytes: &[u8]) -> Result<Option<Thing>, NoMemory> {
-        read_thing(alloc, bytes)
-    }
-}
-
-impl Stored for Player {
-    ghost use Rattle.sword_world.specs.Things.{player_of};
-
-    const KIND: u16 = 3;
-
-    ghost KIND = { 3 };
-
-    ghost of = { player_of };
-
-    fn read(alloc: Global, bytes: &[u8]) -> Result<Option<Player>, NoMemory> {
-        read_player(alloc, bytes)
-    }
-}
-
-/// A kept value with a name to show.
-pub trait Labelled: Stored {
+/// A managed object with a name to show.
+pub trait Labelled: Managed {
     ghost use Rattle.std.specs.Prelude.{ℕ, List};
 
     ghost label: { Self → List ℕ };
@@ -77,18 +37,26 @@ impl Labelled for Player {
     }
 }
 
+fn push_label(labels: &mut Vec<Name>, label: Name) -> Result<(), NoMemory>
+    ensures { IfOk result (λ _. labels.new.items ≡ labels.old.items ++ label ∷ []) }
+{
+    labels.push(label)?;
+    Ok(())
+}
+
 /// What each of the objects is called, in their order.
-pub fn labels_of<T: Labelled>(
+pub fn labels_of<T: Labelled, V: View>(
     alloc: Global,
-    run: &PlainRun,
+    txn: &mut Txn<'_, V>,
     ids: &[ObjectId],
 ) -> Result<Listed<Name>, Halt>
-    ensures { Does run.now run.now (labels T.KIND T.of T.label ids.now) result }
+    ensures { Does V.gave halt_fault txn.old txn.new (labels T.KIND T.of T.label ids.now) result }
 {
     let mut labels = Vec::new(alloc);
     for id in ids {
-        let found = run.get_as::<T>(alloc, *id)?;
-        labels.push(found.into_label())?;
+        let object: ManagedRef<T> = ManagedRef::of(*id);
+        let found = object.get(alloc, txn)?;
+        push_label(&mut labels, found.into_label())?;
     }
     Ok(Listed::from_vec(labels))
 }
