@@ -7,6 +7,7 @@ pub mod Bytes
 pub mod Readings
 pub mod RecordFacts
 pub mod ReferenceActs
+pub mod Sendings
 pub mod PlatformActs
 pub mod Works
 pub mod StepLaws

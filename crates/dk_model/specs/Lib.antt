@@ -6,6 +6,7 @@ pub mod Runs
 pub mod References
 pub mod Records
 pub mod Platforms
+pub mod Sendings
 pub mod Steps
 pub mod Lawful
 pub mod Worlds
