@@ -1,5 +1,5 @@
 -- Each of the platform's calls on sessions and channels is lawful.
-use Rattle.std.proofs.Common.{◌≡◌, ℕ, ◌+◌, ◌<◌, ◌^◌, arith, Bool, true, false, cond, if◌then◌else◌, All, not, ◌||◌, ◌==◌, nat_eq, nat_lt, is_some, Option, Some, None, List, [], ◌∷◌, ◌++◌, length, refl}
+use Rattle.std.proofs.Common.{◌≡◌, ℕ, ◌+◌, ◌<◌, ◌^◌, arith, Bool, true, false, cond, if◌then◌else◌, All, not, ◌||◌, nat_eq, nat_lt, is_some, Option, Some, None, List, [], ◌∷◌, ◌++◌, length, refl}
 use Rattle.std.specs.FinMap as maps
 use Rattle.std.proofs.lemmas.List.Elements.{All-nil, All-push, All-filter}
 use Rattle.dk_types.specs.declared.number.ObjectId.{ObjectId}
@@ -10,7 +10,7 @@ use Rattle.dk_types.specs.declared.job.Out.TheVariants as out
 use Rattle.dk_types.specs.declared.limits.TheConstants.{MESSAGES_MOST_COUNT}
 use Rattle.dk_types.specs.Names.{IsName}
 use Rattle.dk_model.specs.declared.mode.Mode.TheVariants.{Platform}
-use Rattle.dk_model.specs.Runs.{Run, and_then, found, refuse, create, bind, is_too_long, NAME_NOT_BOUND, TOO_LONG, NAME_EXISTS, BAD_BYTES}
+use Rattle.dk_model.specs.Runs.{Run, and_then, refuse, create, bind, is_too_long, NAME_NOT_BOUND, TOO_LONG, NAME_EXISTS}
 use Rattle.dk_model.specs.Lawful.{IsFit}
 use Rattle.dk_model.specs.declared.records.SessionRecord.{SessionRecord}
 use Rattle.dk_model.specs.declared.records.ChannelRecord.{ChannelRecord}
@@ -18,8 +18,8 @@ use Rattle.dk_model.specs.declared.records.Delivery.{Delivery}
 use Rattle.dk_model.specs.Records.{SESSION_KIND, CHANNEL_KIND, session_bytes, session_of, channel_bytes, channel_of, session_name, channel_name, is_name_too_long}
 use Rattle.dk_model.specs.Platforms as does
 use Rattle.dk_model.specs.Platforms.{platform_bound, found_as, is_member, without_member, without_channel, same_session, same_name, is_sender, numbered, recorded_as, drop_recorded, drop_each, leave_members}
-use Rattle.dk_model.proofs.Acts.{Anything, AreBytes, IsId, HasIfOk, IsLawful, stays, refused, at_if, lawful_then, lawful_give, lawful_done, lawful_refuse, lawful_if, lawful_if_at, lawful_looks, lawful_within}
-use Rattle.dk_model.proofs.Operations.{lawful_get, lawful_create, lawful_save, lawful_remove, lawful_bound, lawful_bind, lawful_unbind, lawful_send, sent_at}
+use Rattle.dk_model.proofs.Acts.{Anything, AreBytes, IsId, IsLawful, stays, refused, at_if, lawful_then, lawful_give, lawful_done, lawful_refuse, lawful_if, lawful_if_at, lawful_looks, lawful_within}
+use Rattle.dk_model.proofs.Operations.{lawful_create, lawful_save, lawful_remove, lawful_bound, lawful_bind, lawful_unbind, lawful_send, sent_at}
 use Rattle.dk_model.proofs.ReferenceActs.{lawful_get_as}
 use Rattle.dk_model.proofs.RecordFacts.{HasChannels, HasMembers, IsNamed, session_fits, channel_fits, bytes_of_session, bytes_of_channel, session_named, channel_named}
 

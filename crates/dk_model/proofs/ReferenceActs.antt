@@ -1,7 +1,7 @@
 -- Each step of a typed reference is lawful.
-use Rattle.std.proofs.Common.{◌≡◌, ℕ, ◌==◌, if◌then◌else◌, Option, Some, None, List, Ok, refl}
+use Rattle.std.proofs.Common.{◌≡◌, ℕ, ◌==◌, Option, Some, None, List, refl}
 use Rattle.dk_types.specs.declared.number.ObjectId.{ObjectId}
-use Rattle.dk_model.specs.Runs.{found, refuse, WRONG_KIND, BAD_BYTES}
+use Rattle.dk_model.specs.Runs.{found, WRONG_KIND, BAD_BYTES}
 use Rattle.dk_model.specs.References as does
 use Rattle.dk_model.proofs.Acts.{Anything, AreBytes, HasIfOk, IsLawful, stays, refused, at_if, lawful_then, lawful_give, lawful_refuse, lawful_if}
 use Rattle.dk_model.proofs.Operations.{lawful_get, lawful_mark, lawful_save}

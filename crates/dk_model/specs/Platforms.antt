@@ -1,5 +1,5 @@
 -- What the platform's own calls do: sessions and channels, kept as managed objects under names that begin with `$`.
-use Rattle.std.specs.Prelude.{ℕ, ◌+◌, ◌&&◌, ◌||◌, ◌==◌, not, Bool, true, false, Option, Some, None, List, [], ◌∷◌, ◌++◌, length, nat_lt, map, filter, is_some, if◌then◌else◌, Ok}
+use Rattle.std.specs.Prelude.{ℕ, ◌+◌, ◌&&◌, ◌||◌, not, Bool, true, false, Option, Some, None, List, [], ◌∷◌, ◌++◌, length, nat_lt, map, filter, is_some, if◌then◌else◌, Ok}
 use Rattle.std.specs.FinMap as maps
 use Rattle.std.specs.List.{list_any}
 use Rattle.std.specs.Cmp.Lexicographic.{pointwise}
@@ -10,7 +10,7 @@ use Rattle.dk_types.specs.declared.job.Session.{Session}
 use Rattle.dk_types.specs.declared.job.Out.{Out}
 use Rattle.dk_types.specs.declared.job.Out.TheVariants as out
 use Rattle.dk_types.specs.declared.limits.TheConstants.{MESSAGES_MOST_COUNT}
-use Rattle.dk_model.specs.Runs.{Run, Act, give, and_then, within, found, refuse, get, create, save, remove, bound, bind, unbind, send, is_too_long, NAME_NOT_BOUND, WRONG_KIND, TOO_LONG, TOO_MANY, NAME_EXISTS, BAD_BYTES}
+use Rattle.dk_model.specs.Runs.{Run, Act, give, and_then, within, refuse, create, save, remove, bound, bind, unbind, send, is_too_long, NAME_NOT_BOUND, TOO_LONG, TOO_MANY, NAME_EXISTS}
 use Rattle.dk_model.specs.References.{get_as}
 use Rattle.dk_model.specs.declared.mode.Mode.TheVariants.{Platform}
 use Rattle.dk_model.specs.declared.records.SessionRecord.{SessionRecord}

@@ -1,5 +1,5 @@
 -- The platform's own objects: the record of a session and the record of a channel, and the names that lead to them.
-use Rattle.std.specs.Prelude.{ℕ, Bool, true, false, Option, List, [], ◌∷◌, ◌++◌, ◌==◌, length, nat_lt, if◌then◌else◌}
+use Rattle.std.specs.Prelude.{ℕ, Bool, true, false, Option, List, ◌∷◌, ◌++◌, ◌==◌, length, nat_lt, if◌then◌else◌}
 use Rattle.dk_types.specs.declared.job.Session.{Session}
 use Rattle.dk_model.specs.declared.records.SessionRecord.{SessionRecord}
 use Rattle.dk_model.specs.declared.records.ChannelRecord.{ChannelRecord}

@@ -1,5 +1,5 @@
-pub mod Carried
 pub mod Things
+pub mod ThingLaws
 pub mod Texts
 pub mod Labels
 pub mod Rules

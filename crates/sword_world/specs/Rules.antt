@@ -1,29 +1,38 @@
 -- What SwordWorld means: what each job does, said on the run in its midst.
-use Rattle.std.specs.Prelude.{ℕ, not, Bool, Option, Some, None, List, [], ◌∷◌, ◌++◌, map, filter, Result, Ok, Err, if◌then◌else◌, codes}
+use Rattle.std.specs.Prelude.{ℕ, not, Bool, Option, Some, None, List, [], ◌∷◌, ◌++◌, filter, Ok, if◌then◌else◌, codes}
 use Rattle.std.specs.FinMap as maps
+use Rattle.std.specs.Str.{str_to_ascii_lowercase}
 use Rattle.dk_types.specs.declared.number.ConnNo.{ConnNo}
 use Rattle.dk_types.specs.declared.number.ObjectId.{ObjectId}
 use Rattle.dk_types.specs.declared.job.Job.{Job}
 use Rattle.dk_types.specs.declared.job.Job.TheVariants as job
 use Rattle.dk_types.specs.declared.job.Out.TheVariants as out
-use Rattle.dk_model.specs.Runs.{Run, Act, give, and_then, refuse, create, save, bound, bind, send, TOO_LONG}
+use Rattle.dk_model.specs.Runs.{Act, give, and_then, refuse, create, bound, bind, send, TOO_LONG}
 use Rattle.dk_model.specs.Effects.{same_id}
-use Rattle.dk_model.specs.References.{get_as}
+use Rattle.dk_model.specs.References.{get_as, get_for_update_as, save_as}
 use Rattle.dk_model.specs.Platforms.{same_name}
 use Rattle.dk_model.specs.Records.{is_name_too_long}
-use Rattle.std.specs.Str.{str_to_ascii_lowercase}
+use Rattle.sword_world.specs.declared.command.Command.{Command}
+use Rattle.sword_world.specs.declared.command.Command.TheVariants as command
+use Rattle.sword_world.specs.declared.scene.Scene.{Scene}
 use Rattle.sword_world.specs.declared.things.Room.{Room}
 use Rattle.sword_world.specs.declared.things.Player.{Player}
 use Rattle.sword_world.specs.declared.things.Thing.{Thing}
 use Rattle.sword_world.specs.Things.{ROOM, THING, PLAYER, room_bytes, room_of, thing_bytes, thing_of, player_bytes, player_of}
-use Rattle.sword_world.specs.Texts.{look_text}
+use Rattle.sword_world.specs.Texts.{look_text, already_text, bare_text, take_text, empty_text, drop_text}
 use Rattle.sword_world.specs.Labels.{labels}
 
-abbrev pub sword_bytes : List ℕ
-sword_bytes = thing_bytes (record { description = codes "a shiny sword" })
+-- the one thing there is
+abbrev pub the_sword : Thing
+the_sword = record { description = codes "a shiny sword" }
 
+-- the name that the room is bound to
 abbrev pub room_name : List ℕ
 room_name = codes "Room"
+
+-- the name that a player's object is bound to
+abbrev pub player_name : List ℕ → List ℕ
+player_name name = codes "Player." ++ name
 
 -- the room, without players and with the sword, under its name
 unfoldable pub furnish : ObjectId → Act (Unit {0})
@@ -31,16 +40,13 @@ furnish sword = and_then (create ROOM (room_bytes (record { players = []; items 
 
 -- a sword lies in a room without players
 unfoldable pub initialize : Act (Unit {0})
-initialize = and_then (create THING sword_bytes) furnish
-
--- the name that a player's object is bound to
-abbrev pub player_name : List ℕ → List ℕ
-player_name name = codes "Player." ++ name
+initialize = and_then (create THING (thing_bytes the_sword)) furnish
 
 -- a new player, who carries nothing
 unfoldable pub new_player : List ℕ → Act ObjectId
 new_player name = and_then (create PLAYER (player_bytes (record { name = name; carried = None }))) (λ id. and_then (bind (player_name name) id) (λ _. give (Ok id)))
 
+-- the object that the player's name is bound to, or a new player where it is not bound
 abbrev pub player_found : Option ObjectId → List ℕ → Act ObjectId
 player_found None name = new_player name
 player_found (Some id) name = give (Ok id)
@@ -49,46 +55,140 @@ player_found (Some id) name = give (Ok id)
 unfoldable pub known_player : List ℕ → Act ObjectId
 known_player name s = player_found (maps.get s.world.names (player_name name)) name s
 
-abbrev pub with_room : {A : Type 0} → (ObjectId → Room → Act A) → Act A
-with_room go = and_then (bound room_name) (λ id. and_then (get_as ROOM room_of id) (λ room. go id room))
+-- the room and its object
+unfoldable pub room_there : Act (ObjectId × Room)
+room_there = and_then (bound room_name) (λ id. and_then (get_as ROOM room_of id) (λ room. give (Ok (id, room))))
+
+-- the same where a change follows
+unfoldable pub room_to_change : Act (ObjectId × Room)
+room_to_change = and_then (bound room_name) (λ id. and_then (get_for_update_as ROOM room_of id) (λ room. give (Ok (id, room))))
 
 -- the player is put last among the room's players
 unfoldable pub enter : ObjectId → Act (Unit {0})
-enter player = with_room (λ id room. save id (room_bytes (record { players = room.players ++ player ∷ []; items = room.items })))
+enter player = and_then room_to_change (λ place. save_as ROOM place.0 (room_bytes (record (place.1) { players = place.1.players ++ player ∷ [] })))
 
+-- a player whose name would be too long is turned away; any other enters the room
 unfoldable pub login : List ℕ → Act (Unit {0})
 login name s = if is_name_too_long (player_name name) then refuse TOO_LONG s else and_then (known_player name) enter s
+
+-- the player of this login name and its object
+unfoldable pub player_there : List ℕ → Act (ObjectId × Player)
+player_there name s =
+    if is_name_too_long (player_name name) then refuse TOO_LONG s
+    else and_then (bound (player_name name)) (λ id. and_then (get_as PLAYER player_of id) (λ player. give (Ok (id, player)))) s
+
+-- the player and the room, as a command finds them
+unfoldable pub scene : List ℕ → Act Scene
+scene name = and_then (player_there name) (λ me. and_then room_there (λ place. give (Ok (record { me = me.0; player = me.1; place = place.0; room = place.1 }))))
+
+-- the same for the end of a session, which always changes the room
+unfoldable pub last_scene : List ℕ → Act Scene
+last_scene name = and_then (player_there name) (λ me. and_then room_to_change (λ place. give (Ok (record { me = me.0; player = me.1; place = place.0; room = place.1 }))))
+
+-- the player carries this, and nothing else
+unfoldable pub hold : Scene → Option ObjectId → Act (Unit {0})
+hold scene carried = save_as PLAYER scene.me (player_bytes (record (scene.player) { carried = carried }))
+
+-- these things lie in the room, and no others
+unfoldable pub lay : Scene → List ObjectId → Act (Unit {0})
+lay scene items = save_as ROOM scene.place (room_bytes (record (scene.room) { items = items }))
+
+-- what a thing is called
+unfoldable pub description : ObjectId → Act (List ℕ)
+description item = and_then (get_as THING thing_of item) (λ thing. give (Ok thing.description))
 
 -- the players but for this one
 abbrev pub others : ObjectId → List ObjectId → List ObjectId
 others me players = filter (λ p. not (same_id p me)) players
 
-abbrev pub names_of_others : ObjectId → Room → Act (List (List ℕ))
-names_of_others me room = labels PLAYER player_of (λ p. p.name) (others me room.players)
+-- who else is in the room
+abbrev pub names_of_others : Scene → Act (List (List ℕ))
+names_of_others scene = labels PLAYER player_of (λ p. p.name) (others scene.me scene.room.players)
 
-abbrev pub things_in : Room → Act (List (List ℕ))
-things_in room = labels THING thing_of (λ t. t.description) room.items
+-- what lies in the room
+abbrev pub things_in : Scene → Act (List (List ℕ))
+things_in scene = labels THING thing_of (λ t. t.description) scene.room.items
 
--- what a player in the room is told of it
-unfoldable pub tell : ConnNo → ObjectId → Room → Act (Unit {0})
-tell conn me room = and_then (names_of_others me room) (λ names. and_then (things_in room) (λ things. send conn (out.Message (look_text names things))))
+-- look: who and what is in the room
+unfoldable pub look : Scene → Act (List ℕ)
+look scene = and_then (names_of_others scene) (λ names. and_then (things_in scene) (λ things. give (Ok (look_text names things))))
 
-unfoldable pub look_round : ConnNo → ObjectId → Act (Unit {0})
-look_round conn me = with_room (λ id room. tell conn me room)
+-- the thing leaves the room, and the player carries it
+unfoldable pub pick_up : Scene → ObjectId → List ObjectId → Act (List ℕ)
+pick_up scene item left = and_then (description item) (λ name. and_then (lay scene left) (λ _. and_then (hold scene (Some item)) (λ _. give (Ok (take_text name)))))
 
--- a command reads the player, and then the room
-unfoldable pub look_as : ConnNo → List ℕ → Act (Unit {0})
-look_as conn key = and_then (bound key) (λ me. and_then (get_as PLAYER player_of me) (λ player. look_round conn me))
+-- take: the first thing in the room, for one who carries nothing
+abbrev pub take_from : Scene → Option ObjectId → List ObjectId → Act (List ℕ)
+take_from scene (Some item) items = and_then (description item) (λ name. give (Ok (already_text name)))
+take_from scene None [] = give (Ok bare_text)
+take_from scene None (item ∷ left) = pick_up scene item left
 
-unfoldable pub look : ConnNo → List ℕ → Act (Unit {0})
-look conn name s = if is_name_too_long (player_name name) then refuse TOO_LONG s else look_as conn (player_name name) s
+unfoldable pub take : Scene → Act (List ℕ)
+take scene = take_from scene scene.player.carried scene.room.items
 
--- letters of either case stand for the same command
-abbrev pub is_look : List ℕ → Bool
-is_look body = same_name (str_to_ascii_lowercase body) (codes "look")
+-- the thing is put last in the room, and the player carries nothing
+unfoldable pub put_down : Scene → ObjectId → Act (List ℕ)
+put_down scene item = and_then (description item) (λ name. and_then (lay scene (scene.room.items ++ item ∷ [])) (λ _. and_then (hold scene None) (λ _. give (Ok (drop_text name)))))
+
+-- drop: what the player carries
+abbrev pub drop_what : Scene → Option ObjectId → Act (List ℕ)
+drop_what scene None = give (Ok empty_text)
+drop_what scene (Some item) = put_down scene item
+
+unfoldable pub drop : Scene → Act (List ℕ)
+drop scene = drop_what scene scene.player.carried
+
+-- what a command does, and the text that it is answered by
+abbrev pub obey : Command → Scene → Act (List ℕ)
+obey command.Look scene = look scene
+obey command.Take scene = take scene
+obey command.Drop scene = drop scene
+
+-- a command is answered by one message
+unfoldable pub answer : ConnNo → List ℕ → Command → Act (Unit {0})
+answer conn name c = and_then (scene name) (λ scene. and_then (obey c scene) (λ text. send conn (out.Message text)))
+
+-- letters of either case stand for the same word
+abbrev pub is_word : List ℕ → List ℕ → Bool
+is_word word body = same_name (str_to_ascii_lowercase body) word
+
+-- the command that a message is, if it is one
+abbrev pub command_of : List ℕ → Option Command
+command_of body =
+    if is_word (codes "look") body then Some command.Look
+    else if is_word (codes "take") body then Some command.Take
+    else if is_word (codes "drop") body then Some command.Drop
+    else None
+
+-- what is no command does nothing
+abbrev pub answer_if : ConnNo → List ℕ → Option Command → Act (Unit {0})
+answer_if conn name None = give (Ok tt)
+answer_if conn name (Some command) = answer conn name command
 
 unfoldable pub message : ConnNo → List ℕ → List ℕ → Act (Unit {0})
-message conn name body = if is_look body then look conn name else give (Ok tt)
+message conn name body = answer_if conn name (command_of body)
+
+-- what is carried, as a list of it
+abbrev pub carried_items : Option ObjectId → List ObjectId
+carried_items None = []
+carried_items (Some item) = item ∷ []
+
+-- the room without the player, and with what it carried
+abbrev pub room_left : Scene → Room
+room_left scene = record { players = others scene.me scene.room.players; items = scene.room.items ++ carried_items scene.player.carried }
+
+-- a player who carried a thing carries nothing
+abbrev pub let_go : Scene → Option ObjectId → Act (Unit {0})
+let_go scene None = give (Ok tt)
+let_go scene (Some item) = hold scene None
+
+-- the player leaves the room, in all its places, and what it carries stays there
+unfoldable pub leave : Scene → Act (Unit {0})
+leave scene = and_then (save_as ROOM scene.place (room_bytes (room_left scene))) (λ _. let_go scene scene.player.carried)
+
+-- a session ends
+unfoldable pub disconnect : List ℕ → Act (Unit {0})
+disconnect name = and_then (last_scene name) leave
 
 -- what each job does
 abbrev pub sword_rules : Job → Act (Unit {0})
@@ -96,5 +196,5 @@ sword_rules job.Initialize = initialize
 sword_rules (job.Login conn name) = login name
 sword_rules (job.Message conn name body) = message conn name body
 sword_rules (job.Channel conn name channel body) = give (Ok tt)
-sword_rules (job.Disconnect conn name graceful) = give (Ok tt)
+sword_rules (job.Disconnect conn name graceful) = disconnect name
 sword_rules (job.Task key due period kind arg) = give (Ok tt)

@@ -1,5 +1,5 @@
 -- What SwordWorld keeps: things, the room and players, as the bytes of managed objects.
-use Rattle.std.specs.Prelude.{ℕ, ◌==◌, Option, Some, None, List, [], ◌∷◌, ◌++◌, nat_lt, Result, Ok, Err, if◌then◌else◌}
+use Rattle.std.specs.Prelude.{ℕ, ◌==◌, Option, Some, None, List, [], ◌∷◌, ◌++◌, nat_lt, Result, Ok, if◌then◌else◌}
 use Rattle.dk_types.specs.declared.number.ObjectId.{ObjectId}
 use Rattle.dk_wire.specs.Rest.{Rest}
 use Rattle.dk_wire.specs.Fields.{name_spelling, id_spelling}
@@ -7,23 +7,27 @@ use Rattle.dk_wire.specs.Reading.{◌>>=◌}
 use Rattle.dk_wire.specs.Payload.{next_u8, next_name, next_id, checked}
 use Rattle.dk_wire.specs.Lists.{list_spelling, list_at}
 use Rattle.dk_model.specs.Records.{value_of}
-use Rattle.sword_world.specs.Carried.{carried_bytes}
 use Rattle.sword_world.specs.declared.things.Room.{Room}
 use Rattle.sword_world.specs.declared.things.Thing.{Thing}
 use Rattle.sword_world.specs.declared.things.Player.{Player}
 
+-- the kind of a room
 abbrev pub ROOM : ℕ
 ROOM = 1
 
+-- the kind of a thing
 abbrev pub THING : ℕ
 THING = 2
 
+-- the kind of a player
 abbrev pub PLAYER : ℕ
 PLAYER = 3
 
+-- a room is its players, and what lies in it
 abbrev pub room_bytes : Room → List ℕ
 room_bytes r = list_spelling id_spelling r.players ++ list_spelling id_spelling r.items
 
+-- a room at the front
 unfoldable pub next_room : Rest → Result (Room × Rest) ℕ
 next_room rest = do
   players ← list_at (λ _. next_id) rest
@@ -34,9 +38,11 @@ next_room rest = do
 unfoldable pub room_of : List ℕ → Option Room
 room_of = value_of next_room
 
+-- a thing is its description
 abbrev pub thing_bytes : Thing → List ℕ
 thing_bytes t = name_spelling t.description
 
+-- a thing at the front
 unfoldable pub next_thing : Rest → Result (Thing × Rest) ℕ
 next_thing rest = do
   description ← next_name rest
@@ -46,19 +52,32 @@ next_thing rest = do
 unfoldable pub thing_of : List ℕ → Option Thing
 thing_of = value_of next_thing
 
-abbrev pub player_bytes : Player → List ℕ
-player_bytes p = name_spelling p.name ++ carried_bytes p.carried
+-- what a player carries: 0, or 1 and the thing's id
+abbrev pub carried_bytes : Option ObjectId → List ℕ
+carried_bytes None = 0 ∷ []
+carried_bytes (Some id) = 1 ∷ id_spelling id
 
-abbrev pub next_carried : ℕ → Rest → Result (Option ObjectId × Rest) ℕ
-next_carried flag rest = if flag == 0 then Ok (None, rest) else (do
+-- what follows the first byte
+abbrev pub next_item : ℕ → Rest → Result (Option ObjectId × Rest) ℕ
+next_item flag rest = if flag == 0 then Ok (None, rest) else (do
   id ← next_id rest
   Ok (Some id.0, id.1))
 
+-- what a player carries, at the front
+unfoldable pub next_carried : Rest → Result (Option ObjectId × Rest) ℕ
+next_carried rest = do
+  flag ← checked (λ b. nat_lt b 2) next_u8 rest
+  next_item flag.0 flag.1
+
+-- a player is its name, and what it carries
+abbrev pub player_bytes : Player → List ℕ
+player_bytes p = name_spelling p.name ++ carried_bytes p.carried
+
+-- a player at the front
 unfoldable pub next_player : Rest → Result (Player × Rest) ℕ
 next_player rest = do
   name ← next_name rest
-  flag ← checked (λ b. nat_lt b 2) next_u8 name.1
-  carried ← next_carried flag.0 flag.1
+  carried ← next_carried name.1
   Ok (record { name = name.0; carried = carried.0 }, carried.1)
 
 -- the player that these bytes are, where they are one

@@ -1,16 +1,15 @@
 //! SwordWorld: a game of one plain room, its players and a sword.
 //!
-//! What it means stands in `specs/Rules`; the code does that on a run in its midst. A login enters
-//! the room, and the message `look` tells what is in it. Taking and dropping things come later.
+//! What it means stands in `specs/Rules`, and the code does that in a transaction. A login enters the
+//! room, the messages `look`, `take` and `drop` are commands, and the end of a session leaves the room.
 #![tactic(auto)]
 
+pub use command::Command;
 pub use game::SwordWorld;
 pub use things::{Player, Room, Thing};
 
+pub mod command;
 pub mod game;
-pub mod labels;
-pub mod reads;
-#[cfg(test)]
-mod tests;
+pub mod scene;
 pub mod texts;
 pub mod things;
