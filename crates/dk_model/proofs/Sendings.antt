@@ -40,8 +40,8 @@ same : (s : Run) → length s.outs ≤ length s.outs + 0
 same s = omega arith
 
 -- so it sends few
-none : {A : Type 0} {p : Result A AppFault × Run} (s : Run) → p.1.outs ≡ s.outs → p.1.world.tasks ≡ s.world.tasks → Few (length s.outs + 0) s.world.tasks p
-none s sent same_tasks = record { few = omega (arith, ap length sent); kept = same_tasks }
+pub few_none : {A : Type 0} {p : Result A AppFault × Run} (s : Run) → p.1.outs ≡ s.outs → p.1.world.tasks ≡ s.world.tasks → Few (length s.outs + 0) s.world.tasks p
+few_none s sent same_tasks = record { few = omega (arith, ap length sent); kept = same_tasks }
 
 -- a step that sends few from wherever it begins
 pub each_few : {A : Type 0} {n : ℕ} {f : Act A} → ((s : Run) → Few (length s.outs + n) s.world.tasks (f s)) → SendsAtMost n f
@@ -73,24 +73,24 @@ bound_sends name = record { bound = same; tasks = λ s. refl }
 -- nor does a name that is bound
 pub bind_sends : (name : List ℕ) (id : ObjectId) → SendsAtMost 0 (act.bind name id)
 unfolding act.bind
-bind_sends name id = each_few (λ s. either_few (act.is_reserved_name s.mode name) (none s refl refl) (none s refl refl))
+bind_sends name id = each_few (λ s. either_few (act.is_reserved_name s.mode name) (few_none s refl refl) (few_none s refl refl))
 
 -- nor an object that is made
 pub create_sends : (kind : ℕ) (bytes : List ℕ) → SendsAtMost 0 (act.create kind bytes)
 unfolding act.create
 create_sends kind bytes =
-    each_few (λ s. either_few (act.is_reserved_kind s.mode kind) (none s refl refl)
-    (either_few (act.is_too_long bytes) (none s refl refl) (either_few (nat_le OBJECTS_MOST_COUNT s.objects_made) (none s refl refl) (none s refl refl))))
+    each_few (λ s. either_few (act.is_reserved_kind s.mode kind) (few_none s refl refl)
+    (either_few (act.is_too_long bytes) (few_none s refl refl) (either_few (nat_le OBJECTS_MOST_COUNT s.objects_made) (few_none s refl refl) (few_none s refl refl))))
 
 -- nor one that is changed
 change_few : (o : Option Object) (id : ObjectId) (change : Object → Option Object) (s : Run) → Few (length s.outs + 0) s.world.tasks (act.change_found o id change s)
-change_few None id change s = none s refl refl
-change_few (Some object) id change s = either_few (act.is_reserved_kind s.mode object.kind) (none s refl refl) (none s refl refl)
+change_few None id change s = few_none s refl refl
+change_few (Some object) id change s = either_few (act.is_reserved_kind s.mode object.kind) (few_none s refl refl) (few_none s refl refl)
 
 -- nor one that is saved
 pub save_sends : (id : ObjectId) (bytes : List ℕ) → SendsAtMost 0 (act.save id bytes)
 unfolding act.save
-save_sends id bytes = each_few (λ s. either_few (act.is_too_long bytes) (none s refl refl) (change_few (map.get s.world.objects id) id (λ object. Some (record { kind = object.kind; bytes = bytes })) s))
+save_sends id bytes = each_few (λ s. either_few (act.is_too_long bytes) (few_none s refl refl) (change_few (map.get s.world.objects id) id (λ object. Some (record { kind = object.kind; bytes = bytes })) s))
 
 -- one message, or none where it is refused
 pub send_sends : (to : ConnNo) (message : Out) → SendsAtMost 1 (send to message)
@@ -122,7 +122,7 @@ within_sends mode p = record { bound = λ s. p.bound (record s { mode = mode });
 -- a value is read and nothing sent
 pub get_as_sends : {A : Type 0} (kind : ℕ) (read : List ℕ → Option A) (id : ObjectId) → SendsAtMost 0 (get_as kind read id)
 unfolding get_as
-get_as_sends kind read id = then_sends (get_sends id) (λ object. each_few (λ s. either_few (object.kind == kind) (none s refl refl) (none s refl refl)))
+get_as_sends kind read id = then_sends (get_sends id) (λ object. each_few (λ s. either_few (object.kind == kind) (few_none s refl refl) (few_none s refl refl)))
 
 -- nor does a mark of an object
 pub mark_sends : (id : ObjectId) → SendsAtMost 0 (act.mark id)
