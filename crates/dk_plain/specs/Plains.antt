@@ -1,9 +1,9 @@
 -- The durable world that a plain world is, and what a job leaves that runs on it.
-use Rattle.std.specs.Prelude.{◌≡◌, ℕ, ◌+◌}
+use Rattle.std.specs.Prelude.{◌≡◌, ℕ, ◌+◌, ◌≤◌}
 use Rattle.dk_types.specs.declared.number.RunNo.{RunNo}
 use Rattle.dk_types.specs.declared.job.Job.{Job}
 use Rattle.dk_model.specs.DurableWorlds.{DurableWorld}
-use Rattle.dk_model.specs.Validity.{IsValid}
+use Rattle.dk_model.specs.Validity.{IsValid, next_of}
 use Rattle.dk_model.specs.Events.{Meaning}
 use Rattle.dk_model.specs.Steps.{Stepped, step}
 use Rattle.dk_model.specs.Finishes.{Told, told_step, IsNew, HasOwnTask}
@@ -26,3 +26,8 @@ pub record IsStep (before after : DurableWorld) (c : Committed) (s : Stepped) : 
   pub outcome : c.outcome ≡ s.outcome
   pub world : after ≡ s.world
   pub outs : c.outs.items ≡ s.outs
+
+-- the world is valid, and its largest run is below this number
+pub record IsBelow (d : DurableWorld) (next : ℕ) : Type 0 where
+  pub valid : IsValid d
+  pub last : next_of d.last ≤ next

@@ -16,6 +16,11 @@ use Rattle.dk_model.specs.Events.{Meaning}
 use Rattle.dk_model.specs.Orders.{OrderItem}
 use Rattle.dk_model.specs.Phases.{IsSmall}
 use Rattle.dk_model.specs.Transcripts.{Follows}
+use Rattle.dk_model.specs.Scripts.{IsOneSession}
+use Rattle.dk_model.specs.declared.script.Line.{Line}
+use Rattle.dk_model.specs.declared.script.Line.TheVariants as line
+use Rattle.dk_model.specs.declared.waiting.Waiting.TheVariants as waits
+use Rattle.dk_types.specs.declared.limits.TheConstants.{INPUTS_MOST_COUNT}
 use Rattle.dk_model.specs.Validity.{IsValid}
 use Rattle.dk_model.specs.Finishes.{HasOwnTask}
 use Rattle.dk_model.specs.Lawful.{AreLawful, IsJob}
@@ -29,13 +34,14 @@ use Rattle.dk_play.specs.declared.visitor.Pending.{Pending}
 use Rattle.dk_play.specs.declared.visitor.Pending.TheVariants as pending
 use Rattle.dk_play.specs.declared.visitor.Visitor.{Visitor}
 use Rattle.dk_play.specs.declared.serve.Play.{Play}
+use Rattle.dk_play.specs.Entering.{waiting_sent, entered}
 use Rattle.dk_play.specs.Visits.{waiting_of, connection_of, single, unclaimed, world_of, after_outs, claim_of, commit_of, IsSettled, AreJobs, IsFit, Serves, Begins}
 use Rattle.dk_play.proofs.Alls.{all-append}
 use Rattle.dk_play.proofs.Serving.{not_done, serves-input, serves-first}
 use Rattle.dk_play.proofs.Picking.{pick-first, quiet-alone}
 use Rattle.dk_play.proofs.Sendings.{IsPlayJob, step-sends}
-use Rattle.dk_play.proofs.Settled.{settled-empty_world, settled-step, ready-next, own-none}
-use Rattle.dk_play.proofs.Limits.{jobs-after}
+use Rattle.dk_play.proofs.Settled.{settled-empty_world, settled-later, settled-step, ready-next, own-none}
+use Rattle.dk_play.proofs.Limits.{jobs-after, jobs-entered}
 
 -- an input that waits is a job of the play
 pub play-input : (p : Pending) (conn : ConnNo) (name : List ℕ) → IsPlayJob (job_of conn name (waiting_of p))
@@ -172,4 +178,24 @@ pub ready-first : (w : PlainWorld) → durable_of w ≡ empty_world → IsReady 
 ready-first w fresh = subst (IsReady job.Initialize (record { 0 = 0 }) 0) (sym fresh) (ready-next job.Initialize empty_world 0 tt tt (omega arith) settled-empty_world)
 
 pub valid-first : (w : PlainWorld) → durable_of w ≡ empty_world → IsValid (durable_of w)
-valid-first w fresh = subst IsValid (sym fresh) settled-empty_world.valid
+valid-first w fresh = subst IsValid (sym fresh) settled-empty_world.below.valid
+
+not_both_ways : (b : Bool) → b ≡ false → b ≡ true → ⊥
+not_both_ways b no yes = absurd cc
+
+-- a play begins fit, once its session is entered
+pub fit-start : (w : PlainWorld) (v : Visitor) (name : List ℕ) (sends : List Line) → IsSettled (durable_of w) 1 → (durable_of w).commits ≡ 1
+    → v.conn ≡ record { 0 = 1 } → connection_of v ≡ entered (record { 0 = 1 }) name sends → IsOneSession (line.Login name ∷ sends) → IsFit (record { world = w; next = 2; visitor = v })
+fit-start w v name sends settled one conn same session =
+    let queue : length (map waiting_of v.queue.items) ≡ length (waits.Login ∷ map waiting_sent sends) = ap (λ (c : Connection). length c.queue) same in
+    let outs : length v.outs.items ≡ 0 = ap (λ (c : Connection). length c.outbox) same in
+    let open_still : v.closed ≡ false = ap (λ (c : Connection). c.closed) same in
+    let few : length sends < INPUTS_MOST_COUNT = session.1 in
+    record {
+      settled = settled-later (durable_of w) 1 2 (omega arith) settled;
+      first = omega (arith, one);
+      numbers = omega (arith, few, queue, length-map v.queue.items waiting_of, length-map sends waiting_sent);
+      places = omega (arith, few, queue, outs, length-map v.queue.items waiting_of, length-map sends waiting_sent);
+      present = λ e. absurd (not_both_ways v.closed open_still e);
+      jobs = subst (λ k. AreJobs k (connection_of v)) (sym conn) (subst (AreJobs (record { 0 = 1 })) (sym same) (jobs-entered (record { 0 = 1 }) name sends (omega arith) session.0 session.2));
+    }

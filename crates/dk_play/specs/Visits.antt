@@ -23,8 +23,7 @@ use Rattle.dk_model.specs.Phases.{IsSmall}
 use Rattle.dk_model.specs.Transcripts.{Playing, Follows, IsQuiet, PlaysPhase}
 use Rattle.dk_model.specs.Lawful.{IsSessionOf, IsJob}
 use Rattle.dk_model.specs.Picks.{job_of}
-use Rattle.dk_model.specs.Validity.{IsValid, next_of}
-use Rattle.dk_plain.specs.Plains.{durable_of}
+use Rattle.dk_plain.specs.Plains.{durable_of, IsBelow}
 use Rattle.dk_play.specs.declared.visitor.Pending.{Pending}
 use Rattle.dk_play.specs.declared.visitor.Pending.TheVariants as pending
 use Rattle.dk_play.specs.declared.visitor.Visitor.{Visitor}
@@ -88,8 +87,7 @@ hand_of v = event.Hand 0 v.conn (length v.outs.items) v.outs.items v.closed
 
 -- the durable world of a play between runs: it is valid, its largest run is below the next number, and it has no tasks
 pub record IsSettled (d : DurableWorld) (next : ℕ) : Type 0 where
-  pub valid : IsValid d
-  pub last : next_of d.last ≤ next
+  pub below : IsBelow d next
   pub tasks : d.tasks ≡ maps.empty
 
 -- the session is within its limits, and so is each input that waits at it, as a job

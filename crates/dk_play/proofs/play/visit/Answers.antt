@@ -2,9 +2,13 @@ use Rattle.std.proofs.Common.{◌≡◌, ◌≤◌, ◌+◌, ◌∷◌, ◌++◌
 use Rattle.dk_play.specs.Entering.{connect_of, post_of}
 use Rattle.dk_play.specs.Visits.{VisitsAll, connection_of}
 use Rattle.dk_plain.specs.declared.world.PlainWorld.{PlainWorld}
-use Rattle.dk_plain.specs.PlainJobs.{durable_of}
+use Rattle.dk_plain.specs.Plains.{durable_of}
 use Rattle.dk_types.specs.declared.event.Event.{Event}
 use Rattle.dk_play.proofs.Singles.{no_length}
+use Rattle.dk_model.specs.declared.script.Line.{Line}
+use Rattle.dk_model.specs.declared.script.Line.TheVariants as line
+use Rattle.dk_model.specs.Scripts.{IsOneSession}
+use Rattle.dk_play.proofs.Runs.{fit-start}
 use Rattle.dk_play.proofs.Phasing.{visits-nobody, visits-lines}
 use Rattle.dk_play.proofs.play.visit.Goals as goal
 
@@ -29,3 +33,8 @@ returns g c =
     (c.in_ok-visitor.ensures.events ∙ ap (λ es. es ++ connect_of (record { 0 = 1 }) c.in-Login.name ∷ map (post_of (record { 0 = 1 })) c.in-Some.sends.now) c.requires.start)
     c.in_ok-serve_all.ensures.serves c.in_ok-serve_all.ensures.quiet
     (c.in_ok-push.ensures.items ∙ ap (λ (e : Event). c.serve_all.new.events.items ++ e ∷ []) c.hand-world.ensures.hand))
+
+pub serve_all-requires-clause-fit : goal.serve_all-requires-clause-fit
+serve_all-requires-clause-fit g c =
+    let whole : c.args.lines.now ≡ line.Login c.in-Login.name ∷ c.in-Some.sends.now = c.in-Some.ensures.cases.0 ∙ ap (λ (f : Line). f ∷ c.in-Some.sends.now) c.in-Login.is in
+    fit-start c.args.world c.in_ok-visitor.visitor c.in-Login.name c.in-Some.sends.now c.requires.settled c.requires.first c.in_ok-visitor.ensures.conn c.in_ok-visitor.ensures.visitor (subst IsOneSession whole c.requires.session)
