@@ -4,6 +4,7 @@ pub mod Heights
 pub mod Keys
 pub mod Maps
 pub mod Next
+pub mod PutBack
 pub mod Replaced
 pub mod Seen
 pub mod Top

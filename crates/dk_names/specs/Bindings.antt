@@ -1,11 +1,13 @@
 -- What the bound names of a world are seen as.
-use Rattle.std.specs.Prelude.{ℕ, refl}
+use Rattle.std.specs.Prelude.{ℕ, List, refl}
+use Rattle.std.specs.Option.{option_map}
 use Rattle.std.specs.Coded.{Coded, code_by, coded×, coded_ℕ, coded_list}
 use Rattle.std.specs.FinMap as map
 use Rattle.std.specs.FinMap.{FinMap}
 use Rattle.dk_types.specs.declared.number.ObjectId.{ObjectId}
 use Rattle.dk_types.specs.Names.{bytes_cmp}
 use Rattle.dk_map.specs.Values.{values_with}
+use Rattle.dk_model.specs.DurableWorlds.{with_value}
 
 -- each bound name with the id that it is bound to and its stamp
 abbrev pub StampedNames : Type 0
@@ -28,3 +30,7 @@ bindings_code =
 -- the names without their stamps, as the world has them
 abbrev pub ids_of : StampedNames → FinMap bytes_cmp ObjectId
 ids_of names = values_with (λ binding. binding.0) names
+
+-- the names, one of them with another stamp
+abbrev pub restamped : ℕ → List ℕ → StampedNames → StampedNames
+restamped stamp name names = with_value names name (option_map (λ binding. (binding.0, stamp)) (map.get names name))

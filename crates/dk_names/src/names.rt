@@ -3,7 +3,7 @@ ghost use Rattle.std.specs.Prelude.{◌≡◌, ◌+◌, ◌^◌, ◌<◌, ◌≤
 ghost use Rattle.std.specs.FinMap as map;
 ghost use Rattle.std.specs.Option.{option_copied};
 ghost use Rattle.dk_model.specs.DurableWorlds.{next_name};
-ghost use Rattle.dk_names.specs.Bindings.{ids_of};
+ghost use Rattle.dk_names.specs.Bindings.{ids_of, restamped};
 
 use dk_map::OrderedMap;
 use dk_types::{Name, NoMemory, ObjectId};
@@ -101,6 +101,17 @@ impl Names {
         ensures spare { self.new.spare ≡ self.old.spare + (if map.contains_key self.old.names name.now then 1 else 0) }
     {
         self.names.remove(name);
+    }
+
+    /// Gives a name another stamp, if it is bound. It takes no memory, and the name is not copied.
+    pub fn restamp(&mut self, name: &Name, stamp: u64)
+        ensures names { self.new.names ≡ restamped stamp name.now self.old.names }
+        ensures spare { self.new.spare ≡ self.old.spare }
+    {
+        let Some((name, binding)) = self.names.remove(name) else {
+            return;
+        };
+        self.names.insert(name, (binding.0, stamp));
     }
 
     /// All bound names in their order, in one walk. Only the list itself takes memory.

@@ -1,5 +1,6 @@
 -- What the managed objects of a world are seen as.
 use Rattle.std.specs.Prelude.{ℕ, List, refl}
+use Rattle.std.specs.Option.{option_map}
 use Rattle.std.specs.Coded.{Coded, code_by, coded×, coded_ℕ, coded_list}
 use Rattle.std.specs.FinMap as map
 use Rattle.std.specs.FinMap.{FinMap}
@@ -7,6 +8,7 @@ use Rattle.dk_types.specs.declared.number.ObjectId.{ObjectId}
 use Rattle.dk_types.specs.declared.object.Object.{Object}
 use Rattle.dk_map.specs.Values.{values_with}
 use Rattle.dk_model.specs.Keys.{id_cmp}
+use Rattle.dk_model.specs.DurableWorlds.{with_value}
 
 -- each object with its stamp, by id; and how many more fit without memory
 pub record StampedObjects : Type 0 where
@@ -29,3 +31,7 @@ objects_code =
 -- the objects without their stamps, as the world has them
 abbrev pub objects_of : FinMap id_cmp (Object × ℕ) → FinMap id_cmp Object
 objects_of objects = values_with (λ stamped. stamped.0) objects
+
+-- the objects, the one under an id with another stamp
+abbrev pub restamped : ℕ → ObjectId → FinMap id_cmp (Object × ℕ) → FinMap id_cmp (Object × ℕ)
+restamped stamp id objects = with_value objects id (option_map (λ stamped. (stamped.0, stamp)) (map.get objects id))

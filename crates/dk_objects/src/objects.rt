@@ -2,6 +2,7 @@
 ghost use Rattle.std.specs.Prelude.{◌≡◌, ◌+◌, ◌^◌, ◌<◌, ◌≤◌, map as list_map, None, Ok, IfOk, OnOk, OnErr, if◌then◌else◌};
 ghost use Rattle.std.specs.FinMap as map;
 ghost use Rattle.std.specs.Option.{option_map};
+ghost use Rattle.dk_objects.specs.StampedObjects.{restamped};
 
 use dk_map::OrderedMap;
 use dk_types::{NoMemory, Object, ObjectId};
@@ -92,6 +93,17 @@ impl Objects {
         ensures spare { self.new.spare ≡ self.old.spare + (if map.contains_key self.old.objects id then 1 else 0) }
     {
         self.objects.remove(&id);
+    }
+
+    /// Gives the object under an id another stamp, if there is one. It takes no memory, and the object is not copied.
+    pub fn restamp(&mut self, id: ObjectId, stamp: u64)
+        ensures objects { self.new.objects ≡ restamped stamp id self.old.objects }
+        ensures spare { self.new.spare ≡ self.old.spare }
+    {
+        let Some((id, stamped)) = self.objects.remove(&id) else {
+            return;
+        };
+        self.objects.insert(id, (stamped.0, stamp));
     }
 
     /// All objects in the order of their ids, in one walk. Only the list itself takes memory.

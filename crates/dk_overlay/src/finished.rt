@@ -13,7 +13,41 @@ pub struct Finished {
     pub(crate) touched: Vec<Item>,
 }
 
+/// The parts of a finished run, each as `Finished` tells it.
+#[derive(Debug, Drop)]
+pub struct FinishedParts {
+    pub reads: Vec<(Item, Read)>,
+    pub effects: Effects,
+    pub outs: Vec<(ConnNo, Out)>,
+    pub outcome: Outcome,
+    pub touched: Vec<Item>,
+}
+
 impl Finished {
+    /// Takes the run apart, with no copy.
+    pub fn into_parts(self) -> FinishedParts
+        ensures reads { result.reads ≡ self.reads }
+        ensures effects { result.effects ≡ self.effects }
+        ensures outs { result.outs ≡ self.outs }
+        ensures outcome { result.outcome ≡ self.outcome }
+        ensures touched { result.touched ≡ self.touched }
+    {
+        let Finished {
+            reads,
+            effects,
+            outs,
+            outcome,
+            touched,
+        } = self;
+        FinishedParts {
+            reads,
+            effects,
+            outs,
+            outcome,
+            touched,
+        }
+    }
+
     /// What was read, in the order in which the run first asked.
     pub fn reads(&self) -> &[(Item, Read)]
         ensures { result.now ≡ self.now.reads.items }

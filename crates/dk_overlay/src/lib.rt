@@ -7,7 +7,7 @@
 
 pub use answers::{copy_answer, copy_name, says_named, says_next, says_object, says_pending};
 pub use change::{Change, Scheduled, TaskChange, copy_change, copy_object, copy_value};
-pub use finished::Finished;
+pub use finished::{Finished, FinishedParts};
 pub use log::Log;
 pub use names::NameChanges;
 pub use objects::ObjectChanges;

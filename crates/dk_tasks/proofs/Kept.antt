@@ -9,6 +9,7 @@ use Rattle.dk_types.specs.declared.number.TaskKey.{TaskKey}
 use Rattle.dk_map.specs.Entries.{find, put, without, IsOrdered}
 use Rattle.dk_map.proofs.Counts.{found_of}
 use Rattle.dk_map.proofs.Maps.{entries-map_of}
+use Rattle.dk_map.proofs.PutBack.{insert-remove}
 use Rattle.dk_map.proofs.Seen.{get_seen, len_seen, put_seen, without_seen}
 use Rattle.dk_model.specs.Keys.{key_cmp}
 use Rattle.dk_model.specs.DurableWorlds.{with_value}
@@ -60,18 +61,6 @@ stamped-kept_of s k e = λ i. (record { key = sym e i; due = s.task.due; period 
 pub get-remove_same : (m : FinMap key_cmp Kept) (k : TaskKey) → get (remove m k) k ≡ None
 get-remove_same m k = get-remove key_total m k k ∙ ap (λ c. cond (is_eq c) None (get m k)) (tied_itself key_total k)
 
--- a test that is asked twice
-twice : {A : Type 0} (b : Bool) (x y z : A) → cond b x (cond b y z) ≡ cond b x z
-twice true x y z = refl
-twice false x y z = refl
-
--- to take out what stands at a key and then to insert there is to insert there
-pub insert-remove : (m : FinMap key_cmp Kept) (k : TaskKey) (t : Kept) → insert (remove m k) k t ≡ insert m k t
-insert-remove m k t =
-    same_map key_total key_same _ _ (λ q.
-    get-insert key_total (remove m k) k t q ∙ ap (cond (eq_by_cmp key_cmp q k) (Some t)) (get-remove key_total m k q)
-    ∙ twice (eq_by_cmp key_cmp q k) (Some t) None (get m q) ∙ sym (get-insert key_total m k t q))
-
--- the same with what stood there changed
+-- to take out what stands at a key and then to insert it changed is to change it
 pub changed_again : (m : FinMap key_cmp Kept) (k : TaskKey) (change : Kept → Kept) (t : Kept) → Some t ≡ get m k → insert (remove m k) k (change t) ≡ changed_at change k m
-changed_again m k change t e = insert-remove m k (change t) ∙ ap (λ r. with_value m k (option_map change r)) e
+changed_again m k change t e = insert-remove key_total key_same m k (change t) ∙ ap (λ r. with_value m k (option_map change r)) e

@@ -43,6 +43,10 @@ unclaimed task stamp = record { task = task; stamp = stamp; claimed = false }
 abbrev pub with_due : ℕ → Kept → Kept
 with_due due t = record t { task = record t.task { due = due } }
 
+-- the task written by another commit
+abbrev pub with_stamp : ℕ → Kept → Kept
+with_stamp stamp t = record t { stamp = stamp }
+
 abbrev pub with_claim : Bool → Kept → Kept
 with_claim claimed t = record t { claimed = claimed }
 

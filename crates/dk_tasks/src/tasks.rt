@@ -5,7 +5,7 @@ ghost use Rattle.std.specs.FinMap as map;
 ghost use Rattle.dk_model.specs.Effects.{pending_of, task_of};
 ghost use Rattle.dk_model.specs.Picks.{pick_task};
 ghost use Rattle.dk_model.specs.Worlds.{World};
-ghost use Rattle.dk_tasks.specs.Tasks.{unclaimed, with_due, with_claim, changed_at, stamped, durable_tasks};
+ghost use Rattle.dk_tasks.specs.Tasks.{unclaimed, with_due, with_stamp, with_claim, changed_at, stamped, durable_tasks};
 ghost use Rattle.dk_tasks.specs.Due.{least_due as soonest, HasTasks, job_at};
 
 use crate::stored::{Place, Stored};
@@ -168,6 +168,18 @@ impl Tasks {
             unreachable!()
         };
         stored.task.due = due;
+        self.add(stored);
+    }
+
+    /// Gives a task another stamp, if it is pending. It takes no memory, and the task is not copied.
+    pub fn restamp(&mut self, key: TaskKey, stamp: u64)
+        ensures tasks { self.new.tasks ≡ changed_at (with_stamp stamp) key self.old.tasks }
+        ensures spare { self.new.spare ≡ self.old.spare }
+    {
+        let Some(mut stored) = self.take(key) else {
+            return;
+        };
+        stored.stamp = stamp;
         self.add(stored);
     }
 
