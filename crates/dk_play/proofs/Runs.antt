@@ -73,6 +73,15 @@ pub job-first : (p : Play) (x : Pending) (popped : List Pending) (j : Job) → A
 job-first p x popped j jobs queue job_is =
     subst IsJob (sym job_is) (subst (λ q. AllByRecursion (λ y. IsJob (job_of p.visitor.conn p.visitor.name y)) (map waiting_of q)) queue jobs.inputs).0
 
+-- it may be run
+pub ready-input : (p : Play) (popped : List Pending) (x : Pending) (j : Job) → IsFit p → p.visitor.queue.items ≡ x ∷ popped → j ≡ job_of p.visitor.conn p.visitor.name (waiting_of x) → IsReady j (record { 0 = p.next }) 0 (durable_of p.world)
+ready-input p popped x j fit queue job_is =
+    ready-next j (durable_of p.world) p.next (subst IsPlayJob (sym job_is) (play-input x p.visitor.conn p.visitor.name)) (job-first p x popped j fit.jobs queue job_is) (omega (arith, fit.numbers)) fit.settled
+
+-- it has no task of its own
+pub own-input : (p : Play) (x : Pending) (j : Job) → j ≡ job_of p.visitor.conn p.visitor.name (waiting_of x) → HasOwnTask (durable_of p.world) j
+own-input p x j job_is = own-none j (durable_of p.world) (subst IsPlayJob (sym job_is) (play-input x p.visitor.conn p.visitor.name))
+
 module _ (rules : Meaning) (p0 p2 : Play) (popped : List Pending) (x : Pending) (j : Job) (r : Committed) where
   abbrev Ran : Type 0
   Ran = IsStep (durable_of p0.world) (durable_of p2.world) r (step rules j (record { 0 = p0.next }) 0 (durable_of p0.world))
@@ -105,15 +114,6 @@ module _ (rules : Meaning) (p0 p2 : Play) (popped : List Pending) (x : Pending) 
       λ i. unclaimed ((sym ran_so.world) i) ((sym next) i) (single ((sym (conn2 ∙ conn1)) i) (connection_of p2.visitor)) in
       subst (λ w. Serves rules (world_of p0) before events w) ends
       (subst (λ es. Serves rules (world_of p0) before es (unclaimed (step rules (job_of conn c.name (waiting_of x)) (record { 0 = p0.next }) 0 (durable_of p0.world)).world (p0.next + 1) (single conn (connection_of p2.visitor)))) told s)
-
-  -- it may be run
-  pub ready-input : IsFit p0 → p0.visitor.queue.items ≡ x ∷ popped → j ≡ job_of p0.visitor.conn p0.visitor.name (waiting_of x) → IsReady j (record { 0 = p0.next }) 0 (durable_of p0.world)
-  ready-input fit queue job_is =
-      ready-next j (durable_of p0.world) p0.next (subst IsPlayJob (sym job_is) (play-input x p0.visitor.conn p0.visitor.name)) (job-first p0 x popped j fit.jobs queue job_is) (omega (arith, fit.numbers)) fit.settled
-
-  -- it has no task of its own
-  pub own-input : j ≡ job_of p0.visitor.conn p0.visitor.name (waiting_of x) → HasOwnTask (durable_of p0.world) j
-  own-input job_is = own-none j (durable_of p0.world) (subst IsPlayJob (sym job_is) (play-input x p0.visitor.conn p0.visitor.name))
 
   -- it sends at most two messages
   pub sends-input : IsTerse rules → j ≡ job_of p0.visitor.conn p0.visitor.name (waiting_of x) → Ran → length r.outs.items ≤ 2
@@ -181,7 +181,7 @@ pub valid-first : (w : PlainWorld) → durable_of w ≡ empty_world → IsValid 
 valid-first w fresh = subst IsValid (sym fresh) settled-empty_world.below.valid
 
 not_both_ways : (b : Bool) → b ≡ false → b ≡ true → ⊥
-not_both_ways b no yes = absurd cc
+not_both_ways b off on = cc
 
 -- a play begins fit, once its session is entered
 pub fit-start : (w : PlainWorld) (v : Visitor) (name : List ℕ) (sends : List Line) → IsSettled (durable_of w) 1 → (durable_of w).commits ≡ 1

@@ -32,7 +32,7 @@ pub run-requires-clause-own : goal.run-requires-clause-own
 run-requires-clause-own g c =
     let p0 = c.args.self.now in
     let job_is : c.job-job.result ≡ job_of p0.visitor.conn p0.visitor.name (waiting_of c.in-Some.pending) = c.job-job.ensures ∙ ap (λ n. job_of p0.visitor.conn n (waiting_of c.in-Some.pending)) c.in_ok-clone.ensures.cases in
-    own-input p0 c.pop_front.new.self.items c.in-Some.pending c.job-job.result job_is
+    own-input p0 c.in-Some.pending c.job-job.result job_is
 
 pub deliver-requires-clause-room : goal.deliver-requires-clause-room
 deliver-requires-clause-room g c =
