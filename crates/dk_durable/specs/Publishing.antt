@@ -10,6 +10,7 @@ use Rattle.dk_types.specs.declared.item.Item.TheVariants as ask
 use Rattle.dk_types.specs.declared.durable.Pending.{Pending}
 use Rattle.dk_types.specs.declared.durable.Effects.{Effects}
 use Rattle.dk_model.specs.Keys.{id_cmp, key_cmp}
+use Rattle.dk_model.specs.DurableWorlds.{last_with}
 use Rattle.dk_model.specs.Effects.{with_set, without_keys, task_of}
 use Rattle.dk_objects.specs.StampedObjects as objects
 use Rattle.dk_names.specs.Bindings as names
@@ -72,4 +73,14 @@ published stamp e w = record w {
   objects = without_keys e.removed (with_set (map (stamped_entry stamp) e.written) w.objects);
   names = without_keys e.unbound (with_set (map (stamped_entry stamp) e.bound) w.names);
   tasks = with_due_at e.requeued (without_keys e.dropped (with_set (map (unclaimed_entry stamp) e.added) w.tasks));
+}
+
+-- the world after the commit of a run with these effects, which wrote these items
+abbrev pub committed : RunNo → Effects → List Item → Stamped → Stamped
+committed run e touched w = record (published (w.commits + 1) e w) {
+  objects = objects_restamped (w.commits + 1) touched (published (w.commits + 1) e w).objects;
+  names = names_restamped (w.commits + 1) touched (published (w.commits + 1) e w).names;
+  tasks = tasks_restamped (w.commits + 1) touched (published (w.commits + 1) e w).tasks;
+  commits = w.commits + 1;
+  last = last_with w.last run;
 }

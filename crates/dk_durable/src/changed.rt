@@ -2,11 +2,11 @@
 ghost use Rattle.std.specs.Prelude.{◌≡◌, IfOk};
 ghost use Rattle.std.specs.Option.{option_copied};
 ghost use Rattle.dk_types.specs.declared.item.Item.TheVariants as ask;
-ghost use Rattle.dk_durable.specs.StampedWorlds.{stamp_in, read_now, seen_now};
+ghost use Rattle.dk_durable.specs.StampedWorlds.{stamp_in, sight_of, read_now, seen_now};
 ghost use Rattle.dk_durable.specs.Changes.{same_seen, TellsChanged};
 
 use crate::world::StampedWorld;
-use dk_overlay::copy_object;
+use dk_overlay::{copy_name, copy_object};
 use dk_types::{Answer, Item, Name, NoMemory, ObjectId, Read, Seen, TaskKey};
 
 /// A read that no longer stands: what it saw of its item, and what is seen of it now.
@@ -18,7 +18,7 @@ pub struct Changed {
 }
 
 /// What is seen where this stamp stands, or none.
-fn sight_of(stamp: Option<u64>) -> Seen
+fn sight_at(stamp: Option<u64>) -> Seen
     ensures { result ≡ sight_of stamp }
 {
     match stamp {
@@ -34,6 +34,27 @@ fn copy_next(name: Option<&Name>) -> Result<Option<Name>, NoMemory>
     match name {
         None => Ok(None),
         Some(name) => Ok(Some(name.clone()?)),
+    }
+}
+
+fn copy_seen(seen: &Seen) -> Result<Seen, NoMemory>
+    ensures { IfOk result (λ copy. copy ≡ seen.now) }
+{
+    match seen {
+        Seen::Absent => Ok(Seen::Absent),
+        Seen::At(stamp) => Ok(Seen::At(*stamp)),
+        Seen::Next(name) => Ok(Seen::Next(copy_name(name)?)),
+    }
+}
+
+fn copy_item(item: &Item) -> Result<Item, NoMemory>
+    ensures { IfOk result (λ copy. copy ≡ item.now) }
+{
+    match item {
+        Item::Object(id) => Ok(Item::Object(*id)),
+        Item::Bound(name) => Ok(Item::Bound(name.clone()?)),
+        Item::NextAfter(after) => Ok(Item::NextAfter(copy_name(after)?)),
+        Item::Task(key) => Ok(Item::Task(*key)),
     }
 }
 
@@ -125,7 +146,7 @@ impl StampedWorld {
             Item::NextAfter(after) => {
                 Ok(Seen::Next(copy_next(self.names.next_after(after.as_ref()))?))
             }
-            Item::Object(_) | Item::Bound(_) | Item::Task(_) => Ok(sight_of(self.stamp(item))),
+            Item::Object(_) | Item::Bound(_) | Item::Task(_) => Ok(sight_at(self.stamp(item))),
         }
     }
 
@@ -153,8 +174,8 @@ impl StampedWorld {
         for (item, read) in reads {
             if !self.stands(item, &read.seen) {
                 return Ok(Some(Changed {
-                    item: item.clone()?,
-                    found: read.seen.clone()?,
+                    item: copy_item(item)?,
+                    found: copy_seen(&read.seen)?,
                     now: self.seen(item)?,
                 }));
             }

@@ -4,7 +4,7 @@ ghost use Rattle.dk_model.specs.Effects.{after};
 ghost use Rattle.dk_overlay.specs.Finishes.{told};
 ghost use Rattle.dk_durable.specs.StampedWorlds.{durable_of, with_room};
 ghost use Rattle.dk_durable.specs.Rooms.{HasRoom, IsNoLess};
-ghost use Rattle.dk_durable.specs.Publishing.{published};
+ghost use Rattle.dk_durable.specs.Publishing.{published, committed};
 ghost use Rattle.dk_durable.specs.Commits.{next_entry, StampsAfter, ClaimsAfter, CommitsSteps};
 
 use crate::publish::{
@@ -12,7 +12,7 @@ use crate::publish::{
 };
 use crate::world::StampedWorld;
 use dk_overlay::{Finished, FinishedParts};
-use dk_types::{ConnNo, Effects, NoMemory, Out, Outcome, RunNo};
+use dk_types::{ConnNo, Effects, Item, NoMemory, Out, Outcome, RunNo};
 
 /// What is left of a finished run once it is committed: its number among the commits, how it ended, and what it sent.
 #[derive(Debug, Drop)]
@@ -56,13 +56,24 @@ impl StampedWorld {
             outcome,
             touched,
         } = finished.into_parts();
+        let seq = self.publish(effects, &touched, run);
+        Committed { seq, outcome, outs }
+    }
+
+    /// Makes the effects of a run, stamps them and what it wrote with the number of the commit, and tells that number.
+    fn publish(&mut self, effects: Effects, touched: &[Item], run: RunNo) -> u64
+        requires room { HasRoom self.old.room effects }
+        requires number { self.old.commits + 1 < 2 ^ 64 }
+        ensures seq { result ≡ self.old.commits + 1 }
+        ensures world { self.new ≡ with_room self.new.room (committed run effects touched.now self.old) }
+    {
         let seq = self.commits + 1;
-        self.publish(effects, seq);
+        self.make(effects, seq);
         restamp(
             &mut self.objects,
             &mut self.names,
             &mut self.tasks,
-            &touched,
+            touched,
             seq,
         );
         self.commits = seq;
@@ -70,11 +81,11 @@ impl StampedWorld {
             None => run,
             Some(last) => RunNo(last.0.max(run.0)),
         });
-        Committed { seq, outcome, outs }
+        seq
     }
 
     /// Makes effects. What they set gets the stamp.
-    fn publish(&mut self, effects: Effects, stamp: u64)
+    fn make(&mut self, effects: Effects, stamp: u64)
         requires room { HasRoom self.old.room effects }
         ensures { self.new ≡ with_room self.new.room (published stamp effects self.old) }
     {

@@ -1,6 +1,8 @@
 // The effects of a finished run, made in the stores with no memory.
-ghost use Rattle.std.specs.Prelude.{◌≡◌, ◌≤◌, length, map};
-ghost use Rattle.dk_model.specs.Effects.{with_set, without_keys, with_moved};
+ghost use Rattle.std.specs.Prelude.{◌≡◌, ◌≤◌, length, map as list_map};
+ghost use Rattle.std.specs.FinMap as map;
+ghost use Rattle.dk_model.specs.Effects.{with_set, without_keys};
+ghost use Rattle.dk_tasks.specs.Tasks.{with_due, changed_at};
 ghost use Rattle.dk_durable.specs.Publishing.{stamped_entry, unclaimed_entry, with_due_at, objects_restamped, names_restamped, tasks_restamped};
 
 use dk_names::Names;
@@ -10,7 +12,7 @@ use dk_types::{Item, Listed, Name, Object, ObjectId, Pending, TaskKey};
 
 pub(crate) fn set_objects(objects: &mut Objects, written: Listed<(ObjectId, Object)>, stamp: u64)
     requires room { length written ≤ objects.old.spare }
-    ensures { objects.new.objects ≡ with_set (map (stamped_entry stamp) written) objects.old.objects }
+    ensures { objects.new.objects ≡ with_set (list_map (stamped_entry stamp) written) objects.old.objects }
 {
     for (id, object) in written.into_vec() {
         objects.put(id, object, stamp);
@@ -27,7 +29,7 @@ pub(crate) fn remove_objects(objects: &mut Objects, removed: &[ObjectId])
 
 pub(crate) fn bind_names(names: &mut Names, bound: Listed<(Name, ObjectId)>, stamp: u64)
     requires room { length bound ≤ names.old.spare }
-    ensures { names.new.names ≡ with_set (map (stamped_entry stamp) bound) names.old.names }
+    ensures { names.new.names ≡ with_set (list_map (stamped_entry stamp) bound) names.old.names }
 {
     for (name, id) in bound.into_vec() {
         names.put(name, id, stamp);
@@ -44,21 +46,39 @@ pub(crate) fn unbind_names(names: &mut Names, unbound: &[Name])
 
 pub(crate) fn add_tasks(tasks: &mut Tasks, added: Listed<Pending>, stamp: u64)
     requires room { length added ≤ tasks.old.spare }
-    ensures { tasks.new.tasks ≡ with_set (map (unclaimed_entry stamp) added) tasks.old.tasks }
+    ensures { tasks.new.tasks ≡ with_set (list_map (unclaimed_entry stamp) added) tasks.old.tasks }
 {
     for task in added.into_vec() {
         tasks.put(task, stamp);
     }
 }
 
+/// Takes a task out, if it is pending.
+fn drop_task(tasks: &mut Tasks, key: TaskKey)
+    ensures { tasks.new.tasks ≡ map.remove tasks.old.tasks key }
+{
+    if !tasks.contains_key(key) {
+        return;
+    }
+    tasks.cancel(key);
+}
+
 pub(crate) fn drop_tasks(tasks: &mut Tasks, dropped: &[TaskKey])
     ensures { tasks.new.tasks ≡ without_keys dropped.now tasks.old.tasks }
 {
     for key in dropped {
-        if tasks.contains_key(*key) {
-            tasks.cancel(*key);
-        }
+        drop_task(tasks, *key);
     }
+}
+
+/// Gives a task another due moment, in ms, if it is pending. Its stamp stays.
+fn move_task(tasks: &mut Tasks, key: TaskKey, due: u64)
+    ensures { tasks.new.tasks ≡ changed_at (with_due due) key tasks.old.tasks }
+{
+    if !tasks.contains_key(key) {
+        return;
+    }
+    tasks.requeue(key, due);
 }
 
 /// Gives tasks their new due moments, in ms. Their stamps stay.
@@ -66,9 +86,7 @@ pub(crate) fn move_tasks(tasks: &mut Tasks, requeued: &[(TaskKey, u64)])
     ensures { tasks.new.tasks ≡ with_due_at requeued.now tasks.old.tasks }
 {
     for (key, due) in requeued {
-        if tasks.contains_key(*key) {
-            tasks.requeue(*key, *due);
-        }
+        move_task(tasks, *key, *due);
     }
 }
 

@@ -62,7 +62,7 @@ names_told = record {
   equal = λ x y h. (bytes_decides x y).0 h;
 }
 
-objects_told : Tells same_object
+pub objects_told : Tells same_object
 objects_told = record {
   itself = λ x. rw (numbers_told.itself x.kind, names_told.itself x.bytes) refl;
   equal = λ x y h.
@@ -76,7 +76,7 @@ first_some None y = y
 first_some (Some x) y = Some x
 
 -- the entries of a map that pass a test
-abbrev Kept : {K X : Type 0} {R : K → K → Ordering} → FinMap R X → (K → Bool) → List (K × X)
+abbrev pub Kept : {K X : Type 0} {R : K → K → Ordering} → FinMap R X → (K → Bool) → List (K × X)
 Kept m p = entries (retain_keys m p)
 
 module _ {K X : Type 0} (R : K → K → Ordering) (total : IsTotalOrder R) (exact : IsAntisymmetric R) where
@@ -97,7 +97,7 @@ module _ {K X : Type 0} (R : K → K → Ordering) (total : IsTotalOrder R) (exa
         | Greater ↦ λ _. refl
       ] refl
 
-  get-without_keys : (ks : List K) (m : FinMap R X) (q : K) → get (without_keys ks m) q ≡ cond (list_any (eq_by_cmp R q) ks) None (get m q)
+  pub get-without_keys : (ks : List K) (m : FinMap R X) (q : K) → get (without_keys ks m) q ≡ cond (list_any (eq_by_cmp R q) ks) None (get m q)
   get-without_keys [] m q = refl
   get-without_keys (k ∷ ks) m q =
       get-without_keys ks (remove m k) q ∙ ap (cond (list_any (eq_by_cmp R q) ks) None) (get-remove total m k q)
@@ -107,7 +107,7 @@ module _ {K X : Type 0} (R : K → K → Ordering) (total : IsTotalOrder R) (exa
       ]
 
   -- what the entries that pass have at a key
-  find-kept : (m : FinMap R X) (p : K → Bool) (q : K) → find R q (Kept m p) ≡ cond (p q) (get m q) None
+  pub find-kept : (m : FinMap R X) (p : K → Bool) (q : K) → find R q (Kept m p) ≡ cond (p q) (get m q) None
   find-kept m p q = sym (get-entries _ q) ∙ get-retain_keys m p q (λ x t. ap p (sym (exact q x t)))
 
   -- whether a key is among those that are gone

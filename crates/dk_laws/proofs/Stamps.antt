@@ -33,19 +33,19 @@ differ : (b : Bool) → b ≡ true → b ≡ false → ⊥
 differ b e f = cc
 
 -- an item that the test finds nowhere is nowhere
-lacked : (item : Item) → same_item item item ≡ true → (xs : List Item) → list_any (same_item item) xs ≡ false → Lacks xs item
+pub lacked : (item : Item) → same_item item item ≡ true → (xs : List Item) → list_any (same_item item) xs ≡ false → Lacks xs item
 unfolding Lacks
 lacked item itself [] h = tt
 lacked item itself (x ∷ xs) h =
     ((λ e. differ (same_item item x) (ap (same_item item) e ∙ itself) (or_left (same_item item x) (list_any (same_item item) xs) h)), lacked item itself xs (or_right (same_item item x) (list_any (same_item item) xs) h))
 
-same_object_item : (id : ObjectId) → same_item (ask.Object id) (ask.Object id) ≡ true
+pub same_object_item : (id : ObjectId) → same_item (ask.Object id) (ask.Object id) ≡ true
 same_object_item id = ids_told.itself id
 
-same_name_item : (name : List ℕ) → same_item (ask.Bound name) (ask.Bound name) ≡ true
+pub same_name_item : (name : List ℕ) → same_item (ask.Bound name) (ask.Bound name) ≡ true
 same_name_item name = names_told.itself name
 
-same_task_item : (key : TaskKey) → same_item (ask.Task key) (ask.Task key) ≡ true
+pub same_task_item : (key : TaskKey) → same_item (ask.Task key) (ask.Task key) ≡ true
 same_task_item key = rw (numbers_told.itself key.run.0, numbers_told.itself key.k) refl
 
 -- a step is one commit more, and keeps what it does not list
