@@ -1,1 +1,2 @@
 pub mod Halted
+pub mod Moving

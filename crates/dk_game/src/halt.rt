@@ -3,7 +3,7 @@ ghost use Rattle.std.specs.Prelude.{◌≡◌};
 
 use dk_txn::Refusal;
 use dk_types::{AppFault, NoMemory};
-use std::alloc::AllocError;
+use std::alloc::{AllocError, AllocFailed};
 
 /// Why a game stops: a fault, which its run tells, or want of memory, of which nothing is told.
 #[derive(Clone, Copy, Debug, PartialEq, Eq)]
@@ -50,6 +50,16 @@ impl From<AllocError> for Halt {
     ghost from_gives = { λ _ h. h ≡ halt.NoMemory };
 
     fn from(_: AllocError) -> Halt {
+        Halt::NoMemory
+    }
+}
+
+impl<T: Drop> From<AllocFailed<T>> for Halt {
+    ghost use Rattle.dk_game.specs.declared.halt.Halt.TheVariants as halt;
+
+    ghost from_gives = { λ _ h. h ≡ halt.NoMemory };
+
+    fn from(_: AllocFailed<T>) -> Halt {
         Halt::NoMemory
     }
 }

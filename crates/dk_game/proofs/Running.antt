@@ -1,0 +1,42 @@
+-- The law of a job that was run.
+use Rattle.std.proofs.Common.{◌≡◌, Some, List, Result, Ok, Err, IfOk, subst}
+use Rattle.dk_types.specs.declared.item.Item.{Item}
+use Rattle.dk_types.specs.declared.item.Read.{Read}
+use Rattle.dk_types.specs.declared.job.Job.{Job}
+use Rattle.dk_types.specs.declared.fault.AppFault.{AppFault}
+use Rattle.dk_types.specs.declared.fault.NoMemory.{NoMemory}
+use Rattle.dk_model.specs.declared.mode.Mode.TheVariants.{Game}
+use Rattle.dk_model.specs.DurableWorlds.{Agrees}
+use Rattle.dk_model.specs.Finishes.{KeepsLaw}
+use Rattle.dk_model.specs.Runs.{Act, within}
+use Rattle.dk_model.specs.Steps.{work}
+use Rattle.dk_overlay.specs.declared.finished.Finished.{Finished}
+use Rattle.dk_overlay.specs.Finishes.{told, TellsEnd}
+use Rattle.dk_overlay.specs.Knowing.{JobFits}
+use Rattle.dk_overlay.specs.Logged.{Logged}
+use Rattle.dk_txn.specs.declared.txn.Txn.{Txn}
+use Rattle.dk_txn.specs.Does.{DoesFor, outcome_told}
+use Rattle.dk_txn.specs.Law.{IsBegun}
+use Rattle.dk_txn.proofs.Laws.{law_kept}
+use Rattle.dk_game.specs.declared.halt.Halt.{Halt}
+use Rattle.dk_game.specs.Halted.{halt_fault}
+use Rattle.dk_game.specs.Moving.{MayMove, AsksOwn}
+use Rattle.dk_game.proofs.Owning.{moves_own}
+
+-- a run that did the whole of its job, from its start, and tells what its end tells, keeps the law
+pub job_kept : {S : Type 0} {gave : S → Item → Read → Type 0} {a b : Txn S Logged} {r : Result (Unit {0}) Halt} (rules : Job → Act (Unit {0})) (j : Job) (end : Result (Unit {0}) AppFault) (f : Finished)
+    → IsBegun (a.log) → DoesFor (MayMove j) gave halt_fault a b (work j (within Game (rules j))) r → AsksOwn j b.log r → JobFits j → outcome_told halt_fault r ≡ Some end
+    → f.reads.items ≡ b.log.reads → TellsEnd b.log j end f → KeepsLaw rules j a.log.run a.log.at f.reads.items (told f)
+job_kept {a = a} rules j end f start p asks fits is reads tells = record {
+  keeps = λ d valid agrees new stands.
+      (law_kept rules j a.log.run a.log.at end f start p is (asks end is d (subst (Agrees d) reads agrees)) (moves_own j a.log.run a.log.at start p.keeps) fits reads tells).keeps d valid agrees new stands;
+}
+
+-- what two clauses say of a run that was finished gives a third
+pub both_ok : {P Q R : Finished → Type 0} (r : Result Finished NoMemory) → IfOk r P → IfOk r Q → ((f : Finished) → P f → Q f → R f) → IfOk r R
+both_ok (Ok f) p q k = k f p q
+both_ok (Err e) p q k = tt
+
+pub one_ok : {P R : Finished → Type 0} (r : Result Finished NoMemory) → IfOk r P → ((f : Finished) → P f → R f) → IfOk r R
+one_ok (Ok f) p k = k f p
+one_ok (Err e) p k = tt
