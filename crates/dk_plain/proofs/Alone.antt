@@ -41,15 +41,19 @@ agrees_now w v kept (r ∷ reads) given = (ap (λ (x : Read). x.answer) (kept r.
 pub begun_so : (t : Logged) (run : RunNo) (at : ℕ) → t ≡ nothing_done run at → IsBegun t
 begun_so t run at start = start ∙ (λ i. nothing_done ((sym start) i).run ((sym start) i).at)
 
+-- the law of a run that was begun so
+pub law_so : (rules : Meaning) (j : Job) (run : RunNo) (at : ℕ) (t : Logged) (result : Result Finished NoMemory) → t ≡ nothing_done run at
+    → IfOk result (λ f. KeepsLaw rules j t.run t.at f.reads.items (told f)) → IfOk result (λ f. KeepsLaw rules j run at f.reads.items (told f))
+law_so rules j run at t (Ok f) start law = subst (λ (l : Logged). KeepsLaw rules j l.run l.at f.reads.items (told f)) start law
+law_so rules j run at t (Err e) start law = tt
+
 -- a run that keeps the law, and read this world alone, tells what its job's step tells
-pub tells_alone : (rules : Meaning) (j : Job) (run : RunNo) (at : ℕ) (w v : Stamped) (t : Logged) (result : Result Finished NoMemory) → t ≡ nothing_done run at
-    → IfOk result (λ f. KeepsLaw rules j t.run t.at f.reads.items (told f)) → IfOk result (λ f. AllByRecursion (λ r. r.1 ≡ read_now v r.0) f.reads.items)
+pub tells_alone : (rules : Meaning) (j : Job) (run : RunNo) (at : ℕ) (w v : Stamped) (result : Result Finished NoMemory)
+    → IfOk result (λ f. KeepsLaw rules j run at f.reads.items (told f)) → IfOk result (λ f. AllByRecursion (λ r. r.1 ≡ read_now v r.0) f.reads.items)
     → ((item : Item) (read : Read) → read ≡ read_now w item → read ≡ read_now v item)
     → IfOk result (λ f. TellsStep rules j run at (durable_of w) (told f))
-tells_alone rules j run at w v t (Ok f) start law given kept =
-    let law_so : KeepsLaw rules j run at f.reads.items (told f) = subst (λ (l : Logged). KeepsLaw rules j l.run l.at f.reads.items (told f)) start law in
-    λ valid new own. law_so.keeps (durable_of w) valid (agrees_now w v kept f.reads.items given) new own
-tells_alone rules j run at w v t (Err e) start law given kept = tt
+tells_alone rules j run at w v (Ok f) law given kept = λ valid new own. law.keeps (durable_of w) valid (agrees_now w v kept f.reads.items given) new own
+tells_alone rules j run at w v (Err e) law given kept = tt
 
 -- a job within its limits has the moments of a task within theirs
 pub job_fits : (j : Job) → IsJob j → JobFits j
@@ -72,10 +76,6 @@ pub commits_step : (rules : Meaning) → AreLawful rules → (j : Job) (run : Ru
 commits_step rules lawful j run at old mid new f valid ready same tells commits =
     let s = step rules j run at (durable_of old) in
     (commits s (subst (λ d. StepsFrom d run s) (sym same) (steps_from rules lawful j run at (durable_of old) valid ready)) (subst (λ d. told f ≡ told_step d s) (sym same) tells)).world
-
--- another number of commits is still small
-pub few_commits : (d : DurableWorld) → IsValid d → d.commits + 1 < 2 ^ 64
-few_commits d valid = omega (arith, valid.commits, valid.last)
 
 -- as many tasks as are kept
 pub len_tasks : (tasks : map.FinMap key_cmp Kept) → map.len tasks ≡ map.len (durable_tasks tasks)
