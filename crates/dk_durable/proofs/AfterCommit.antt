@@ -7,7 +7,7 @@ use Rattle.std.specs.Ordering.{eq_by_cmp}
 use Rattle.std.specs.Option.{option_map}
 use Rattle.std.specs.List.{list_any}
 use Rattle.std.specs.FinMap.{FinMap, IsAntisymmetric, get}
-use Rattle.std.specs.FinMap.Entries.{find, is_some-find}
+use Rattle.std.specs.FinMap.Entries.{is_some-find}
 use Rattle.dk_types.specs.declared.number.RunNo.{RunNo}
 use Rattle.dk_types.specs.declared.number.ObjectId.{ObjectId}
 use Rattle.dk_types.specs.declared.number.TaskKey.{TaskKey}
@@ -17,7 +17,6 @@ use Rattle.dk_types.specs.declared.item.Item.TheVariants as ask
 use Rattle.dk_types.specs.declared.item.Seen.TheVariants as sight
 use Rattle.dk_types.specs.declared.durable.Effects.{Effects}
 use Rattle.dk_types.specs.Names.{bytes_cmp}
-use Rattle.dk_map.specs.Values.{values_with}
 use Rattle.dk_map.proofs.Values.{get_values}
 use Rattle.dk_model.specs.Keys.{id_cmp, key_cmp}
 use Rattle.dk_model.specs.DurableWorlds.{DurableWorld, Task, task_answer, last_with}
@@ -27,9 +26,9 @@ use Rattle.dk_model.specs.Steps.{Stepped}
 use Rattle.dk_model.proofs.Maps.{some_is, ids_total, exact_ids, keys_total, exact_keys, names_total, exact_names}
 use Rattle.dk_laws.proofs.EffectsMade.{Tells, Kept as KeptIn, find-kept, objects_told, ids_told, apply-effects}
 use Rattle.dk_laws.proofs.Stamps.{lacked, same_object_item, same_name_item, same_task_item}
-use Rattle.dk_tasks.specs.Tasks.{Kept, durable_tasks}
+use Rattle.dk_tasks.specs.Tasks.{Kept}
 use Rattle.dk_tasks.proofs.Durable.{get-durable}
-use Rattle.dk_durable.specs.StampedWorlds.{Stamped, Room, with_room, durable_of, stamp_in, sight_of, seen_now, HasStamps}
+use Rattle.dk_durable.specs.StampedWorlds.{Stamped, with_room, durable_of, stamp_in, sight_of, HasStamps}
 use Rattle.dk_durable.specs.Publishing.{published, committed}
 use Rattle.dk_durable.specs.Commits.{next_entry, sets, StampsAfter, claimed_at, ClaimsAfter, StepsFrom, ComesTo}
 use Rattle.dk_durable.proofs.MapFacts.{any-same}
@@ -150,13 +149,13 @@ both_some : {A B C : Type 0} (f : A → B) (g : A → C) (r : Option A) → is_s
 both_some f g None = refl
 both_some f g (Some x) = refl
 
-object_there : (w : Stamped) (id : ObjectId) → is_some (get (durable_of w).objects id) ≡ is_some (stamp_in w (ask.Object id))
+pub object_there : (w : Stamped) (id : ObjectId) → is_some (get (durable_of w).objects id) ≡ is_some (stamp_in w (ask.Object id))
 object_there w id = ap is_some (get_values (λ (s : Object × ℕ). s.0) w.objects id) ∙ both_some (λ s. s.0) (λ s. s.1) (get w.objects id)
 
-name_there : (w : Stamped) (name : List ℕ) → is_some (get (durable_of w).names name) ≡ is_some (stamp_in w (ask.Bound name))
+pub name_there : (w : Stamped) (name : List ℕ) → is_some (get (durable_of w).names name) ≡ is_some (stamp_in w (ask.Bound name))
 name_there w name = ap is_some (get_values (λ (s : ObjectId × ℕ). s.0) w.names name) ∙ both_some (λ s. s.0) (λ s. s.1) (get w.names name)
 
-task_there : (w : Stamped) (key : TaskKey) → is_some (get (durable_of w).tasks key) ≡ is_some (stamp_in w (ask.Task key))
+pub task_there : (w : Stamped) (key : TaskKey) → is_some (get (durable_of w).tasks key) ≡ is_some (stamp_in w (ask.Task key))
 task_there w key = ap is_some (get-durable w.tasks key) ∙ both_some (λ (t : Kept). t.task) (λ t. t.stamp) (get w.tasks key)
 
 module _ (old new : Stamped) (run : RunNo) (s : Stepped) (from : StepsFrom (durable_of old) run s) where
@@ -205,3 +204,19 @@ module _ (old new : Stamped) (run : RunNo) (s : Stepped) (from : StepsFrom (dura
         touched = listed;
         claims = claims_stepped (subst (λ x. ClaimsAfter old new x) f claims);
       }
+
+-- ---- by the clauses of `publish`
+
+-- what is left but for the room that is spare, for effects and items that are the same
+pub left_by : (old new : Stamped) (run : RunNo) (e f : Effects) (xs ys : List Item) → new ≡ with_room new.room (committed run e xs old) → e ≡ f → xs ≡ ys → new ≡ with_room new.room (committed run f ys old)
+left_by old new run e f xs ys is p q = is ∙ (λ i. with_room new.room (committed run (p i) (q i) old))
+
+module _ (old new : Stamped) (run : RunNo) (e : Effects) (touched : List Item) (is : new ≡ with_room new.room (committed run e touched old)) where
+  pub durable_left : durable_of new ≡ after (next_entry old run e) (durable_of old)
+  durable_left = ap durable_of is ∙ durable_committed run e touched old
+
+  pub stamps_left : StampsAfter old new e touched
+  stamps_left = subst (λ w. StampsAfter old w e touched) (sym is) (stamps_committed run e touched old)
+
+  pub claims_left : ClaimsAfter old new e
+  claims_left = subst (λ w. ClaimsAfter old w e) (sym is) (claims_committed run e touched old)

@@ -3,5 +3,8 @@ pub mod Claiming
 pub mod Forgotten
 pub mod Keys
 pub mod MapFacts
+pub mod Opening
 pub mod Reading
 pub mod Stamped
+pub mod Standing
+pub mod Walked

@@ -12,7 +12,7 @@ use Rattle.dk_types.specs.declared.item.Answer.TheVariants as said
 use Rattle.dk_types.specs.declared.item.Seen.TheVariants as sight
 use Rattle.dk_types.specs.declared.item.Read.{Read}
 use Rattle.dk_map.proofs.Values.{get_values}
-use Rattle.dk_model.specs.DurableWorlds.{Task, object_answer, name_answer, task_answer}
+use Rattle.dk_model.specs.DurableWorlds.{object_answer, name_answer, task_answer}
 use Rattle.dk_tasks.specs.Tasks.{Kept, stamped}
 use Rattle.dk_tasks.proofs.Durable.{get-durable}
 use Rattle.dk_durable.specs.StampedWorlds.{Stamped, sight_of, read_now}

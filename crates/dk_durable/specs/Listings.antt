@@ -1,6 +1,6 @@
 -- A durable world as lists, and the world of such lists.
 use Rattle.std.specs.Prelude.{map}
-use Rattle.std.specs.FinMap.{FinMap, empty, entries}
+use Rattle.std.specs.FinMap.{empty, entries}
 use Rattle.dk_types.specs.declared.durable.Durable.{Durable}
 use Rattle.dk_model.specs.DurableWorlds.{DurableWorld}
 use Rattle.dk_model.specs.Effects.{with_set, task_of, pending_of}

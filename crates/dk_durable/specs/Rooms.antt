@@ -1,5 +1,5 @@
 -- The room that a commit needs.
-use Rattle.std.specs.Prelude.{ℕ, ◌≤◌, length}
+use Rattle.std.specs.Prelude.{◌≤◌, length}
 use Rattle.dk_types.specs.declared.durable.Effects.{Effects}
 use Rattle.dk_durable.specs.StampedWorlds.{Room}
 

@@ -1,5 +1,5 @@
 -- What the world in its stores is seen as: the durable world with a stamp on each item, and what a read sees of it.
-use Rattle.std.specs.Prelude.{◌≡◌, ℕ, Option, Some, None, List, refl}
+use Rattle.std.specs.Prelude.{◌≡◌, ℕ, Option, Some, None, refl}
 use Rattle.std.specs.Option.{option_map}
 use Rattle.std.specs.Coded.{Coded, code_by, coded×, coded_ℕ, coded_list, coded_option}
 use Rattle.std.specs.FinMap as map
@@ -51,6 +51,10 @@ stamped_code =
     (λ w. ((w.objects, (w.names, w.tasks)), ((w.commits, w.last), w.room)))
     (λ p. record { objects = p.0.0; names = p.0.1.0; tasks = p.0.1.1; commits = p.1.0.0; last = p.1.0.1; room = p.1.1 })
     (λ _. refl)
+
+-- nothing at all, and no room
+abbrev pub nothing : Stamped
+nothing = record { objects = map.empty; names = map.empty; tasks = map.empty; commits = 0; last = None; room = record { objects = 0; names = 0; tasks = 0 } }
 
 -- the same world with other room
 abbrev pub with_room : Room → Stamped → Stamped

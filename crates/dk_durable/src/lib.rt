@@ -15,4 +15,6 @@ pub mod commits;
 pub mod look;
 pub mod listing;
 mod publish;
+#[cfg(test)]
+mod tests;
 pub mod world;

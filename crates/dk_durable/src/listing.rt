@@ -1,12 +1,66 @@
 //! The world from a list of what it holds, and back.
-ghost use Rattle.std.specs.Prelude.{◌≡◌, IfOk};
+ghost use Rattle.std.specs.Prelude.{◌≡◌, IfOk, map as list_map};
+ghost use Rattle.std.specs.FinMap.{entries as entries_of};
+ghost use Rattle.dk_model.specs.Effects.{pending_of};
+ghost use Rattle.dk_objects.specs.StampedObjects.{objects_of};
+ghost use Rattle.dk_names.specs.Bindings.{ids_of};
+ghost use Rattle.dk_tasks.specs.Tasks.{durable_tasks};
 ghost use Rattle.dk_durable.specs.StampedWorlds.{durable_of, HasStamps};
 ghost use Rattle.dk_durable.specs.Listings.{world_of, listed};
 
 use crate::publish::{add_tasks, bind_names, set_objects};
 use crate::world::StampedWorld;
-use dk_types::{Durable, NoMemory};
+use dk_names::Names;
+use dk_objects::Objects;
+use dk_overlay::copy_object;
+use dk_tasks::Tasks;
+use dk_types::{Durable, Listed, Name, NoMemory, Object, ObjectId, Pending};
 use std::alloc::Global;
+
+fn copy_task(task: &Pending) -> Result<Pending, NoMemory>
+    ensures { IfOk result (λ copy. copy ≡ task.now) }
+{
+    Ok(Pending {
+        key: task.key,
+        due: task.due,
+        period: task.period,
+        kind: task.kind,
+        arg: task.arg.clone()?,
+    })
+}
+
+/// A copy of the objects in the order of their ids.
+fn list_objects(objects: &Objects, alloc: Global) -> Result<Vec<(ObjectId, Object)>, NoMemory>
+    ensures { IfOk result (λ list. list.items ≡ entries_of (objects_of objects.now.objects)) }
+{
+    let mut list = Vec::new(alloc);
+    for (id, stamped) in objects.entries(alloc)? {
+        list.push((*id, copy_object(&stamped.0)?))?;
+    }
+    Ok(list)
+}
+
+/// A copy of the bound names in their order.
+fn list_names(names: &Names, alloc: Global) -> Result<Vec<(Name, ObjectId)>, NoMemory>
+    ensures { IfOk result (λ list. list.items ≡ entries_of (ids_of names.now.names)) }
+{
+    let mut list = Vec::new(alloc);
+    for (name, binding) in names.entries(alloc)? {
+        list.push((name.clone()?, binding.0))?;
+    }
+    Ok(list)
+}
+
+/// A copy of the pending tasks in the order of their keys.
+fn list_tasks(tasks: &Tasks, alloc: Global) -> Result<Vec<Pending>, NoMemory>
+    ensures { IfOk result (λ list. list.items ≡ list_map pending_of (entries_of (durable_tasks tasks.now.tasks))) }
+{
+    let mut list = Vec::new(alloc);
+    for task in tasks.in_order(alloc)? {
+        list.push(copy_task(task)?)?;
+    }
+    Ok(list)
+}
 
 impl StampedWorld {
     /// The world of a list. The stamp of each item is the number of commits.
@@ -26,5 +80,21 @@ impl StampedWorld {
         world.commits = durable.commits;
         world.last = durable.last;
         Ok(world)
+    }
+
+    /// A copy of the world as a list.
+    pub fn durable(&self, alloc: Global) -> Result<Durable, NoMemory>
+        ensures { IfOk result (λ durable. durable ≡ listed (durable_of self.now)) }
+    {
+        let objects = list_objects(&self.objects, alloc)?;
+        let names = list_names(&self.names, alloc)?;
+        let tasks = list_tasks(&self.tasks, alloc)?;
+        Ok(Durable {
+            commits: self.commits,
+            last: self.last,
+            objects: Listed::from_vec(objects),
+            names: Listed::from_vec(names),
+            tasks: Listed::from_vec(tasks),
+        })
     }
 }

@@ -8,7 +8,7 @@ ghost use Rattle.dk_model.specs.Picks.{pick_task};
 ghost use Rattle.dk_model.specs.Worlds.{World};
 ghost use Rattle.dk_tasks.specs.Tasks.{with_claim, changed_at};
 ghost use Rattle.dk_tasks.specs.Due.{least_due as soonest, HasTasks, job_at};
-ghost use Rattle.dk_durable.specs.StampedWorlds.{durable_of, seen_now};
+ghost use Rattle.dk_durable.specs.StampedWorlds.{nothing, durable_of, seen_now, HasStamps};
 
 use dk_names::Names;
 use dk_objects::Objects;
@@ -43,7 +43,9 @@ impl StampedWorld {
 
     /// The empty world. It takes no memory.
     pub fn new(alloc: Global) -> StampedWorld
+        ensures nothing { result ≡ nothing }
         ensures empty { durable_of result ≡ empty_world }
+        ensures stamps { HasStamps (λ _. 0) result }
     {
         StampedWorld {
             objects: Objects::new(alloc),

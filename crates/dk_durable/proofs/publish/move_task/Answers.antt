@@ -1,6 +1,4 @@
-use Rattle.std.proofs.Common.{sym, ap, ◌∙◌}
-use Rattle.std.specs.Option.{option_map}
-use Rattle.dk_model.specs.DurableWorlds.{with_value}
+use Rattle.std.proofs.Common.{sym}
 use Rattle.dk_model.proofs.Maps.{keys_total, exact_keys}
 use Rattle.dk_tasks.specs.Tasks.{with_due}
 use Rattle.dk_durable.proofs.MapFacts.{Changed-absent, none_there}

@@ -1,18 +1,25 @@
-use Rattle.std.proofs.Common.{sym, ap, subst, ◌∙◌}
+use Rattle.std.proofs.Common.{◌≡◌, ap, ◌∙◌}
 use Rattle.dk_model.specs.Finishes.{Told}
-use Rattle.dk_durable.specs.StampedWorlds.{durable_of}
-use Rattle.dk_durable.specs.Commits.{StampsAfter, ClaimsAfter, CommitsSteps}
-use Rattle.dk_durable.proofs.AfterCommit.{durable_committed, stamps_committed, claims_committed, comes_to}
+use Rattle.dk_durable.specs.StampedWorlds.{with_room}
+use Rattle.dk_durable.specs.Publishing.{committed}
+use Rattle.dk_durable.proofs.AfterCommit.{left_by, durable_left, stamps_left, claims_left, comes_to}
 use Rattle.dk_durable.proofs.world.StampedWorld.commit.Goals as goal
 
+-- what `publish` left, in the words of the run that was taken apart
+left : (c : goal.After-drop-touched) → c.publish-seq.new.self ≡ with_room c.publish-seq.new.self.room (committed c.args.run c.args.finished.effects c.args.finished.touched.items c.args.self.now)
+left c =
+    left_by c.args.self.now c.publish-seq.new.self c.args.run _ _ _ _ c.publish-seq.ensures.world c.into_parts-effects.ensures.effects (c.deref.ensures.value ∙ ap (λ v. v.items) c.into_parts-effects.ensures.touched)
+
 pub returns-clause-durable : goal.returns-clause-durable
-returns-clause-durable c = ?
+returns-clause-durable c = durable_left c.args.self.now c.publish-seq.new.self c.args.run c.args.finished.effects c.args.finished.touched.items (left c)
 
 pub returns-clause-stamps : goal.returns-clause-stamps
-returns-clause-stamps c = ?
+returns-clause-stamps c = stamps_left c.args.self.now c.publish-seq.new.self c.args.run c.args.finished.effects c.args.finished.touched.items (left c)
 
 pub returns-clause-claims : goal.returns-clause-claims
-returns-clause-claims c = ?
+returns-clause-claims c = claims_left c.args.self.now c.publish-seq.new.self c.args.run c.args.finished.effects c.args.finished.touched.items (left c)
 
 pub returns-clause-steps : goal.returns-clause-steps
-returns-clause-steps c = ?
+returns-clause-steps c s from told =
+    comes_to c.args.self.now c.publish-seq.new.self c.args.run s from c.args.finished.effects c.args.finished.touched.items (ap (λ (t : Told). t.effects) told) (ap (λ (t : Told). t.touched) told)
+    (returns-clause-durable c) (returns-clause-stamps c) (returns-clause-claims c)

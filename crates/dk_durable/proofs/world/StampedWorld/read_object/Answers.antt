@@ -1,4 +1,4 @@
-use Rattle.std.proofs.Common.{sym, ap, ◌∙◌, None, Some}
+use Rattle.std.proofs.Common.{ap, ◌∙◌, None, Some}
 use Rattle.std.specs.FinMap.{get}
 use Rattle.dk_durable.proofs.Reading.{object_said, object_read}
 use Rattle.dk_durable.proofs.world.StampedWorld.read_object.Goals as goal

@@ -1,4 +1,4 @@
-use Rattle.std.proofs.Common.{sym, ap, ◌∙◌, None, Some}
+use Rattle.std.proofs.Common.{ap, ◌∙◌, None, Some}
 use Rattle.std.specs.FinMap.{get}
 use Rattle.std.specs.Option.{option_map}
 use Rattle.dk_tasks.specs.Tasks.{stamped}
