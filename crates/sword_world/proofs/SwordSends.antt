@@ -7,13 +7,13 @@ use Rattle.dk_types.specs.declared.job.Job.TheVariants as job
 use Rattle.dk_model.specs.Runs.{TOO_LONG}
 use Rattle.dk_model.specs.Records.{is_name_too_long}
 use Rattle.dk_model.specs.Sendings.{SendsAtMost, IsTerse}
-use Rattle.dk_model.proofs.Sendings.{sends_more, either_few, each_few, few_sends, then_sends, give_sends, refuse_sends, create_sends, bound_sends, bind_sends, get_as_sends, get_for_update_as_sends, save_as_sends, send_sends}
+use Rattle.dk_model.proofs.Sendings.{sends_more, either_sends, each_few, few_sends, then_sends, give_sends, refuse_sends, create_sends, bound_sends, bind_sends, get_as_sends, get_for_update_as_sends, save_as_sends, send_sends}
 use Rattle.sword_world.specs.declared.command.Command.{Command}
 use Rattle.sword_world.specs.declared.command.Command.TheVariants as command
 use Rattle.sword_world.specs.declared.scene.Scene.{Scene}
 use Rattle.sword_world.specs.Things.{ROOM, THING, PLAYER, room_of, thing_of, player_of}
 use Rattle.sword_world.specs.Labels.{labels_from, labels}
-use Rattle.sword_world.specs.Rules.{room_name, player_name, furnish, initialize, new_player, player_found, known_player, room_there, room_to_change, enter, login, player_there, scene, last_scene, hold, lay, description, look, pick_up, take_from, take, put_down, drop_what, drop, obey, answer, answer_if, command_of, message, let_go, leave, disconnect, sword_rules}
+use Rattle.sword_world.specs.Rules.{room_name, player_name, furnish, initialize, new_player, player_found, known_player, room_there, room_to_change, enter, log_in, login, player_under, player_there, scene, last_scene, hold, lay, thing_at, look, pick_up, take_from, take, put_down, drop_what, drop, obey, answer, answer_if, command_of, message, let_go, leave, disconnect, sword_rules}
 
 -- labels are read and nothing sent
 labels_from_sends : {A : Type 0} (kind : ℕ) (read : List ℕ → Option A) (label : A → List ℕ) (so_far : List (List ℕ)) (ids : List ObjectId) → SendsAtMost 0 (labels_from kind read label so_far ids)
@@ -67,15 +67,15 @@ enter_sends player = then_sends room_to_change_sends (λ place. save_as_sends RO
 
 -- the game's part of a login sends nothing
 login_sends : (name : List ℕ) → SendsAtMost 0 (login name)
-unfolding login
-login_sends name = each_few (λ s. either_few (is_name_too_long (player_name name)) (few_sends s (refuse_sends TOO_LONG)) (few_sends s (then_sends (known_player_sends name) enter_sends)))
+unfolding login log_in
+login_sends name = either_sends (is_name_too_long (player_name name)) (refuse_sends TOO_LONG) (then_sends (known_player_sends name) enter_sends)
 
 -- the player is read and nothing sent
 player_there_sends : (name : List ℕ) → SendsAtMost 0 (player_there name)
-unfolding player_there
+unfolding player_there player_under
 player_there_sends name =
-    each_few (λ s. either_few (is_name_too_long (player_name name)) (few_sends s (refuse_sends TOO_LONG))
-    (few_sends s (then_sends (bound_sends (player_name name)) (λ id. then_sends (get_as_sends PLAYER player_of id) (λ player. give_sends _)))))
+    either_sends (is_name_too_long (player_name name)) (refuse_sends TOO_LONG)
+    (then_sends (bound_sends (player_name name)) (λ id. then_sends (get_as_sends PLAYER player_of id) (λ player. give_sends _)))
 
 -- so is what a command finds
 scene_sends : (name : List ℕ) → SendsAtMost 0 (scene name)
@@ -89,18 +89,15 @@ last_scene_sends name = then_sends (player_there_sends name) (λ me. then_sends 
 
 -- nothing is sent as what is carried changes
 hold_sends : (scene : Scene) (carried : Option ObjectId) → SendsAtMost 0 (hold scene carried)
-unfolding hold
 hold_sends scene carried = save_as_sends PLAYER scene.me _
 
 -- nor as what lies in the room does
 lay_sends : (scene : Scene) (items : List ObjectId) → SendsAtMost 0 (lay scene items)
-unfolding lay
 lay_sends scene items = save_as_sends ROOM scene.place _
 
 -- nor as a thing is read
-description_sends : (item : ObjectId) → SendsAtMost 0 (description item)
-unfolding description
-description_sends item = then_sends (get_as_sends THING thing_of item) (λ thing. give_sends _)
+thing_sends : (item : ObjectId) → SendsAtMost 0 (thing_at item)
+thing_sends item = get_as_sends THING thing_of item
 
 -- nor as the room is looked at
 look_sends : (scene : Scene) → SendsAtMost 0 (look scene)
@@ -110,18 +107,18 @@ look_sends scene = then_sends (labels_sends PLAYER player_of _ _) (λ names. the
 -- nor as a thing is taken
 pick_up_sends : (scene : Scene) (item : ObjectId) (left : List ObjectId) → SendsAtMost 0 (pick_up scene item left)
 unfolding pick_up
-pick_up_sends scene item left = then_sends (description_sends item) (λ name. then_sends (lay_sends scene left) (λ _. then_sends (hold_sends scene (Some item)) (λ _. give_sends _)))
+pick_up_sends scene item left = then_sends (thing_sends item) (λ thing. then_sends (lay_sends scene left) (λ _. then_sends (hold_sends scene (Some item)) (λ _. give_sends _)))
 
 -- whether or not there is one to take
 take_from_sends : (scene : Scene) (carried : Option ObjectId) (items : List ObjectId) → SendsAtMost 0 (take_from scene carried items)
-take_from_sends scene (Some item) items = then_sends (description_sends item) (λ name. give_sends _)
+take_from_sends scene (Some item) items = then_sends (thing_sends item) (λ thing. give_sends _)
 take_from_sends scene None [] = give_sends _
 take_from_sends scene None (item ∷ left) = pick_up_sends scene item left
 
 -- nor as a thing is dropped
 put_down_sends : (scene : Scene) (item : ObjectId) → SendsAtMost 0 (put_down scene item)
 unfolding put_down
-put_down_sends scene item = then_sends (description_sends item) (λ name. then_sends (lay_sends scene _) (λ _. then_sends (hold_sends scene None) (λ _. give_sends _)))
+put_down_sends scene item = then_sends (thing_sends item) (λ thing. then_sends (lay_sends scene _) (λ _. then_sends (hold_sends scene None) (λ _. give_sends _)))
 
 -- whether or not there is one to drop
 drop_what_sends : (scene : Scene) (carried : Option ObjectId) → SendsAtMost 0 (drop_what scene carried)

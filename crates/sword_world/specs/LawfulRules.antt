@@ -7,12 +7,12 @@ use Rattle.dk_types.specs.declared.job.Job.{Job}
 use Rattle.dk_types.specs.declared.job.Job.TheVariants as job
 use Rattle.dk_types.specs.declared.job.Out.TheVariants as out
 use Rattle.dk_types.specs.Names.{IsName}
-use Rattle.dk_wire.specs.Fields.{name_spelling, id_spelling}
+use Rattle.dk_wire.specs.Fields.{u8_spelling, name_spelling, id_spelling}
 use Rattle.dk_wire.specs.Lists.{list_spelling}
 use Rattle.dk_model.specs.Runs.{TOO_LONG}
 use Rattle.dk_model.specs.Records.{is_name_too_long}
 use Rattle.dk_model.specs.Lawful.{IsJob, AreLawful}
-use Rattle.dk_model.proofs.Acts.{Anything, AreBytes, IsLawful, lawful_rules, lawful_then, lawful_give, lawful_done, lawful_refuse, lawful_if_at, lawful_looks}
+use Rattle.dk_model.proofs.Acts.{Anything, AreBytes, IsLawful, lawful_rules, lawful_then, lawful_give, lawful_done, lawful_refuse, lawful_if, lawful_looks}
 use Rattle.dk_model.proofs.Operations.{lawful_create, lawful_bound, lawful_bind, lawful_send}
 use Rattle.dk_model.proofs.ReferenceActs.{lawful_get_as, lawful_get_for_update_as, lawful_save_as}
 use Rattle.dk_model.proofs.PlatformActs.{IsSomeId, bound_says}
@@ -28,7 +28,7 @@ use Rattle.sword_world.specs.ThingLaws.{IsPlayer, each_player_exact}
 use Rattle.sword_world.specs.Texts.{look_text, already_text, bare_text, take_text, empty_text, drop_text}
 use Rattle.sword_world.specs.Labels.{labels_from, labels}
 use Rattle.sword_world.specs.Rules as does
-use Rattle.sword_world.specs.Rules.{the_sword, room_name, player_name, player_found, others, take_from, drop_what, obey, answer_if, command_of, room_left, let_go, sword_rules}
+use Rattle.sword_world.specs.Rules.{the_sword, room_name, player_name, player_found, hold, lay, thing_at, others, take_from, drop_what, obey, answer_if, command_of, room_left, let_go, sword_rules}
 
 bytes_of_ids : (ids : List ObjectId) → AreBytes (list_spelling id_spelling ids)
 bytes_of_ids ids = bytes_of_list id_spelling ids (λ k d lt. bytes_of_id _)
@@ -40,8 +40,9 @@ bytes_of_sword : AreBytes (thing_bytes the_sword)
 bytes_of_sword = bytes_of_name (codes "a shiny sword") (name_of_ascii (codes "a shiny sword") refl refl refl)
 
 bytes_of_carried : (carried : Option ObjectId) → AreBytes (carried_bytes carried)
+unfolding u8_spelling
 bytes_of_carried None = bytes_cons 0 [] (lit< tt) bytes_nil
-bytes_of_carried (Some id) = bytes_cons 1 (id_spelling id) (lit< tt) (bytes_of_id id)
+bytes_of_carried (Some id) = bytes_append (u8_spelling 1) (id_spelling id) (bytes_cons 1 [] (lit< tt) bytes_nil) (bytes_of_id id)
 
 bytes_of_player : (player : Player) → IsName player.name → AreBytes (player_bytes player)
 bytes_of_player player is = bytes_append (name_spelling player.name) (carried_bytes player.carried) (bytes_of_name player.name is) (bytes_of_carried player.carried)
@@ -96,18 +97,18 @@ unfolding does.enter
 lawful_enter player = lawful_then lawful_room_to_change (λ place. lawful_save_as ROOM place.0 (room_bytes (record (place.1) { players = place.1.players ++ player ∷ [] })) (λ _. bytes_of_room (record (place.1) { players = place.1.players ++ player ∷ [] })))
 
 lawful_login : {Needs : Type 0} (name : List ℕ) → (Needs → IsName name) → IsLawful Needs Anything (does.login name)
-unfolding does.login
+unfolding does.login does.log_in
 lawful_login name named =
-    lawful_if_at (is_name_too_long (player_name name)) (lawful_refuse TOO_LONG) (lawful_then (lawful_known_player name (λ n. (named n.0, n.1))) (λ player. lawful_enter player))
+    lawful_if (is_name_too_long (player_name name)) (lawful_refuse TOO_LONG) (lawful_then (lawful_known_player name (λ n. (named n.0, n.1))) (λ player. lawful_enter player))
 
 -- the player has a name
 abbrev Played : ObjectId × Player → Type 0
 Played me = IsPlayer me.1
 
 lawful_player_there : {Needs : Type 0} (name : List ℕ) → IsLawful Needs Played (does.player_there name)
-unfolding does.player_there
+unfolding does.player_there does.player_under
 lawful_player_there name =
-    lawful_if_at (is_name_too_long (player_name name)) (lawful_refuse TOO_LONG)
+    lawful_if (is_name_too_long (player_name name)) (lawful_refuse TOO_LONG)
     (lawful_then (lawful_bound (player_name name)) (λ id. lawful_then (lawful_get_as PLAYER player_of id player_fits) (λ player. lawful_give (id, player) (λ n. n.1))))
 
 -- so has the player in a scene
@@ -122,18 +123,15 @@ lawful_last_scene : {Needs : Type 0} (name : List ℕ) → IsLawful Needs Staged
 unfolding does.last_scene
 lawful_last_scene name = lawful_then (lawful_player_there name) (λ me. lawful_then lawful_room_to_change (λ place. lawful_give _ (λ n. n.0.1)))
 
-lawful_hold : {Needs : Type 0} (scene : Scene) (carried : Option ObjectId) → (Needs → Staged scene) → IsLawful Needs Anything (does.hold scene carried)
-unfolding does.hold
+lawful_hold : {Needs : Type 0} (scene : Scene) (carried : Option ObjectId) → (Needs → Staged scene) → IsLawful Needs Anything (hold scene carried)
 lawful_hold scene carried why =
     lawful_save_as PLAYER scene.me (player_bytes (record (scene.player) { carried = carried })) (λ n. bytes_of_player (record (scene.player) { carried = carried }) (why n).name)
 
-lawful_lay : {Needs : Type 0} (scene : Scene) (items : List ObjectId) → IsLawful Needs Anything (does.lay scene items)
-unfolding does.lay
+lawful_lay : {Needs : Type 0} (scene : Scene) (items : List ObjectId) → IsLawful Needs Anything (lay scene items)
 lawful_lay scene items = lawful_save_as ROOM scene.place (room_bytes (record (scene.room) { items = items })) (λ _. bytes_of_room (record (scene.room) { items = items }))
 
-lawful_description : {Needs : Type 0} (item : ObjectId) → IsLawful Needs Anything (does.description item)
-unfolding does.description
-lawful_description item = lawful_then (lawful_get_as {Has = Anything} THING thing_of item (λ _ _ _ _. tt)) (λ thing. lawful_done thing.description)
+lawful_thing : {Needs : Type 0} (item : ObjectId) → IsLawful Needs Anything (thing_at item)
+lawful_thing item = lawful_get_as THING thing_of item (λ _ _ _ _. tt)
 
 lawful_labels_from : {A Needs : Type 0} (kind : ℕ) (read : List ℕ → Option A) (label : A → List ℕ) (so_far : List (List ℕ)) (ids : List ObjectId) → IsLawful Needs Anything (labels_from kind read label so_far ids)
 lawful_labels_from kind read label so_far [] = lawful_done so_far
@@ -152,17 +150,17 @@ lawful_look scene =
 lawful_pick_up : {Needs : Type 0} (scene : Scene) (item : ObjectId) (left : List ObjectId) → (Needs → Staged scene) → IsLawful Needs Anything (does.pick_up scene item left)
 unfolding does.pick_up
 lawful_pick_up scene item left why =
-    lawful_then (lawful_description item) (λ name. lawful_then (lawful_lay scene left) (λ _. lawful_then (lawful_hold scene (Some item) (λ n. why n.0.0)) (λ _. lawful_done (take_text name))))
+    lawful_then (lawful_thing item) (λ thing. lawful_then (lawful_lay scene left) (λ _. lawful_then (lawful_hold scene (Some item) (λ n. why n.0.0)) (λ _. lawful_done (take_text thing.description))))
 
 lawful_take_from : {Needs : Type 0} (scene : Scene) (carried : Option ObjectId) (items : List ObjectId) → (Needs → Staged scene) → IsLawful Needs Anything (take_from scene carried items)
-lawful_take_from scene (Some item) items why = lawful_then (lawful_description item) (λ name. lawful_done (already_text name))
+lawful_take_from scene (Some item) items why = lawful_then (lawful_thing item) (λ thing. lawful_done (already_text thing.description))
 lawful_take_from scene None [] why = lawful_done bare_text
 lawful_take_from scene None (item ∷ left) why = lawful_pick_up scene item left why
 
 lawful_put_down : {Needs : Type 0} (scene : Scene) (item : ObjectId) → (Needs → Staged scene) → IsLawful Needs Anything (does.put_down scene item)
 unfolding does.put_down
 lawful_put_down scene item why =
-    lawful_then (lawful_description item) (λ name. lawful_then (lawful_lay scene (scene.room.items ++ item ∷ [])) (λ _. lawful_then (lawful_hold scene None (λ n. why n.0.0)) (λ _. lawful_done (drop_text name))))
+    lawful_then (lawful_thing item) (λ thing. lawful_then (lawful_lay scene (scene.room.items ++ item ∷ [])) (λ _. lawful_then (lawful_hold scene None (λ n. why n.0.0)) (λ _. lawful_done (drop_text thing.description))))
 
 lawful_drop_what : {Needs : Type 0} (scene : Scene) (carried : Option ObjectId) → (Needs → Staged scene) → IsLawful Needs Anything (drop_what scene carried)
 lawful_drop_what scene None why = lawful_done empty_text
@@ -192,7 +190,7 @@ lawful_let_go scene (Some item) why = lawful_hold scene None why
 
 lawful_leave : {Needs : Type 0} (scene : Scene) → (Needs → Staged scene) → IsLawful Needs Anything (does.leave scene)
 unfolding does.leave
-lawful_leave scene why = lawful_then (lawful_save_as ROOM scene.place (room_bytes (room_left scene)) (λ _. bytes_of_room (room_left scene))) (λ _. lawful_let_go scene scene.player.carried (λ n. why n.0))
+lawful_leave scene why = lawful_then (lawful_save_as ROOM scene.place (room_bytes (room_left scene.me scene.player scene.room)) (λ _. bytes_of_room (room_left scene.me scene.player scene.room))) (λ _. lawful_let_go scene scene.player.carried (λ n. why n.0))
 
 lawful_disconnect : {Needs : Type 0} (name : List ℕ) → IsLawful Needs Anything (does.disconnect name)
 unfolding does.disconnect

@@ -67,15 +67,25 @@ room_to_change = and_then (bound room_name) (λ id. and_then (get_for_update_as 
 unfoldable pub enter : ObjectId → Act (Unit {0})
 enter player = and_then room_to_change (λ place. save_as ROOM place.0 (room_bytes (record (place.1) { players = place.1.players ++ player ∷ [] })))
 
--- a player whose name would be too long is turned away; any other enters the room
-unfoldable pub login : List ℕ → Act (Unit {0})
-login name s = if is_name_too_long (player_name name) then refuse TOO_LONG s else and_then (known_player name) enter s
+-- the player enters the room, whether it is new or not
+unfoldable pub log_in : List ℕ → Act (Unit {0})
+log_in name = and_then (known_player name) enter
 
--- the player of this login name and its object
+-- what is done for a player, unless its name would be too long
+abbrev pub named : {A : Type 0} → List ℕ → Act A → Act A
+named name act = if is_name_too_long (player_name name) then refuse TOO_LONG else act
+
+-- a login
+unfoldable pub login : List ℕ → Act (Unit {0})
+login name = named name (log_in name)
+
+-- the player under a name, and its object
+unfoldable pub player_under : List ℕ → Act (ObjectId × Player)
+player_under key = and_then (bound key) (λ id. and_then (get_as PLAYER player_of id) (λ player. give (Ok (id, player))))
+
+-- the player of this login name, and its object
 unfoldable pub player_there : List ℕ → Act (ObjectId × Player)
-player_there name s =
-    if is_name_too_long (player_name name) then refuse TOO_LONG s
-    else and_then (bound (player_name name)) (λ id. and_then (get_as PLAYER player_of id) (λ player. give (Ok (id, player)))) s
+player_there name = named name (player_under (player_name name))
 
 -- the player and the room, as a command finds them
 unfoldable pub scene : List ℕ → Act Scene
@@ -86,16 +96,16 @@ unfoldable pub last_scene : List ℕ → Act Scene
 last_scene name = and_then (player_there name) (λ me. and_then room_to_change (λ place. give (Ok (record { me = me.0; player = me.1; place = place.0; room = place.1 }))))
 
 -- the player carries this, and nothing else
-unfoldable pub hold : Scene → Option ObjectId → Act (Unit {0})
+abbrev pub hold : Scene → Option ObjectId → Act (Unit {0})
 hold scene carried = save_as PLAYER scene.me (player_bytes (record (scene.player) { carried = carried }))
 
 -- these things lie in the room, and no others
-unfoldable pub lay : Scene → List ObjectId → Act (Unit {0})
+abbrev pub lay : Scene → List ObjectId → Act (Unit {0})
 lay scene items = save_as ROOM scene.place (room_bytes (record (scene.room) { items = items }))
 
--- what a thing is called
-unfoldable pub description : ObjectId → Act (List ℕ)
-description item = and_then (get_as THING thing_of item) (λ thing. give (Ok thing.description))
+-- a thing
+abbrev pub thing_at : ObjectId → Act Thing
+thing_at item = get_as THING thing_of item
 
 -- the players but for this one
 abbrev pub others : ObjectId → List ObjectId → List ObjectId
@@ -115,11 +125,11 @@ look scene = and_then (names_of_others scene) (λ names. and_then (things_in sce
 
 -- the thing leaves the room, and the player carries it
 unfoldable pub pick_up : Scene → ObjectId → List ObjectId → Act (List ℕ)
-pick_up scene item left = and_then (description item) (λ name. and_then (lay scene left) (λ _. and_then (hold scene (Some item)) (λ _. give (Ok (take_text name)))))
+pick_up scene item left = and_then (thing_at item) (λ thing. and_then (lay scene left) (λ _. and_then (hold scene (Some item)) (λ _. give (Ok (take_text thing.description)))))
 
 -- take: the first thing in the room, for one who carries nothing
 abbrev pub take_from : Scene → Option ObjectId → List ObjectId → Act (List ℕ)
-take_from scene (Some item) items = and_then (description item) (λ name. give (Ok (already_text name)))
+take_from scene (Some item) items = and_then (thing_at item) (λ thing. give (Ok (already_text thing.description)))
 take_from scene None [] = give (Ok bare_text)
 take_from scene None (item ∷ left) = pick_up scene item left
 
@@ -128,7 +138,7 @@ take scene = take_from scene scene.player.carried scene.room.items
 
 -- the thing is put last in the room, and the player carries nothing
 unfoldable pub put_down : Scene → ObjectId → Act (List ℕ)
-put_down scene item = and_then (description item) (λ name. and_then (lay scene (scene.room.items ++ item ∷ [])) (λ _. and_then (hold scene None) (λ _. give (Ok (drop_text name)))))
+put_down scene item = and_then (thing_at item) (λ thing. and_then (lay scene (scene.room.items ++ item ∷ [])) (λ _. and_then (hold scene None) (λ _. give (Ok (drop_text thing.description)))))
 
 -- drop: what the player carries
 abbrev pub drop_what : Scene → Option ObjectId → Act (List ℕ)
@@ -174,8 +184,8 @@ carried_items None = []
 carried_items (Some item) = item ∷ []
 
 -- the room without the player, and with what it carried
-abbrev pub room_left : Scene → Room
-room_left scene = record { players = others scene.me scene.room.players; items = scene.room.items ++ carried_items scene.player.carried }
+abbrev pub room_left : ObjectId → Player → Room → Room
+room_left me player room = record { players = others me room.players; items = room.items ++ carried_items player.carried }
 
 -- a player who carried a thing carries nothing
 abbrev pub let_go : Scene → Option ObjectId → Act (Unit {0})
@@ -184,7 +194,7 @@ let_go scene (Some item) = hold scene None
 
 -- the player leaves the room, in all its places, and what it carries stays there
 unfoldable pub leave : Scene → Act (Unit {0})
-leave scene = and_then (save_as ROOM scene.place (room_bytes (room_left scene))) (λ _. let_go scene scene.player.carried)
+leave scene = and_then (save_as ROOM scene.place (room_bytes (room_left scene.me scene.player scene.room))) (λ _. let_go scene scene.player.carried)
 
 -- a session ends
 unfoldable pub disconnect : List ℕ → Act (Unit {0})

@@ -13,10 +13,11 @@ use Rattle.dk_wire.proofs.Steps.{bind_ok, ok_is}
 use Rattle.dk_wire.proofs.NextLaws.{next_u8_exact, next_name_exact, next_id_exact}
 use Rattle.dk_wire.proofs.ListLaws.{list_exact}
 use Rattle.dk_records.specs.FieldLaws.{each_id_exact}
+use Rattle.dk_refs.specs.Managing.{ReadsExactly, reads_exactly}
 use Rattle.sword_world.specs.declared.things.Room.{Room}
 use Rattle.sword_world.specs.declared.things.Thing.{Thing}
 use Rattle.sword_world.specs.declared.things.Player.{Player}
-use Rattle.sword_world.specs.Things.{room_bytes, next_room, thing_bytes, next_thing, carried_bytes, next_item, next_carried, player_bytes, next_player}
+use Rattle.sword_world.specs.Things.{room_bytes, next_room, room_of, thing_bytes, next_thing, thing_of, carried_bytes, next_item, next_carried, player_bytes, next_player, player_of}
 
 -- fewer than 2^32 players, and as many things
 pub record IsRoom (r : Room) : Type 0 where
@@ -115,3 +116,15 @@ each_player_exact before =
     then_exact (λ (p : Player). p.name) _ next_name_exact (λ p is. is.name) (λ name fits.
     last_exact (λ (p : Player). p.carried) (λ carried. record { name = name; carried = carried }) carried_exact (λ p is. is.0.carried)
     (λ carried is. (record { name = fits; carried = is }, refl)) (λ carried. refl) (λ p is i. record { name = is.1 i; carried = p.carried }))
+
+pub room_reads : ReadsExactly IsRoom room_bytes room_of
+unfolding room_of
+room_reads = reads_exactly IsRoom room_bytes next_room (each_room_exact None)
+
+pub thing_reads : ReadsExactly IsThing thing_bytes thing_of
+unfolding thing_of
+thing_reads = reads_exactly IsThing thing_bytes next_thing (each_thing_exact None)
+
+pub player_reads : ReadsExactly IsPlayer player_bytes player_of
+unfolding player_of
+player_reads = reads_exactly IsPlayer player_bytes next_player (each_player_exact None)

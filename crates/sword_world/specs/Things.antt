@@ -2,7 +2,7 @@
 use Rattle.std.specs.Prelude.{ℕ, ◌==◌, Option, Some, None, List, [], ◌∷◌, ◌++◌, nat_lt, Result, Ok, if◌then◌else◌}
 use Rattle.dk_types.specs.declared.number.ObjectId.{ObjectId}
 use Rattle.dk_wire.specs.Rest.{Rest}
-use Rattle.dk_wire.specs.Fields.{name_spelling, id_spelling}
+use Rattle.dk_wire.specs.Fields.{u8_spelling, name_spelling, id_spelling}
 use Rattle.dk_wire.specs.Reading.{◌>>=◌}
 use Rattle.dk_wire.specs.Payload.{next_u8, next_name, next_id, checked}
 use Rattle.dk_wire.specs.Lists.{list_spelling, list_at}
@@ -54,8 +54,8 @@ thing_of = value_of next_thing
 
 -- what a player carries: 0, or 1 and the thing's id
 abbrev pub carried_bytes : Option ObjectId → List ℕ
-carried_bytes None = 0 ∷ []
-carried_bytes (Some id) = 1 ∷ id_spelling id
+carried_bytes None = u8_spelling 0
+carried_bytes (Some id) = u8_spelling 1 ++ id_spelling id
 
 -- what follows the first byte
 abbrev pub next_item : ℕ → Rest → Result (Option ObjectId × Rest) ℕ
