@@ -47,6 +47,11 @@ pub law_so : (rules : Meaning) (j : Job) (run : RunNo) (at : ℕ) (t : Logged) (
 law_so rules j run at t (Ok f) start law = subst (λ (l : Logged). KeepsLaw rules j l.run l.at f.reads.items (told f)) start law
 law_so rules j run at t (Err e) start law = tt
 
+-- the reads were given by the view, also once it is had back
+pub given_back : {S : Type 0} {v u : S} (gave : S → Item → Read → Type 0) (result : Result Finished NoMemory) → v ≡ u
+    → IfOk result (λ f. AllByRecursion (λ r. gave v r.0 r.1) f.reads.items) → IfOk result (λ f. AllByRecursion (λ r. gave u r.0 r.1) f.reads.items)
+given_back gave result same given = subst (λ v. IfOk result (λ f. AllByRecursion (λ r. gave v r.0 r.1) f.reads.items)) same given
+
 -- a run that keeps the law, and read this world alone, tells what its job's step tells
 pub tells_alone : (rules : Meaning) (j : Job) (run : RunNo) (at : ℕ) (w v : Stamped) (result : Result Finished NoMemory)
     → IfOk result (λ f. KeepsLaw rules j run at f.reads.items (told f)) → IfOk result (λ f. AllByRecursion (λ r. r.1 ≡ read_now v r.0) f.reads.items)
