@@ -1,5 +1,5 @@
 -- A number above the largest run may be run next, and leaves a world that is below the number after it.
-use Rattle.std.proofs.Common.{◌≡◌, ℕ, ◌+◌, ◌<◌, ◌≤◌, Option, Some, None, refl, ap, arith}
+use Rattle.std.proofs.Common.{◌≡◌, ℕ, ◌+◌, ◌<◌, ◌≤◌, Option, Some, None, Result, Ok, Err, IfOk, refl, sym, ap, subst, arith}
 use Rattle.std.specs.FinMap.{get, get-empty}
 use Rattle.dk_types.specs.declared.number.RunNo.{RunNo}
 use Rattle.dk_types.specs.declared.job.Job.{Job}
@@ -16,7 +16,9 @@ use Rattle.dk_model.proofs.Maps.{not_both}
 use Rattle.dk_model.proofs.StepLaws.{step_goes_on}
 use Rattle.dk_model.proofs.StepValid.{IsReady, step_valid}
 use Rattle.dk_model.proofs.Works.{IsDueBy}
-use Rattle.dk_plain.specs.Plains.{IsBelow}
+use Rattle.dk_types.specs.declared.fault.NoMemory.{NoMemory}
+use Rattle.dk_durable.specs.declared.commits.Committed.{Committed}
+use Rattle.dk_plain.specs.Plains.{IsStep, IsBelow}
 
 -- the empty world is below every number
 pub below_empty : IsBelow empty_world 0
@@ -83,3 +85,9 @@ below_step rules lawful j d n at fits due lt moment b =
       valid = step_valid rules lawful j (record { 0 = n }) at d b.valid (ready_next j d n at fits due lt moment b);
       last = omega (arith, last, next_last d.last n b.last);
     }
+
+-- so does a run that leaves what the step leaves
+pub left_below : (rules : Meaning) → AreLawful rules → (j : Job) (d after : DurableWorld) (n at : ℕ) (result : Result Committed NoMemory) → IsJob j → IsDueBy j at → n < NUMBERS_END → at ≤ MOMENT_MOST_MS → IsBelow d n
+    → IfOk result (λ c. IsStep d after c (step rules j (record { 0 = n }) at d)) → IfOk result (λ c. IsBelow after (n + 1))
+left_below rules lawful j d after n at (Ok c) fits due lt moment b is = subst (λ w. IsBelow w (n + 1)) (sym is.world) (below_step rules lawful j d n at fits due lt moment b)
+left_below rules lawful j d after n at (Err e) fits due lt moment b is = tt
