@@ -18,7 +18,8 @@ use Rattle.dk_model.proofs.StepValid.{IsReady, step_valid}
 use Rattle.dk_model.proofs.Works.{IsDueBy}
 use Rattle.dk_types.specs.declared.fault.NoMemory.{NoMemory}
 use Rattle.dk_durable.specs.declared.commits.Committed.{Committed}
-use Rattle.dk_plain.specs.Plains.{IsStep, IsBelow}
+use Rattle.dk_plain.specs.declared.world.PlainWorld.{PlainWorld}
+use Rattle.dk_plain.specs.Plains.{durable_of, IsStep, IsBelow}
 
 -- the empty world is below every number
 pub below_empty : IsBelow empty_world 0
@@ -33,6 +34,10 @@ below_empty = record {
   };
   last = omega arith;
 }
+
+-- so a world that was just made is
+pub below_new : (w : PlainWorld) → durable_of w ≡ empty_world → IsBelow (durable_of w) 0
+below_new w fresh = subst (λ d. IsBelow d 0) (sym fresh) below_empty
 
 -- and what is below a number is below a later one
 pub below_later : (d : DurableWorld) (n m : ℕ) → n ≤ m → IsBelow d n → IsBelow d m
