@@ -1,2 +1,4 @@
+pub mod ChannelJobs
 pub mod Owning
 pub mod Running
+pub mod SessionJobs

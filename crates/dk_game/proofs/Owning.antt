@@ -17,11 +17,9 @@ use Rattle.dk_model.specs.Steps.{own_task, own_found}
 use Rattle.dk_overlay.specs.Asked.{IsAsked}
 use Rattle.dk_overlay.specs.Knowing.{MovesOwn}
 use Rattle.dk_overlay.specs.Logged.{Logged, current, nothing_done}
-use Rattle.dk_overlay.proofs.Keys.{keys_total}
-use Rattle.dk_overlay.proofs.Tests.{Some_injective}
 use Rattle.dk_txn.specs.declared.refusal.Refusal.{Refusal}
 use Rattle.dk_txn.specs.declared.txn.Txn.{Txn}
-use Rattle.dk_txn.specs.Does.{KeepsFor, DoesFor, Only, failure}
+use Rattle.dk_txn.specs.Does.{KeepsFor, DoesFor, failure}
 use Rattle.dk_txn.specs.Law.{IsBegun}
 use Rattle.dk_txn.specs.Refusals.{refusal_fault}
 use Rattle.dk_txn.proofs.Laws.{moved_own, unmoved}

@@ -1,5 +1,5 @@
 -- The law of a job that was run.
-use Rattle.std.proofs.Common.{◌≡◌, Some, List, Result, Ok, Err, IfOk, subst}
+use Rattle.std.proofs.Common.{◌≡◌, Some, Result, Ok, Err, IfOk, subst}
 use Rattle.dk_types.specs.declared.item.Item.{Item}
 use Rattle.dk_types.specs.declared.item.Read.{Read}
 use Rattle.dk_types.specs.declared.job.Job.{Job}

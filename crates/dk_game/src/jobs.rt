@@ -1,58 +1,31 @@
-//! The platform's part of a job, round the game's.
-ghost use Rattle.std.specs.Prelude.{Ok, if◌then◌else◌};
+//! The whole of a job.
+ghost use Rattle.std.specs.Prelude.{◌≡◌, IfOk};
 ghost use Rattle.dk_model.specs.declared.mode.Mode.TheVariants as mode;
-ghost use Rattle.dk_model.specs.Runs.{within, and_then, give};
-ghost use Rattle.dk_model.specs.Steps.{own_task as own_act, work};
-ghost use Rattle.dk_overlay.specs.Knowing.{Fits, JobFits};
-ghost use Rattle.dk_txn.specs.Does.{Does, DoesFor, Only};
+ghost use Rattle.dk_model.specs.Runs.{within};
+ghost use Rattle.dk_model.specs.Steps.{of_session, work};
+ghost use Rattle.dk_overlay.specs.Knowing.{JobFits};
+ghost use Rattle.dk_txn.specs.Does.{DoesFor};
 ghost use Rattle.dk_txn.specs.Law.{IsBegun};
 ghost use Rattle.dk_game.specs.Halted.{halt_fault};
-ghost use Rattle.dk_game.specs.Moving.{MayMove, AsksOwn, AsksTask};
+ghost use Rattle.dk_game.specs.Moving.{MayMove, AsksOwn};
 
+use crate::channel_jobs::channel;
 use crate::game::Game;
 use crate::halt::Halt;
-use dk_txn::{Mode, Txn, View};
-use dk_types::{Job, TaskKey};
-use std::alloc::Global;
+use crate::parts::{game_part, occurrence};
+use crate::session_jobs::{disconnect, login, message};
+use dk_txn::{Txn, View};
+use dk_types::{ConnNo, Job, Name, Session};
+use std::alloc::{AllocError, Global};
 
-/// The game's part, in the game's mode.
-fn game_part<G: Game, V: View>(
-    alloc: Global,
-    game: &G,
-    job: &Job,
-    txn: &mut Txn<'_, V>,
-) -> Result<(), Halt>
-    ensures { Does V.gave halt_fault txn.old txn.new (within mode.Game (G.rules game.now job.now)) result }
+fn session_of(conn: ConnNo, name: &Name) -> Result<Session, AllocError>
+    ensures { IfOk result (λ session. session ≡ of_session conn name.now) }
 {
-    let before = txn.set_mode(Mode::Game);
-    let end = game.run(alloc, job, txn);
-    txn.set_mode(before);
-    end
+    let name = name.clone()?;
+    Ok(Session { name, conn })
 }
 
-/// An occurrence of a task: it is nothing where the task is no longer pending; else the task is taken away, or gets its
-/// next due moment, and the rest is the game's.
-fn occurrence<G: Game, V: View>(
-    alloc: Global,
-    game: &G,
-    job: &Job,
-    key: TaskKey,
-    due: u64,
-    period: u64,
-    txn: &mut Txn<'_, V>,
-) -> Result<(), Halt>
-    requires { Fits due period }
-    ensures does { DoesFor (Only key due) V.gave halt_fault txn.old txn.new (and_then (own_act key due period) (λ pending. if pending then within mode.Game (G.rules game.now job.now) else give (Ok tt))) result }
-    ensures asked { IsBegun txn.old.log → AsksTask key txn.new.log result }
-{
-    if txn.own_task(key, due, period)? {
-        game_part(alloc, game, job, txn)
-    } else {
-        Ok(())
-    }
-}
-
-/// The whole of a job.
+/// The platform's part of a job, round the game's.
 pub(crate) fn work_job<G: Game, V: View>(
     alloc: Global,
     game: &G,
@@ -65,6 +38,35 @@ pub(crate) fn work_job<G: Game, V: View>(
 {
     match job {
         Job::Initialize => game_part(alloc, game, job, txn),
+        Job::Login { conn, name } => {
+            let session = session_of(*conn, name)?;
+            login(alloc, game, job, &session, txn)
+        }
+        Job::Message {
+            conn,
+            name,
+            body: _,
+        } => {
+            let session = session_of(*conn, name)?;
+            message(alloc, game, job, &session, txn)
+        }
+        Job::Channel {
+            conn,
+            name,
+            channel: on,
+            body,
+        } => {
+            let session = session_of(*conn, name)?;
+            channel(alloc, game, job, &session, on, body, txn)
+        }
+        Job::Disconnect {
+            conn,
+            name,
+            graceful: _,
+        } => {
+            let session = session_of(*conn, name)?;
+            disconnect(alloc, game, job, &session, txn)
+        }
         Job::Task {
             key,
             due,
@@ -72,6 +74,5 @@ pub(crate) fn work_job<G: Game, V: View>(
             kind: _,
             arg: _,
         } => occurrence(alloc, game, job, *key, *due, *period, txn),
-        _ => game_part(alloc, game, job, txn),
     }
 }

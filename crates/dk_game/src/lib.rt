@@ -7,9 +7,12 @@
 
 pub use game::Game;
 pub use halt::Halt;
-pub use run::{run_job};
+pub use run::run_job;
 
+mod channel_jobs;
 pub mod game;
 pub mod halt;
 mod jobs;
+mod parts;
 pub mod run;
+mod session_jobs;

@@ -1,7 +1,7 @@
 use Rattle.std.proofs.Common.{ap, ◌∙◌}
 use Rattle.dk_model.specs.declared.mode.Mode.TheVariants as mode
 use Rattle.dk_txn.proofs.Kit.{within_does}
-use Rattle.dk_game.proofs.jobs.game_part.Goals as goal
+use Rattle.dk_game.proofs.parts.game_part.Goals as goal
 
 pub returns : goal.returns
 returns g c =

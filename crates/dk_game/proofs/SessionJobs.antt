@@ -1,0 +1,72 @@
+-- What the jobs of sessions do, from the calls that they made.
+use Rattle.std.proofs.Common.{◌≡◌, ℕ, ◌+◌, ◌<◌, ◌≤◌, zero, suc, if◌then◌else◌, Option, Some, None, is_some, List, [], ◌∷◌, length, drop, get_or, Result, Ok, Err, refl, sym, ap, subst, ◌∙◌, arith}
+use Rattle.std.specs.Result.{IsErrAnd}
+use Rattle.dk_types.specs.declared.number.ObjectId.{ObjectId}
+use Rattle.dk_types.specs.declared.item.Item.{Item}
+use Rattle.dk_types.specs.declared.item.Read.{Read}
+use Rattle.dk_types.specs.declared.job.Session.{Session}
+use Rattle.dk_types.specs.declared.job.Out.TheVariants as out
+use Rattle.dk_types.specs.declared.number.TaskKey.{TaskKey}
+use Rattle.dk_types.specs.declared.fault.AppFault.{AppFault}
+use Rattle.dk_model.specs.Platforms.{platform_bound, open_record, leave}
+use Rattle.dk_model.specs.Records.{session_name}
+use Rattle.dk_model.specs.Runs.{Run, Act, and_then, send}
+use Rattle.dk_model.specs.Steps.{login, login_found, leave_channels}
+use Rattle.dk_overlay.specs.Logged.{Logged}
+use Rattle.dk_sessions.specs.Lookups.{is_recorded}
+use Rattle.dk_txn.specs.declared.txn.Txn.{Txn}
+use Rattle.dk_txn.specs.Does.{KeepsFor, DoesFor, Does, Leads, failure}
+use Rattle.dk_txn.proofs.Kit.{does_as}
+use Rattle.dk_game.specs.declared.halt.Halt.{Halt}
+use Rattle.dk_game.specs.declared.halt.Halt.TheVariants as halt
+use Rattle.dk_game.specs.Halted.{halt_fault}
+
+-- what a login does where its name has a record, and where it has none
+abbrev turned_away : Session → Act (Unit {0})
+turned_away session = and_then (send session.conn out.Refused) (λ _. send session.conn out.Close)
+
+abbrev let_in : Session → Act (Unit {0}) → Act (Unit {0})
+let_in session game = and_then (open_record session) (λ _. and_then (send session.conn out.Accepted) (λ _. game))
+
+login_as : (o : Option ObjectId) (session : Session) (game : Act (Unit {0})) (s : Run) → login_found o session game s ≡ (if is_some o then turned_away session else let_in session game) s
+login_as (Some id) session game s = refl
+login_as None session game s = refl
+
+-- a login is the question whether its name has a record, and what follows
+pub login_does : {S : Type 0} {gave : S → Item → Read → Type 0} {a b : Txn S Logged} {r : Result (Unit {0}) Halt} (session : Session) (game : Act (Unit {0}))
+    → Does gave halt_fault a b (and_then (is_recorded session.name) (λ there. if there then turned_away session else let_in session game)) r → Does gave halt_fault a b (login session game) r
+unfolding and_then is_recorded
+login_does session game p = does_as _ (λ s. login_as (platform_bound s (session_name session.name)) session game s) p
+
+memory_told : {A : Type 0} (s : Result A AppFault) → failure None ≡ Some s → ⊥
+memory_told s t = cc
+
+-- want of memory tells nothing of what was to be done
+pub out_of_memory : {P : TaskKey → ℕ → Type 0} {S : Type 0} {gave : S → Item → Read → Type 0} {a b : Txn S Logged} {A : Type 0} {f : Act A} {r : Result A Halt}
+    → KeepsFor P gave a b → IsErrAnd r (λ h. h ≡ halt.NoMemory) → DoesFor P gave halt_fault a b f r
+out_of_memory {r = Ok x} k is = absurd is
+out_of_memory {r = Err h} k is = record { keeps = k; does = λ s t d agrees. absurd (memory_told s (ap (λ x. failure (halt_fault x)) (sym is) ∙ t)) }
+
+turn : (channels : List (List ℕ)) (i : ℕ) (x : List ℕ) → i < length channels → drop i channels ≡ get_or channels i x ∷ drop (suc i) channels
+turn [] i x h = absurd (omega (arith, h))
+turn (c ∷ channels) zero x h = refl
+turn (c ∷ channels) (suc i) x h = turn channels i x (omega (arith, h))
+
+none_left : (channels : List (List ℕ)) (i : ℕ) → length channels ≤ i → drop i channels ≡ []
+none_left [] zero h = refl
+none_left [] (suc i) h = refl
+none_left (c ∷ channels) zero h = absurd (omega (arith, h))
+none_left (c ∷ channels) (suc i) h = none_left channels i (omega (arith, h))
+
+module _ {S : Type 0} {gave : S → Item → Read → Type 0} {a b : Txn S Logged} {f : Act (Unit {0})} (session : Session) (channels : List (List ℕ)) (i : ℕ) where
+  -- what is left at a channel begins with it
+  pub at_channel : (name x : List ℕ) → i < length channels → name ≡ get_or channels i x → Leads gave a b f (leave_channels session (drop i channels))
+      → Leads gave a b f (and_then (leave name session) (λ _. leave_channels session (drop (i + 1) channels)))
+  at_channel name x h is p =
+      let next : suc i ≡ i + 1 = omega arith in
+      let here : drop i channels ≡ name ∷ drop (i + 1) channels = turn channels i x h ∙ ap (λ (y : List ℕ). y ∷ drop (suc i) channels) (sym is) ∙ ap (λ n. name ∷ drop n channels) next in
+      subst (λ cs. Leads gave a b f (leave_channels session cs)) here p
+
+  -- behind the last nothing is left
+  pub at_end : length channels ≤ i → Leads gave a b f (leave_channels session (drop i channels)) → Leads gave a b f (leave_channels session [])
+  at_end h p = subst (λ cs. Leads gave a b f (leave_channels session cs)) (none_left channels i h) p

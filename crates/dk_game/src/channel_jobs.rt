@@ -1,0 +1,67 @@
+//! Messages on channels.
+ghost use Rattle.dk_model.specs.declared.mode.Mode.TheVariants as mode;
+ghost use Rattle.dk_model.specs.Runs.{within};
+ghost use Rattle.dk_model.specs.Steps as step;
+ghost use Rattle.dk_txn.specs.Does.{Does};
+ghost use Rattle.dk_game.specs.Halted.{halt_fault};
+
+use crate::game::Game;
+use crate::halt::Halt;
+use crate::parts::game_part;
+use dk_channels::{Channel, is_member, record_of, send};
+use dk_sessions::is_connected;
+use dk_txn::{Refusal, Txn, View};
+use dk_types::{Blob, Job, Name, Session};
+use std::alloc::Global;
+
+/// A message on a channel, of a session that is recorded with its number: it is nothing where there is no such channel, or
+/// where the session is not on it. It goes to the game where the game listens, and else to every member.
+pub(crate) fn channel<G: Game, V: View>(
+    alloc: Global,
+    game: &G,
+    job: &Job,
+    session: &Session,
+    name: &Name,
+    body: &Blob,
+    txn: &mut Txn<'_, V>,
+) -> Result<(), Halt>
+    ensures { Does V.gave halt_fault txn.old txn.new (step.for_session session.now (step.channel_message session.now name.now body.now (within mode.Game (G.rules game.now job.now)))) result }
+{
+    if is_connected(alloc, txn, session)? {
+        on_channel(alloc, game, job, session, name, body, txn)
+    } else {
+        Ok(())
+    }
+}
+
+fn on_channel<G: Game, V: View>(
+    alloc: Global,
+    game: &G,
+    job: &Job,
+    session: &Session,
+    name: &Name,
+    body: &Blob,
+    txn: &mut Txn<'_, V>,
+) -> Result<(), Halt>
+    ensures { Does V.gave halt_fault txn.old txn.new (step.channel_message session.now name.now body.now (within mode.Game (G.rules game.now job.now))) result }
+{
+    match record_of(alloc, txn, name) {
+        Ok((_, record)) => {
+            if !is_member(session, record.members.as_slice()) {
+                Ok(())
+            } else if record.listener {
+                game_part(alloc, game, job, txn)
+            } else {
+                let on = Channel {
+                    name: name.clone()?,
+                };
+                send(alloc, txn, &on, None, body)?;
+                Ok(())
+            }
+        }
+        Err(refused) => match refused {
+            Refusal::NameNotBound => Ok(()),
+            _ => Err(Halt::from(refused)),
+        },
+    }
+}
