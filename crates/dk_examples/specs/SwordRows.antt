@@ -1,5 +1,5 @@
--- SwordWorld: the first run, a login, and looks.
-use Rattle.std.specs.Prelude.{◌≡◌, ℕ, Some, None, List, [], ◌∷◌, ◌++◌, codes}
+-- SwordWorld: the first run, a login, the commands, and the end of a session.
+use Rattle.std.specs.Prelude.{◌≡◌, ℕ, true, Some, None, List, [], ◌∷◌, ◌++◌, codes}
 use Rattle.dk_types.specs.declared.number.ObjectId.{ObjectId}
 use Rattle.dk_types.specs.declared.object.Object.{Object}
 use Rattle.dk_types.specs.declared.durable.Effects.{Effects}
@@ -72,13 +72,13 @@ entering = record no_effects {
   bound = (alice_record, id 2 0) ∷ (alice_is, id 2 1) ∷ [];
 }
 
--- a login makes the session's record as 2.0 and the player as 2.1, who enters the room
+-- a login makes the session's record as 2.0 and the player as 2.1, who enters the room; the room is written as it is, and then saved
 abbrev pub SwordLogin : Type 0
 SwordLogin = Runs sword_rules (job.Login (conn 1) alice) (run 2) 0 (listed furnished 1 (Some (run 0)))
     (record {
       outcome = outcome.Ok;
       effects = entering;
-      touched = ask.Object (id 2 0) ∷ ask.Bound alice_record ∷ ask.Object (id 2 1) ∷ ask.Bound alice_is ∷ ask.Object (id 0 1) ∷ [];
+      touched = ask.Object (id 2 0) ∷ ask.Bound alice_record ∷ ask.Object (id 2 1) ∷ ask.Bound alice_is ∷ ask.Object (id 0 1) ∷ ask.Object (id 0 1) ∷ [];
       outs = (conn 1, out.Accepted) ∷ [];
     })
     (listed alice_entered 2 (Some (run 2)))
@@ -116,6 +116,72 @@ abbrev pub SwordLookAround : Type 0
 SwordLookAround = Runs sword_rules (job.Message (conn 1) alice (codes "look")) (run 5) 0 (listed both_entered 3 (Some (run 4)))
     (record does_nothing { outs = (conn 1, out.Message (codes "You are in a plain room.\nAlso in here: bob.\nOn the floor: a shiny sword.\n")) ∷ [] })
     (listed both_entered 4 (Some (run 5)))
+
+-- a room where nothing lies, by how many players are in it, and these; alice, who carries the sword
+abbrev pub bare_object : ℕ → List ObjectId → Object
+bare_object players who = object 1 (in_four players ++ (ids who ++ in_four 0))
+
+abbrev pub alice_armed : Object
+alice_armed = object 3 (5 ∷ alice ++ (1 ∷ ids (id 0 0 ∷ [])))
+
+-- alice in the room with the sword in her hand, as run 4 gave it to her
+abbrev pub taken : Lists
+taken = record {
+  objects = (id 0 0, sword_object) ∷ (id 0 1, bare_object 1 (id 2 1 ∷ [])) ∷ (id 2 0, session_object 1) ∷ (id 2 1, alice_armed) ∷ [];
+  names = (alice_record, id 2 0) ∷ (alice_is, id 2 1) ∷ (room, id 0 1) ∷ [];
+  tasks = [];
+}
+
+-- a take saves the room and the player
+abbrev pub SwordTake : Type 0
+SwordTake = Runs sword_rules (job.Message (conn 1) alice (codes "take")) (run 4) 0 (listed alice_entered 2 (Some (run 2)))
+    (record {
+      outcome = outcome.Ok;
+      effects = record no_effects { written = (id 0 1, bare_object 1 (id 2 1 ∷ [])) ∷ (id 2 1, alice_armed) ∷ [] };
+      touched = ask.Object (id 0 1) ∷ ask.Object (id 2 1) ∷ [];
+      outs = (conn 1, out.Message (codes "You take a shiny sword.")) ∷ [];
+    })
+    (listed taken 3 (Some (run 4)))
+
+-- a second take saves nothing
+abbrev pub SwordTakeAgain : Type 0
+SwordTakeAgain = Runs sword_rules (job.Message (conn 1) alice (codes "take")) (run 5) 0 (listed taken 3 (Some (run 4)))
+    (record does_nothing { outs = (conn 1, out.Message (codes "You already carry a shiny sword.")) ∷ [] }) (listed taken 4 (Some (run 5)))
+
+-- a drop puts the sword back
+abbrev pub SwordDrop : Type 0
+SwordDrop = Runs sword_rules (job.Message (conn 1) alice (codes "drop")) (run 5) 0 (listed taken 3 (Some (run 4)))
+    (record {
+      outcome = outcome.Ok;
+      effects = record no_effects { written = (id 0 1, room_object 1 (id 2 1 ∷ [])) ∷ (id 2 1, alice_player) ∷ [] };
+      touched = ask.Object (id 0 1) ∷ ask.Object (id 2 1) ∷ [];
+      outs = (conn 1, out.Message (codes "You drop a shiny sword.")) ∷ [];
+    })
+    (listed alice_entered 4 (Some (run 5)))
+
+-- a drop of nothing saves nothing
+abbrev pub SwordDropNothing : Type 0
+SwordDropNothing = Runs sword_rules (job.Message (conn 1) alice (codes "drop")) (run 3) 0 (listed alice_entered 2 (Some (run 2)))
+    (record does_nothing { outs = (conn 1, out.Message (codes "You carry nothing.")) ∷ [] }) (listed alice_entered 3 (Some (run 3)))
+
+-- the room with the sword and without alice, who carries nothing
+abbrev pub alice_left : Lists
+alice_left = record {
+  objects = (id 0 0, sword_object) ∷ (id 0 1, room_object 0 []) ∷ (id 2 1, alice_player) ∷ [];
+  names = (alice_is, id 2 1) ∷ (room, id 0 1) ∷ [];
+  tasks = [];
+}
+
+-- the end of a session leaves the room, and the sword there; the platform then takes the session's record away
+abbrev pub SwordLeave : Type 0
+SwordLeave = Runs sword_rules (job.Disconnect (conn 1) alice true) (run 5) 0 (listed taken 3 (Some (run 4)))
+    (record {
+      outcome = outcome.Ok;
+      effects = record no_effects { written = (id 0 1, room_object 0 []) ∷ (id 2 1, alice_player) ∷ []; removed = id 2 0 ∷ []; unbound = alice_record ∷ [] };
+      touched = ask.Object (id 0 1) ∷ ask.Object (id 0 1) ∷ ask.Object (id 2 1) ∷ ask.Bound alice_record ∷ ask.Object (id 2 0) ∷ [];
+      outs = [];
+    })
+    (listed alice_left 4 (Some (run 5)))
 
 -- how many bytes these effects are written in
 abbrev pub SwordLengths : Type 0

@@ -19,8 +19,9 @@ pub use sessions::{
     second_login_is_refused, stop_ends, strange_message_is_nothing,
 };
 pub use swords::{
-    sword_begins, sword_dance, sword_lengths, sword_login, sword_look, sword_look_around,
-    sword_look_in_other_letters,
+    sword_begins, sword_dance, sword_drop, sword_drop_nothing, sword_leave, sword_lengths,
+    sword_login, sword_look, sword_look_around, sword_look_in_other_letters, sword_take,
+    sword_take_again,
 };
 pub use timers::{
     once_fails, timer_begins, timer_ends, timer_fails, timer_goes_on, timer_is_over, timer_skips,

@@ -1,5 +1,5 @@
 //! SwordWorld.
-ghost use Rattle.dk_examples.specs.SwordRows.{SwordBegins, SwordLogin, SwordLook, SwordLookInOtherLetters, SwordDance, SwordLookAround, SwordLengths};
+ghost use Rattle.dk_examples.specs.SwordRows.{SwordBegins, SwordLogin, SwordLook, SwordLookInOtherLetters, SwordDance, SwordLookAround, SwordTake, SwordTakeAgain, SwordDrop, SwordDropNothing, SwordLeave, SwordLengths};
 
 /// The first run makes the sword and the room.
 pub fn sword_begins()
@@ -29,6 +29,31 @@ pub fn sword_dance()
 /// A look names the other players.
 pub fn sword_look_around()
     ensures { SwordLookAround }
+{}
+
+/// A take gives the sword to the player.
+pub fn sword_take()
+    ensures { SwordTake }
+{}
+
+/// A second take changes nothing.
+pub fn sword_take_again()
+    ensures { SwordTakeAgain }
+{}
+
+/// A drop gives it back to the room.
+pub fn sword_drop()
+    ensures { SwordDrop }
+{}
+
+/// A drop of nothing changes nothing.
+pub fn sword_drop_nothing()
+    ensures { SwordDropNothing }
+{}
+
+/// The end of a session leaves the room, and the sword in it.
+pub fn sword_leave()
+    ensures { SwordLeave }
 {}
 
 /// The lengths of these effects, in bytes.

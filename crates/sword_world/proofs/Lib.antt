@@ -1,2 +1,4 @@
 pub mod ListSteps
+pub mod Parts
+pub mod Commands
 pub mod SwordSends

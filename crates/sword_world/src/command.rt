@@ -110,7 +110,7 @@ fn take<V: View>(alloc: Global, txn: &mut Txn<'_, V>, scene: Scene) -> Result<Bl
             let thing = thing_at(alloc, txn, item)?;
             Ok(already_body(alloc, &thing.description)?)
         }
-        None => match scene.room.items.as_slice().first().copied() {
+        None => match scene.room.first_item() {
             Some(item) => pick_up(alloc, txn, scene, item),
             None => Ok(bare_body(alloc)?),
         },

@@ -1,5 +1,5 @@
 //! What the game keeps.
-ghost use Rattle.std.specs.Prelude.{◌≡◌, ◌++◌, ◌∷◌, [], drop, IfOk};
+ghost use Rattle.std.specs.Prelude.{◌≡◌, ◌++◌, ◌∷◌, [], drop, slice_get, IfOk};
 ghost use Rattle.sword_world.specs.Rules.{others};
 
 use crate::forms::{PlayerForm, RoomForm, ThingForm};
@@ -171,6 +171,13 @@ impl Room {
         let Room { players, items } = self;
         let items = with_last(items, item)?;
         Ok(Room { players, items })
+    }
+
+    /// The first thing in the room.
+    pub fn first_item(&self) -> Option<ObjectId>
+        ensures { result ≡ slice_get self.now.items 0 }
+    {
+        self.items.as_slice().first().copied()
     }
 
     /// The room without the first thing in it.
