@@ -45,7 +45,7 @@ durable_committed run e touched w =
       objects = (objects_of-restamped n touched p.objects ∙ values-without_keys ids_total exact_ids e.removed _ ∙ ap (without_keys e.removed) (values-with_set ids_total exact_ids n e.written w.objects)) i;
       names = (ids_of-restamped n touched p.names ∙ values-without_keys names_total exact_names e.unbound _ ∙ ap (without_keys e.unbound) (values-with_set names_total exact_names n e.bound w.names)) i;
       tasks = (durable-restamped n touched p.tasks ∙ durable-with_due_at e.requeued _
-      ∙ ap (with_moved e.requeued) (durable-without_keys e.dropped _ ∙ ap (without_keys e.dropped) (durable-with_set n e.added w.tasks))) i;
+          ∙ ap (with_moved e.requeued) (durable-without_keys e.dropped _ ∙ ap (without_keys e.dropped) (durable-with_set n e.added w.tasks))) i;
       commits = n;
       last = last_with w.last run;
     }

@@ -66,7 +66,7 @@ module _ (n : ℕ) (os : List (ObjectId × Object)) (ns : List (List ℕ × Obje
 
 -- by the clauses of the stores
 module _ (d : Durable) (objects : FinMap id_cmp (Object × ℕ)) (names : StampedNames) (tasks : FinMap key_cmp Kept) (room : Room)
-  (o : objects ≡ with_set (map (stamped_entry d.commits) d.objects) empty) (n : names ≡ with_set (map (stamped_entry d.commits) d.names) empty) (t : tasks ≡ with_set (map (unclaimed_entry d.commits) d.tasks) empty) where
+    (o : objects ≡ with_set (map (stamped_entry d.commits) d.objects) empty) (n : names ≡ with_set (map (stamped_entry d.commits) d.names) empty) (t : tasks ≡ with_set (map (unclaimed_entry d.commits) d.tasks) empty) where
   abbrev Kept_in : Stamped
   Kept_in = record { objects = objects; names = names; tasks = tasks; commits = d.commits; last = d.last; room = room }
 

@@ -8,7 +8,8 @@ ghost use Rattle.dk_durable.specs.Publishing.{published, committed};
 ghost use Rattle.dk_durable.specs.Commits.{next_entry, StampsAfter, ClaimsAfter, CommitsSteps};
 
 use crate::publish::{
-    add_tasks, bind_names, drop_tasks, move_tasks, remove_objects, restamp, set_objects, unbind_names,
+    add_tasks, bind_names, drop_tasks, move_tasks, remove_objects, restamp, set_objects,
+    unbind_names,
 };
 use crate::world::StampedWorld;
 use dk_overlay::{Finished, FinishedParts};
@@ -31,7 +32,8 @@ impl StampedWorld {
         ensures room { OnOk result (HasRoom self.new.room finished.now.effects) }
     {
         let effects = finished.effects();
-        self.objects.reserve(effects.written.as_slice().len() as u64)?;
+        self.objects
+            .reserve(effects.written.as_slice().len() as u64)?;
         self.names.reserve(effects.bound.as_slice().len() as u64)?;
         self.tasks.reserve(effects.added.as_slice().len() as u64)
     }

@@ -12,8 +12,8 @@ pub use world::StampedWorld;
 
 pub mod changed;
 pub mod commits;
-pub mod look;
 pub mod listing;
+pub mod look;
 mod publish;
 #[cfg(test)]
 mod tests;
