@@ -1,5 +1,5 @@
 -- What is entered and waits at the one connection is within its limits, and stays so.
-use Rattle.std.proofs.Common.{◌≡◌, ℕ, ◌+◌, ◌<◌, ◌≤◌, ◌&&◌, ◌||◌, All, Bool, true, false, cond, List, [], ◌∷◌, ◌++◌, length, map, refl, sym, ap, ◌∙◌, subst, arith}
+use Rattle.std.proofs.Common.{ℕ, ◌<◌, ◌||◌, Bool, true, false, cond, List, [], ◌∷◌, ◌++◌, map}
 use Rattle.std.specs.List.{AllByRecursion, list_any}
 use Rattle.dk_types.specs.declared.number.ConnNo.{ConnNo}
 use Rattle.dk_types.specs.declared.job.Input.TheVariants as input
@@ -7,12 +7,11 @@ use Rattle.dk_types.specs.declared.job.Out.{Out}
 use Rattle.dk_types.specs.declared.limits.TheConstants.{NUMBERS_END}
 use Rattle.dk_model.specs.declared.script.Line.{Line}
 use Rattle.dk_model.specs.declared.script.Line.TheVariants as line
-use Rattle.dk_model.specs.declared.waiting.Waiting.{Waiting}
 use Rattle.dk_model.specs.declared.waiting.Waiting.TheVariants as waits
 use Rattle.dk_model.specs.Lawful.{IsSessionOf, IsJob}
 use Rattle.dk_model.specs.Picks.{job_of}
 use Rattle.dk_model.specs.Worlds.{Connection}
-use Rattle.dk_model.specs.Deliveries.{with_out, is_full, is_disconnect, cut_off, close_off}
+use Rattle.dk_model.specs.Deliveries.{with_out, is_full, is_disconnect, cut_off}
 use Rattle.dk_model.specs.Scripts.{IsLoginName, IsSendOf}
 use Rattle.dk_model.proofs.ScriptLimits.{login_name, text_body}
 use Rattle.dk_play.specs.Visits.{AreJobs, heard, told, closes, after_outs, is_at}

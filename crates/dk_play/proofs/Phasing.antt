@@ -1,12 +1,12 @@
 -- The two phases of a play of one session.
-use Rattle.std.proofs.Common.{◌≡◌, ℕ, ◌+◌, ◌-◌, ◌<◌, ◌≤◌, None, List, [], ◌∷◌, ◌++◌, length, map, take, drop, refl, sym, ap, ◌∙◌, subst, arith, append_assoc}
+use Rattle.std.proofs.Common.{◌≡◌, ℕ, ◌-◌, ◌<◌, None, List, [], ◌∷◌, ◌++◌, length, map, take, drop, refl, sym, ap, ◌∙◌, subst, arith, append_assoc}
 use Rattle.std.proofs.lemmas.List.{length-append, take_all, append-nil}
 use Rattle.std.proofs.Math.Seq.{take-append_seam, drop-append_seam}
 use Rattle.std.specs.List.{AllByRecursion, slice_range}
 use Rattle.std.specs.FinMap as maps
 use Rattle.dk_types.specs.declared.number.ConnNo.{ConnNo}
 use Rattle.dk_types.specs.declared.event.Event.{Event}
-use Rattle.dk_types.specs.declared.limits.TheConstants.{NUMBERS_END, INPUTS_MOST_COUNT}
+use Rattle.dk_types.specs.declared.limits.TheConstants.{INPUTS_MOST_COUNT}
 use Rattle.dk_model.specs.declared.script.Line.{Line}
 use Rattle.dk_model.specs.declared.script.Line.TheVariants as line
 use Rattle.dk_model.specs.DurableWorlds.{DurableWorld, empty_world}
@@ -21,7 +21,6 @@ use Rattle.dk_play.specs.Entering.{post_of, connect_of, entered}
 use Rattle.dk_play.proofs.Alls.{all-append}
 use Rattle.dk_play.proofs.Enterings.{enters-session, visited}
 use Rattle.dk_play.proofs.Handing.{handed, hands-all}
-use Rattle.dk_play.proofs.Picking.{quiet-alone}
 
 -- posts have no numbers of runs
 small-posts : (conn : ConnNo) (sends : List Line) → AllByRecursion IsSmall (map (post_of conn) sends)

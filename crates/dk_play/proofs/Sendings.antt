@@ -1,5 +1,5 @@
 -- How many messages the platform's part of a job sends at most round a terse game, and that a job of the play leaves the tasks alone.
-use Rattle.std.proofs.Common.{◌≡◌, Bool, true, false, if◌then◌else◌, Option, Some, None, List, [], Result, Ok, Err, ℕ, ◌+◌, ◌≤◌, is_some, refl, length, arith}
+use Rattle.std.proofs.Common.{◌≡◌, Bool, true, false, if◌then◌else◌, Option, Some, None, Result, Ok, Err, ℕ, ◌+◌, ◌≤◌, is_some, refl, length, arith}
 use Rattle.dk_types.specs.declared.number.RunNo.{RunNo}
 use Rattle.dk_types.specs.declared.number.ConnNo.{ConnNo}
 use Rattle.dk_types.specs.declared.number.ObjectId.{ObjectId}

@@ -1,4 +1,4 @@
-use Rattle.std.proofs.Common.{◌∷◌, ◌++◌, [], length, refl, ap, ◌∙◌, subst}
+use Rattle.std.proofs.Common.{◌∷◌, ◌++◌, [], length, ap, ◌∙◌, subst}
 use Rattle.dk_play.specs.Visits.{VisitsAll}
 use Rattle.dk_plain.specs.Plains.{durable_of}
 use Rattle.dk_play.proofs.Phasing.{played-all}

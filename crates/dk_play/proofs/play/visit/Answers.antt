@@ -1,6 +1,6 @@
-use Rattle.std.proofs.Common.{◌≡◌, ◌≤◌, ◌+◌, ◌∷◌, ◌++◌, [], length, map, refl, sym, ap, ◌∙◌, subst, arith}
+use Rattle.std.proofs.Common.{◌≡◌, ◌∷◌, ◌++◌, [], map, sym, ap, ◌∙◌, subst, arith}
 use Rattle.dk_play.specs.Entering.{connect_of, post_of}
-use Rattle.dk_play.specs.Visits.{VisitsAll, connection_of}
+use Rattle.dk_play.specs.Visits.{VisitsAll}
 use Rattle.dk_plain.specs.declared.world.PlainWorld.{PlainWorld}
 use Rattle.dk_plain.specs.Plains.{durable_of}
 use Rattle.dk_types.specs.declared.event.Event.{Event}

@@ -1,4 +1,4 @@
-use Rattle.std.proofs.Common.{rules, ◌≡◌, ◌≤◌, ◌+◌, ◌∷◌, ◌++◌, [], length, map, refl, sym, ap, ◌∙◌, arith, List, ℕ}
+use Rattle.std.proofs.Common.{rules, ◌≡◌, ◌+◌, [], length, map, refl, sym, ap, ◌∙◌, arith, List}
 use Rattle.dk_play.specs.declared.visitor.Pending.{Pending}
 use Rattle.dk_play.specs.declared.visitor.Visitor.{Visitor}
 use Rattle.dk_play.specs.declared.serve.Play.{Play}
