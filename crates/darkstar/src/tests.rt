@@ -44,6 +44,32 @@ to 1 alice message You are in a plain room.\\x0aOn the floor: a shiny sword.\\x0
 done commits 4 tasks 0
 ";
 
+const SWORD: &str = "phase 0
+claim 0 at 0 initialize
+commit 1 run 0 ok
+phase 1
+open 1 alice
+claim 2 at 0 login alice
+commit 2 run 2 ok
+claim 3 at 0 message alice
+commit 3 run 3 ok
+claim 4 at 0 message alice
+commit 4 run 4 ok
+claim 5 at 0 message alice
+commit 5 run 5 ok
+claim 6 at 0 message alice
+commit 6 run 6 ok
+claim 7 at 0 message alice
+commit 7 run 7 ok
+to 1 alice accepted
+to 1 alice message You take a shiny sword.
+to 1 alice message You are in a plain room.\\x0a
+to 1 alice message You already carry a shiny sword.
+to 1 alice message You drop a shiny sword.
+to 1 alice message You carry nothing.
+done commits 7 tasks 0
+";
+
 /// A source with no end, which tells nothing of its bytes.
 #[derive(Drop)]
 struct Flood;
@@ -98,6 +124,10 @@ fn transcripts_are_as_worked(rt: HostRuntime) -> Result<(), Fail> {
         ("", EMPTY),
         ("login alice\nsend alice look\n", LOOK),
         ("login alice\nsend alice LooK\nsend alice dance", DANCE),
+        (
+            "login alice\nsend alice take\nsend alice look\nsend alice take\nsend alice drop\nsend alice drop\n",
+            SWORD,
+        ),
     ];
     for (script, text) in rows {
         let (status, out) = played(rt.alloc(), script.as_bytes(), 0)?;
@@ -129,8 +159,6 @@ fn other_input_is_not_yet_played(rt: HostRuntime) -> Result<(), Fail> {
         "login alice\nsync\n",
         "login alice\nlogin bob\n",
         "login alice\nsend bob look\n",
-        "login alice\nsend alice take\n",
-        "login alice\nsend alice DroP\n",
         "send bob look\n",
         "login a b\n",
         "login alice\nsend alice a\tb\n",

@@ -4,6 +4,7 @@ pub mod Fits
 pub mod Acts
 pub mod Operations
 pub mod Bytes
+pub mod ScriptLimits
 pub mod Readings
 pub mod RecordFacts
 pub mod ReferenceActs

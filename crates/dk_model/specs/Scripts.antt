@@ -1,10 +1,9 @@
 -- Scripts: the lines that a text has to have.
-use Rattle.std.specs.Prelude.{◌≡◌, ℕ, ◌<◌, ◌≤◌, ◌+◌, ◌&&◌, ◌||◌, Bool, true, false, List, [], ◌∷◌, ◌++◌, length, map, nat_le, if◌then◌else◌, codes}
+use Rattle.std.specs.Prelude.{◌≡◌, ℕ, ◌<◌, ◌≤◌, ◌&&◌, Bool, true, List, [], ◌∷◌, ◌++◌, length, map, nat_le, codes}
 use Rattle.std.specs.List.{list_all, AllByRecursion}
 use Rattle.dk_types.specs.declared.limits.TheConstants.{SCRIPT_MOST_BYTES, BODY_MOST_BYTES, INPUTS_MOST_COUNT}
 use Rattle.dk_model.specs.declared.script.Line.{Line}
 use Rattle.dk_model.specs.declared.script.Line.TheVariants.{Login, Send}
-use Rattle.dk_model.specs.Platforms.{same_name}
 use Rattle.dk_model.specs.Lines.{lines_of}
 
 -- a byte of a name: visible, and no space
@@ -23,13 +22,6 @@ line_text (Send name text) = codes "send " ++ name ++ 32 ∷ text
 abbrev pub IsText : List ℕ → Type 0
 IsText text = (length text ≤ BODY_MOST_BYTES) × (list_all is_text_byte text ≡ true)
 
-abbrev pub lower : ℕ → ℕ
-lower b = if nat_le 65 b && nat_le b 90 then b + 32 else b
-
--- the commands of the game that come later
-abbrev pub is_left_out : List ℕ → Bool
-is_left_out text = same_name (map lower text) (codes "take") || same_name (map lower text) (codes "drop")
-
 -- a name that can log in: with `Player.` before it, it is a name still
 pub record IsLoginName (name : List ℕ) : Type 0 where
   pub some : 0 < length name
@@ -38,7 +30,7 @@ pub record IsLoginName (name : List ℕ) : Type 0 where
 
 -- a send under this name
 abbrev pub IsSendOf : List ℕ → Line → Type 0
-IsSendOf name (Send n text) = (n ≡ name) × IsText text × (is_left_out text ≡ false)
+IsSendOf name (Send n text) = (n ≡ name) × IsText text
 IsSendOf name (Login n) = ⊥
 
 -- nothing, or one login and at most 1,023 sends under its name

@@ -1,6 +1,1 @@
-pub mod Writes
 pub mod Plains
-pub mod Recording
-pub mod PlainJobs
-pub mod Sendings
-pub mod Writings

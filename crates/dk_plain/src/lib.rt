@@ -1,24 +1,14 @@
-//! The definitions as a plain, slow program: a run of a job on a world that is kept as the list of
-//! all its writes.
+//! A world on which jobs run alone, one after another: the durable world in memory, and the whole
+//! course of a run on it.
 //!
-//! Each operation does what its definition says on the world itself, with no buffers and no
-//! indexes. It serves small worlds, and stands beside the fast layers as what they are compared with.
+//! A job reads the world as it stands, and what it came to is committed at once, so no read is ever
+//! stale. What a job leaves is what it does alone in the model. It serves one client, and stands
+//! beside the layers that run jobs side by side as what they are compared with.
 #![tactic(auto)]
 
-pub use halt::Halt;
-pub use jobs::PlainGame;
-pub use run::PlainRun;
-pub use stored::Stored;
-pub use world::{PlainWorld, Stepped};
-pub use writes::Write;
+pub use dk_durable::Committed;
+pub use world::PlainWorld;
 
-pub mod halt;
-pub mod jobs;
-pub mod records;
-pub mod run;
-pub mod sessions;
-pub mod stored;
 #[cfg(test)]
 mod tests;
 pub mod world;
-pub mod writes;

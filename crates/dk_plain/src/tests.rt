@@ -1,227 +1,104 @@
-//! Jobs on a plain world, by a game of one step. What they write and send is worked by hand.
-ghost use Rattle.std.specs.Prelude.{◌≡◌, IfOk};
-ghost use Rattle.dk_plain.specs.PlainJobs.{IsPlain};
+//! Jobs of a game that schedules a task in each of them.
+ghost use Rattle.std.specs.Prelude.{◌≡◌, ◌+◌, ◌<◌, IfOk};
+ghost use Rattle.dk_types.specs.declared.limits.TheConstants.{NUMBERS_END};
+ghost use Rattle.dk_model.specs.Lawful.{IsJob};
+ghost use Rattle.dk_model.specs.Finishes.{HasOwnTask};
+ghost use Rattle.dk_model.proofs.Works.{IsDueBy};
+ghost use Rattle.dk_plain.specs.Plains.{durable_of, IsBelow};
 
-use crate::{Halt, PlainGame, PlainRun, PlainWorld, Stepped};
-use dk_model::{Mode, Rules, SessionRecord};
-use dk_types::{
-    AppFault, Blob, ConnNo, Item, Job, Name, NameRefused, NoMemory, ObjectId, Out, Outcome, RunNo,
-    Session,
-};
+use crate::{Committed, PlainWorld};
+use dk_game::{Game, Halt};
+use dk_model::Rules;
+use dk_txn::{Txn, View};
+use dk_types::{Blob, ConnNo, GameId, Job, Name, NoMemory, Out, Outcome, RunNo};
 use std::alloc::Global;
-use std::process::Abort;
 use std::test::Fail;
 
-/// A game that in every job binds one name to the first object of run 0: `Door`, or a name that is reserved.
+/// A game that in every job schedules a task that is due at once.
 #[derive(Drop)]
-struct Porter {
-    reserved: bool,
+struct Sexton;
+
+impl Rules for Sexton {
+    ghost use Rattle.std.specs.Prelude.{[], Ok};
+    ghost use Rattle.std.proofs.Common.{refl, ltb-true};
+    ghost use Rattle.dk_model.specs.Runs.{and_then, give, schedule};
+    ghost use Rattle.dk_model.proofs.Acts.{lawful_rules, lawful_then, lawful_done};
+    ghost use Rattle.dk_model.proofs.Bytes.{bytes_nil};
+    ghost use Rattle.dk_model.proofs.Operations.{lawful_schedule};
+
+    ghost rules = { λ _ _. and_then (schedule 1 [] 0) (λ _. give (Ok tt)) };
+
+    ghost lawful = { λ _. lawful_rules (λ _. lawful_then (lawful_schedule 1 [] 0 (λ _. (ltb-true 1 65536 refl, bytes_nil))) (λ _. lawful_done tt)) };
 }
 
-impl Porter {
-    ghost use Rattle.std.specs.Prelude.{codes, cond};
+impl Game for Sexton {
+    ghost use Rattle.std.specs.Prelude.{codes};
 
-    fn door(&self, alloc: Global) -> Result<Name, NoMemory>
-        ensures { IfOk result (λ name. name ≡ cond self.now.reserved (codes "$Door") (codes "Door")) }
-    {
-        if self.reserved {
-            Name::from_text(alloc, "$Door")
-        } else {
-            Name::from_text(alloc, "Door")
-        }
+    ghost id = { λ _. codes "sexton" };
+
+    fn id(&self) -> GameId {
+        GameId::new(b"sexton").unwrap()
+    }
+
+    fn run<V: View>(&self, alloc: Global, _job: &Job, txn: &mut Txn<'_, V>) -> Result<(), Halt> {
+        txn.schedule(1, Blob::from_vec(Vec::new(alloc)), 0)?;
+        Ok(())
     }
 }
 
-impl Rules for Porter {
-    ghost use Rattle.std.specs.Prelude.{codes, cond, true, false};
-    ghost use Rattle.dk_types.specs.Names.{IsName};
-    ghost use Rattle.dk_model.specs.Runs.{bind};
-    ghost use Rattle.dk_model.proofs.Acts.{lawful_rules};
-    ghost use Rattle.dk_model.proofs.Bytes.{name_of_ascii};
-    ghost use Rattle.dk_model.proofs.Operations.{lawful_bind};
-    ghost use Rattle.std.proofs.Common.{refl, arith};
-
-    ghost rules = { λ porter _. bind (cond porter.reserved (codes "$Door") (codes "Door")) (record { run = record { 0 = 0 }; k = 0 }) };
-
-    ghost lawful = { λ porter. lawful_rules (λ job. lawful_bind (cond porter.reserved (codes "$Door") (codes "Door")) (record { run = record { 0 = 0 }; k = 0 })
-        (λ n. (
-          elim porter.reserved as (λ b. IsName (cond b (codes "$Door") (codes "Door"))) [
-            | true ↦ name_of_ascii (codes "$Door") refl refl refl
-            | false ↦ name_of_ascii (codes "Door") refl refl refl
-          ],
-          record { number = omega arith; place = omega arith },
-        ))) };
-}
-
-impl PlainGame for Porter {
-    fn run(&self, alloc: Global, _job: &Job, run: &mut PlainRun) -> Result<(), Halt> {
-        let door = self.door(alloc)?;
-        run.bind(&door, id(0, 0))
-    }
-}
-
-fn id(run: u64, k: u32) -> ObjectId
-    ensures { result ≡ record { run = record { 0 = run }; k = k } }
-{
-    ObjectId { run: RunNo(run), k }
-}
-
-fn name(alloc: Global, text: &str) -> Result<Name, NameRefused> {
-    Name::new(alloc, text.as_bytes())
-}
-
-fn bound(alloc: Global, text: &str) -> Result<Item, NameRefused> {
-    Ok(Item::Bound(name(alloc, text)?))
-}
-
-fn login(alloc: Global, conn: u64) -> Result<Job, NameRefused>
-    ensures { IfOk result IsPlain }
-{
-    Ok(Job::Login {
-        conn: ConnNo(conn),
-        name: name(alloc, "alice")?,
-    })
-}
-
-fn message(alloc: Global, conn: u64) -> Result<Job, Fail>
-    ensures { IfOk result IsPlain }
-{
-    Ok(Job::Message {
-        conn: ConnNo(conn),
-        name: name(alloc, "alice")?,
-        body: Blob::copy_of(alloc, b"hi")?,
-    })
-}
-
-fn worked<A: Abort>(
-    rt: &A,
-    alloc: Global,
+/// The job, run as the number that comes next, at moment 0.
+fn run_next<G: Game>(
     world: &mut PlainWorld,
-    game: &Porter,
+    alloc: Global,
+    game: &G,
     job: &Job,
     number: u64,
-) -> Result<Stepped, NoMemory>
-    requires { IsPlain job.now }
+) -> Result<Committed, NoMemory>
+    requires below { IsBelow (durable_of world.old) number }
+    requires number { number < NUMBERS_END }
+    requires fits { IsJob job.now }
+    requires due { IsDueBy job.now 0 }
+    requires own { HasOwnTask (durable_of world.old) job.now }
+    ensures { IfOk result (λ _. IsBelow (durable_of world.new) (number + 1)) }
 {
-    assert!(rt; world.commits < 1_000);
     world.run(alloc, game, job, RunNo(number), 0)
 }
 
+/// A world after its first run.
+fn begun(alloc: Global) -> Result<PlainWorld, NoMemory>
+    ensures { IfOk result (λ world. IsBelow (durable_of world) 1) }
+{
+    let mut world = PlainWorld::new(alloc);
+    run_next(&mut world, alloc, &Sexton, &Job::Initialize, 0)?;
+    Ok(world)
+}
+
 #[test]
-fn a_first_run_and_a_login_are_worked(rt: HostRuntime) -> Result<(), Fail> {
+fn a_first_run_is_committed(rt: HostRuntime) -> Result<(), Fail> {
     let alloc = rt.alloc();
     let mut world = PlainWorld::new(alloc);
-    let game = Porter { reserved: false };
-
-    let first = worked(&rt, alloc, &mut world, &game, &Job::Initialize, 0)?;
+    assert_eq!(rt; world.commits(), 0);
+    let first = run_next(&mut world, alloc, &Sexton, &Job::Initialize, 0)?;
+    assert_eq!(rt; first.seq, 1);
     assert_eq!(rt; first.outcome, Outcome::Ok);
-    assert_eq!(rt;
-        first.touched.as_slice(),
-        [bound(alloc, "Door")?].as_slice()
-    );
-    assert!(rt; first.outs.is_empty());
-
-    let login_1 = login(alloc, 1)?;
-    let entered = worked(&rt, alloc, &mut world, &game, &login_1, 2)?;
-    assert_eq!(rt; entered.outcome, Outcome::Ok);
-    let written = [
-        Item::Object(id(2, 0)),
-        bound(alloc, "$s.alice")?,
-        bound(alloc, "Door")?,
-    ];
-    assert_eq!(rt; entered.touched.as_slice(), written.as_slice());
-    assert_eq!(rt;
-        entered.outs.as_slice(),
-        [(ConnNo(1), Out::Accepted)].as_slice()
-    );
-    assert_eq!(rt; world.commits, 2);
-    assert_eq!(rt; world.last, Some(RunNo(2)));
+    assert_eq!(rt; world.commits(), 1);
+    assert_eq!(rt; world.pending_len(), 1);
     Ok(())
 }
 
 #[test]
-fn a_recorded_session_is_heard_and_no_other(rt: HostRuntime) -> Result<(), Fail> {
+fn a_second_login_is_refused(rt: HostRuntime) -> Result<(), Fail> {
     let alloc = rt.alloc();
-    let mut world = PlainWorld::new(alloc);
-    let game = Porter { reserved: false };
-    worked(&rt, alloc, &mut world, &game, &login(alloc, 1)?, 2)?;
-
-    // A message of the session, and one under another number.
-    for (conn, run, count) in [(1, 3, 1), (9, 4, 0)] {
-        let told = worked(&rt, alloc, &mut world, &game, &message(alloc, conn)?, run)?;
-        assert_eq!(rt; told.outcome, Outcome::Ok, "{conn}");
-        assert_eq!(rt; told.touched.len(), count, "{conn}");
-    }
-
-    let again = worked(&rt, alloc, &mut world, &game, &login(alloc, 5)?, 6)?;
-    assert_eq!(rt; again.outcome, Outcome::Ok);
-    assert!(rt; again.touched.is_empty());
-    let refused = [(ConnNo(5), Out::Refused), (ConnNo(5), Out::Close)];
-    assert_eq!(rt; again.outs.as_slice(), refused.as_slice());
-    Ok(())
-}
-
-#[test]
-fn a_failed_run_is_counted_and_writes_nothing(rt: HostRuntime) -> Result<(), Fail> {
-    let alloc = rt.alloc();
-    let mut world = PlainWorld::new(alloc);
-    let game = Porter { reserved: true };
-    let refused = Outcome::Fail(AppFault::Refused(6));
-
-    let first = worked(&rt, alloc, &mut world, &game, &Job::Initialize, 0)?;
-    assert_eq!(rt; first.outcome, refused);
-    assert!(rt; first.outs.is_empty());
-
-    let login_1 = login(alloc, 1)?;
-    let entered = worked(&rt, alloc, &mut world, &game, &login_1, 2)?;
-    assert_eq!(rt; entered.outcome, refused);
-    assert!(rt; entered.touched.is_empty());
-    let outs = [(ConnNo(1), Out::Refused), (ConnNo(1), Out::Close)];
-    assert_eq!(rt; entered.outs.as_slice(), outs.as_slice());
-
-    assert!(rt; world.objects.is_empty());
-    assert!(rt; world.names.is_empty());
-    assert_eq!(rt; world.commits, 2);
-    Ok(())
-}
-
-#[test]
-fn with_memory_each_call_of_a_run_succeeds(rt: HostRuntime) -> Result<(), Fail> {
-    let alloc = rt.alloc();
-    let mut run = PlainRun {
-        objects: Vec::new(alloc),
-        names: Vec::new(alloc),
-        touched: Vec::new(alloc),
-        outs: Vec::new(alloc),
-        number: RunNo(7),
-        at: 0,
-        objects_made: 0,
-        mode: Mode::Platform,
-        commits: 1,
-        last: None,
-    };
-    let door = name(alloc, "Door")?;
-    let made = run.create(1, Blob::copy_of(alloc, b"shut")?)?;
-    assert_eq!(rt; made, id(7, 0));
-    run.save(made, Blob::copy_of(alloc, b"open")?)?;
-    assert_eq!(rt; run.get(made)?.bytes.as_slice(), b"open".as_slice());
-    assert_eq!(rt; run.named(&door), None);
-    run.bind(&door, made)?;
-    assert_eq!(rt; run.named(&door), Some(made));
-    assert_eq!(rt; run.bound(&door)?, made);
-    run.send(ConnNo(1), Out::Accepted)?;
-    assert_eq!(rt; run.outs.len(), 1);
-
-    let session = Session {
-        name: name(alloc, "alice")?,
-        conn: ConnNo(1),
-    };
-    run.open_record(alloc, &session)?;
-    assert_eq!(rt; run.recorded(alloc, &session.name)?, Some(id(7, 1)));
-    assert!(rt; run.is_connected(alloc, &session)?);
-    assert_eq!(rt;
-        run.get_as::<SessionRecord>(alloc, id(7, 1))?.conn,
-        ConnNo(1)
-    );
+    let mut world = begun(alloc)?;
+    let conn = ConnNo(1);
+    let name = Name::new(alloc, b"alice")?;
+    let login = Job::Login { conn, name };
+    let accepted = run_next(&mut world, alloc, &Sexton, &login, 1)?;
+    let told = [(conn, Out::Accepted)];
+    assert_eq!(rt; accepted.outs.as_slice(), told.as_slice());
+    let refused = run_next(&mut world, alloc, &Sexton, &login, 2)?;
+    let told = [(conn, Out::Refused), (conn, Out::Close)];
+    assert_eq!(rt; refused.outs.as_slice(), told.as_slice());
+    assert_eq!(rt; world.pending_len(), 2);
     Ok(())
 }

@@ -1,163 +1,109 @@
-//! The durable world, plainly.
-ghost use Rattle.std.specs.Prelude.{◌≡◌, ◌<◌, ◌+◌, ◌^◌, [], None, IfOk};
+//! Jobs, run alone on a world in memory.
+ghost use Rattle.std.specs.Prelude.{◌≡◌, ◌≤◌, IfOk, OnErr};
 ghost use Rattle.std.specs.FinMap as map;
-ghost use Rattle.dk_model.specs.DurableWorlds.{last_with as greater_last, empty_world};
-ghost use Rattle.dk_model.specs.Steps.{step, failed_outs as outs_of_failure};
-ghost use Rattle.dk_model.specs.Validity.{next_of};
+ghost use Rattle.std.specs.List.{AllByRecursion};
+ghost use Rattle.dk_types.specs.declared.item.Item.{Item};
+ghost use Rattle.dk_types.specs.declared.item.Read.{Read};
+ghost use Rattle.dk_types.specs.declared.limits.TheConstants.{MOMENT_MOST_MS};
+ghost use Rattle.dk_model.specs.DurableWorlds.{empty_world};
+ghost use Rattle.dk_model.specs.Validity.{IsValid};
+ghost use Rattle.dk_model.specs.Finishes.{HasOwnTask, KeepsLaw};
+ghost use Rattle.dk_model.specs.Steps.{step};
+ghost use Rattle.dk_model.proofs.StepValid.{IsReady};
+ghost use Rattle.dk_overlay.specs.Finishes.{told};
+ghost use Rattle.dk_overlay.specs.Knowing.{JobFits};
+ghost use Rattle.dk_plain.specs.Plains.{durable_of, IsStep, TellsStep};
 
-use crate::halt::Halt;
-use crate::jobs::{PlainGame, work_job};
-use crate::run::PlainRun;
-use crate::writes::Write;
-use dk_model::Mode;
-use dk_types::{ConnNo, Item, Job, Name, NoMemory, Object, ObjectId, Out, Outcome, RunNo};
+use dk_durable::{Committed, StampedWorld};
+use dk_game::{Game, run_job};
+use dk_txn::{Finished, Txn, View};
+use dk_types::{Job, NoMemory, RunNo};
 use std::alloc::Global;
-use std::mem;
 
-/// The durable world as all its writes, the newest last.
+/// Runs the job over a view that is lent.
+fn run_over<G: Game, V: View>(
+    alloc: Global,
+    game: &G,
+    job: &Job,
+    view: &mut V,
+    number: RunNo,
+    at: u64,
+) -> Result<Finished, NoMemory>
+    requires moment { at ≤ MOMENT_MOST_MS }
+    requires fits { JobFits job.now }
+    ensures law { IfOk result (λ f. KeepsLaw (G.rules game.now) job.now number at f.reads.items (told f)) }
+    ensures kept { (i : Item) (r : Read) → V.gave view.old i r → V.gave view.new i r }
+    ensures given { IfOk result (λ f. AllByRecursion (λ r. V.gave view.new r.0 r.1) f.reads.items) }
+{
+    let mut txn = Txn::begin(alloc, view, number, at);
+    run_job(alloc, game, job, &mut txn)
+}
+
+/// A durable world in memory. One job after another runs on it.
 #[derive(Drop)]
 pub struct PlainWorld {
-    pub objects: Vec<Write<ObjectId, Object>>,
-    pub names: Vec<Write<Name, ObjectId>>,
-    pub commits: u64,
-    pub last: Option<RunNo>,
-}
-
-/// What a run left beside the world: its outcome, what it wrote, and what it sent.
-#[derive(Drop)]
-pub struct Stepped {
-    pub outcome: Outcome,
-    pub touched: Vec<Item>,
-    pub outs: Vec<(ConnNo, Out)>,
-}
-
-fn last_with(last: Option<RunNo>, run: RunNo) -> Option<RunNo>
-    ensures { result ≡ greater_last last run }
-{
-    match last {
-        None => Some(run),
-        Some(last) => Some(RunNo(last.0.max(run.0))),
-    }
-}
-
-/// What a failed run sends: a failed login is refused.
-fn failed_outs(alloc: Global, job: &Job) -> Result<Vec<(ConnNo, Out)>, NoMemory>
-    ensures { IfOk result (λ outs. outs.items ≡ outs_of_failure job.now) }
-{
-    let mut outs = Vec::new(alloc);
-    if let Job::Login { conn, name: _ } = job {
-        outs.push((*conn, Out::Refused))?;
-        outs.push((*conn, Out::Close))?;
-    }
-    Ok(outs)
+    world: StampedWorld,
 }
 
 impl PlainWorld {
-    ghost use Rattle.std.specs.Prelude.{take};
-    ghost use Rattle.dk_model.specs.Runs.{begun};
-    ghost use Rattle.dk_plain.specs.Plains.{run_of, objects_of, names_of};
-    ghost use Rattle.dk_plain.specs.PlainJobs.{IsPlain, durable_of, stepped_of};
-    ghost use Rattle.dk_plain.specs.Writings.{IsFrugal};
-
-    /// The world before the first run.
+    /// The world before the first run. It takes no memory.
     pub fn new(alloc: Global) -> PlainWorld
         ensures { durable_of result ≡ empty_world }
     {
         PlainWorld {
-            objects: Vec::new(alloc),
-            names: Vec::new(alloc),
-            commits: 0,
-            last: None,
+            world: StampedWorld::new(alloc),
         }
     }
 
-    /// The run at its start. The world's writes are lent to it.
-    fn begin(&mut self, alloc: Global, number: RunNo, at: u64) -> PlainRun
-        requires { self.old.commits + 1 < 2 ^ 64 }
-        ensures run { run_of result ≡ begun number at (durable_of self.old) }
-        ensures objects { result.objects.items ≡ self.old.objects.items }
-        ensures names { result.names.items ≡ self.old.names.items }
-        ensures commits { self.new.commits ≡ self.old.commits }
-        ensures last { self.new.last ≡ self.old.last }
+    /// How many runs are committed.
+    pub fn commits(&self) -> u64
+        ensures { result ≡ (durable_of self.now).commits }
     {
-        PlainRun {
-            objects: mem::replace(&mut self.objects, Vec::new(alloc)),
-            names: mem::replace(&mut self.names, Vec::new(alloc)),
-            touched: Vec::new(alloc),
-            outs: Vec::new(alloc),
-            number,
-            at,
-            objects_made: 0,
-            mode: Mode::Platform,
-            commits: self.commits + 1,
-            last: last_with(self.last, number),
-        }
+        self.world.commits()
     }
 
-    /// The world as the run has made it.
-    fn keep(&mut self, run: PlainRun) -> Stepped
-        ensures { stepped_of self.new result ≡ record { outcome = Outcome.Ok; world = (run_of run).world; touched = run.touched.items; outs = run.outs.items } }
+    /// How many tasks are pending.
+    pub fn pending_len(&self) -> u64
+        ensures { result ≡ map.len (durable_of self.now).tasks }
     {
-        self.objects = run.objects;
-        self.names = run.names;
-        self.commits = run.commits;
-        self.last = run.last;
-        Stepped {
-            outcome: Outcome::Ok,
-            touched: run.touched,
-            outs: run.outs,
-        }
+        self.world.pending_len()
     }
 
-    /// The world as it was, with so many writes of objects and of names, but that one more run is committed.
-    fn undo(&mut self, run: PlainRun, objects: usize, names: usize)
-        requires { self.old.commits + 1 < 2 ^ 64 }
-        ensures { durable_of self.new ≡ record {
-          objects = objects_of (take objects run.objects.items);
-          names = names_of (take names run.names.items);
-          tasks = map.empty;
-          commits = self.old.commits + 1;
-          last = greater_last self.old.last run.number;
-        } }
+    /// What the job comes to on the world as it stands.
+    fn worked<G: Game>(
+        &self,
+        alloc: Global,
+        game: &G,
+        job: &Job,
+        number: RunNo,
+        at: u64,
+    ) -> Result<Finished, NoMemory>
+        requires moment { at ≤ MOMENT_MOST_MS }
+        requires fits { JobFits job.now }
+        ensures { IfOk result (λ f. TellsStep (G.rules game.now) job.now number at (durable_of self.now) (told f)) }
     {
-        self.objects = run.objects;
-        self.names = run.names;
-        self.objects.truncate(objects);
-        self.names.truncate(names);
-        self.commits += 1;
-        self.last = last_with(self.last, run.number);
+        let mut look = self.world.look();
+        run_over(alloc, game, job, &mut look, number, at)
     }
 
-    /// Runs the job alone and leaves what it leaves. The game is frugal, so that no run fails because its effects are too large. After want of memory the world is of no further use.
-    pub fn run<G: PlainGame>(
+    /// Runs the job alone, as this run at this moment, in ms, and commits what it came to: the world and the messages are
+    /// what the job's step leaves. After want of memory the world is as it was.
+    pub fn run<G: Game>(
         &mut self,
         alloc: Global,
         game: &G,
         job: &Job,
         number: RunNo,
         at: u64,
-    ) -> Result<Stepped, NoMemory>
-        requires plain { IsPlain job.now }
-        requires frugal { IsFrugal (G.rules game.now) }
-        requires room { self.old.commits + 1 < 2 ^ 64 }
-        ensures { IfOk result (λ s. stepped_of self.new s ≡ step (G.rules game.now) job.now number at (durable_of self.old)) }
+    ) -> Result<Committed, NoMemory>
+        requires valid { IsValid (durable_of self.old) }
+        requires ready { IsReady job.now number at (durable_of self.old) }
+        requires own { HasOwnTask (durable_of self.old) job.now }
+        ensures step { IfOk result (λ c. IsStep (durable_of self.old) (durable_of self.new) c (step (G.rules game.now) job.now number at (durable_of self.old))) }
+        ensures kept { OnErr result (durable_of self.new ≡ durable_of self.old) }
     {
-        let objects = self.objects.as_slice().len();
-        let names = self.names.as_slice().len();
-        let mut run = self.begin(alloc, number, at);
-        match work_job(alloc, game, job, &mut run) {
-            Ok(()) => Ok(self.keep(run)),
-            Err(Halt::Fault(fault)) => {
-                let outs = failed_outs(alloc, job)?;
-                run.number = number;
-                self.undo(run, objects, names);
-                Ok(Stepped {
-                    outcome: Outcome::Fail(fault),
-                    touched: Vec::new(alloc),
-                    outs,
-                })
-            }
-            Err(Halt::NoMemory) => Err(NoMemory),
-        }
+        let finished = self.worked(alloc, game, job, number, at)?;
+        self.world.reserve_for(&finished)?;
+        Ok(self.world.commit(finished, number))
     }
 }

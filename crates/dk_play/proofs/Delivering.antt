@@ -1,13 +1,12 @@
 -- A session in the midst of a run's messages.
-use Rattle.std.proofs.Common.{◌≡◌, ℕ, ◌+◌, ◌<◌, ◌≤◌, ◌&&◌, ◌||◌, Bool, true, false, cond, not, List, [], ◌∷◌, ◌++◌, length, take, get_or, map, refl, sym, ap, ◌∙◌, arith, nat_le, ◌⊎◌, inl, inr}
+use Rattle.std.proofs.Common.{◌≡◌, ℕ, ◌+◌, ◌<◌, ◌≤◌, ◌&&◌, ◌||◌, Bool, true, false, cond, not, List, [], ◌∷◌, ◌++◌, length, take, get_or, refl, sym, ap, ◌∙◌, arith, nat_le, ◌⊎◌, inl, inr}
 use Rattle.std.proofs.lemmas.List.{length_push}
 use Rattle.std.proofs.lemmas.List.{take_more}
 use Rattle.dk_types.specs.declared.number.ConnNo.{ConnNo}
 use Rattle.dk_types.specs.declared.job.Out.{Out}
-use Rattle.dk_model.specs.Worlds.{Connection}
 use Rattle.dk_model.specs.Deliveries.{is_close, is_full, with_out, cut_off}
 use Rattle.dk_play.specs.declared.visitor.Visitor.{Visitor}
-use Rattle.dk_play.specs.Visits.{connection_of, is_at, heard, told, closing, closes, after_outs}
+use Rattle.dk_play.specs.Visits.{connection_of, is_at, heard, told, closing, closes}
 use Rattle.dk_play.proofs.Hearing.{told-push, closes-push}
 
 -- the session, which began as `start`, after the first messages

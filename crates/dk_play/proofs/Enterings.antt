@@ -1,5 +1,5 @@
 -- The lines of one session are entered as a Connect and Posts.
-use Rattle.std.proofs.Common.{◌≡◌, ℕ, ◌+◌, ◌<◌, ◌≤◌, ◌&&◌, Bool, true, false, None, Some, List, [], ◌∷◌, ◌++◌, length, map, nat_le, refl, sym, ap, ◌∙◌, subst, arith, append_assoc}
+use Rattle.std.proofs.Common.{◌≡◌, ℕ, ◌+◌, ◌<◌, ◌≤◌, ◌&&◌, true, false, Some, List, [], ◌∷◌, ◌++◌, length, map, nat_le, refl, sym, ap, ◌∙◌, subst, arith, append_assoc}
 use Rattle.std.proofs.lemmas.List.{append-nil, length_push}
 use Rattle.std.specs.List.{AllByRecursion}
 use Rattle.std.specs.Cmp.Lexicographic.{nat_list_cmp_total}
@@ -7,7 +7,6 @@ use Rattle.std.specs.FinMap as maps
 use Rattle.std.specs.FinMap.{nat_cmp-IsAntisymmetric, slice_cmp-IsAntisymmetric}
 use Rattle.dk_types.specs.declared.number.ConnNo.{ConnNo}
 use Rattle.dk_types.specs.declared.job.Input.TheVariants as input
-use Rattle.dk_types.specs.declared.event.Event.{Event}
 use Rattle.dk_types.specs.declared.event.PostReply.TheVariants as posted
 use Rattle.dk_types.specs.declared.limits.TheConstants.{NUMBERS_END, INPUTS_MOST_COUNT}
 use Rattle.dk_types.specs.Names.{bytes_cmp}
@@ -16,13 +15,13 @@ use Rattle.dk_model.specs.declared.script.Line.TheVariants as line
 use Rattle.dk_model.specs.declared.waiting.Waiting.{Waiting}
 use Rattle.dk_model.specs.declared.waiting.Waiting.TheVariants as waits
 use Rattle.dk_model.specs.DurableWorlds.{DurableWorld}
-use Rattle.dk_model.specs.Worlds.{World, Connection}
+use Rattle.dk_model.specs.Worlds.{Connection}
 use Rattle.dk_model.specs.Deliveries.{change_connection, without_done}
 use Rattle.dk_model.specs.Events.{Meaning, swept, with_input, put_last, is_open_at, waiting_at}
 use Rattle.dk_model.specs.Scripts.{IsSendOf}
 use Rattle.dk_model.specs.Transcripts.{Playing, EntersAll}
 use Rattle.dk_play.specs.Visits.{single, unclaimed, unvisited}
-use Rattle.dk_play.specs.Entering.{sent, waiting_sent, post_of, connect_of, open_with, entered}
+use Rattle.dk_play.specs.Entering.{waiting_sent, post_of, connect_of, open_with, entered}
 use Rattle.dk_play.proofs.Singles.{conn_total, conn_same, get-here}
 use Rattle.dk_play.proofs.Hearing.{change-here}
 use Rattle.dk_play.proofs.Serving.{settled}

@@ -1,5 +1,5 @@
 -- The one connection is handed all that waits for it.
-use Rattle.std.proofs.Common.{◌≡◌, ℕ, ◌&&◌, ◌==◌, Bool, true, false, cond, not, Option, Some, None, List, [], ◌∷◌, length, take, drop, is_none, refl, sym, ap, ◌∙◌}
+use Rattle.std.proofs.Common.{◌≡◌, ℕ, ◌&&◌, ◌==◌, Bool, true, false, cond, not, Some, None, [], ◌∷◌, length, take, drop, is_none, refl, sym, ap, ◌∙◌}
 use Rattle.std.proofs.Math.Seq.{take-length, drop-length}
 use Rattle.std.specs.FinMap.{get, get-retain_keys}
 use Rattle.dk_types.specs.declared.number.ConnNo.{ConnNo}

@@ -1,12 +1,11 @@
 -- What the messages of a run do to the only connection.
-use Rattle.std.proofs.Common.{◌≡◌, ℕ, ◌+◌, ◌<◌, ◌≤◌, ◌&&◌, ◌||◌, Bool, true, false, cond, not, Option, Some, None, List, [], ◌∷◌, ◌++◌, length, nat_eq, nat_le, refl, sym, ap, ◌∙◌, subst}
-use Rattle.std.specs.Ordering.{eq_by_cmp}
+use Rattle.std.proofs.Common.{◌≡◌, ◌&&◌, ◌||◌, Bool, true, false, cond, not, Some, None, List, [], ◌∷◌, ◌++◌, nat_eq, refl, ap, ◌∙◌}
 use Rattle.std.specs.FinMap.{empty, get, insert, get-empty}
 use Rattle.dk_types.specs.declared.number.ConnNo.{ConnNo}
 use Rattle.dk_types.specs.declared.job.Out.{Out}
 use Rattle.dk_model.specs.Keys.{conn_cmp}
 use Rattle.dk_model.specs.Worlds.{Connection}
-use Rattle.dk_model.specs.Deliveries.{Connections, changed_at, change_connection, with_out, with_outs, closed_by, with_closed, close_off, is_close, is_full, takes}
+use Rattle.dk_model.specs.Deliveries.{changed_at, change_connection, with_out, with_outs, closed_by, with_closed, close_off, is_close, is_full, takes}
 use Rattle.dk_play.specs.Visits.{single, is_at, heard, told, closing, closes, after_outs}
 use Rattle.dk_play.proofs.Singles.{conn_total, conn_same, get-single, get-here, insert-again, is_eq-nat_cmp, same_number}
 

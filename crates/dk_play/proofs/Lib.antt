@@ -1,4 +1,7 @@
 pub mod Alls
+pub mod Sendings
+pub mod Settled
+pub mod Limits
 pub mod Singles
 pub mod Hearing
 pub mod Delivering

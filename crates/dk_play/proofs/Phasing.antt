@@ -1,17 +1,15 @@
 -- The two phases of a play of one session.
-use Rattle.std.proofs.Common.{◌≡◌, ℕ, ◌+◌, ◌-◌, ◌<◌, ◌≤◌, None, List, [], ◌∷◌, ◌++◌, length, map, take, drop, refl, sym, ap, ◌∙◌, subst, arith, append_assoc}
+use Rattle.std.proofs.Common.{◌≡◌, ℕ, ◌-◌, ◌<◌, None, List, [], ◌∷◌, ◌++◌, length, map, take, drop, refl, sym, ap, ◌∙◌, subst, arith, append_assoc}
 use Rattle.std.proofs.lemmas.List.{length-append, take_all, append-nil}
 use Rattle.std.proofs.Math.Seq.{take-append_seam, drop-append_seam}
 use Rattle.std.specs.List.{AllByRecursion, slice_range}
 use Rattle.std.specs.FinMap as maps
-use Rattle.std.specs.FinMap.{len-empty}
 use Rattle.dk_types.specs.declared.number.ConnNo.{ConnNo}
 use Rattle.dk_types.specs.declared.event.Event.{Event}
-use Rattle.dk_types.specs.declared.limits.TheConstants.{NUMBERS_END, INPUTS_MOST_COUNT}
+use Rattle.dk_types.specs.declared.limits.TheConstants.{INPUTS_MOST_COUNT}
 use Rattle.dk_model.specs.declared.script.Line.{Line}
 use Rattle.dk_model.specs.declared.script.Line.TheVariants as line
-use Rattle.dk_model.specs.Keys.{key_cmp}
-use Rattle.dk_model.specs.DurableWorlds.{DurableWorld, Task, empty_world}
+use Rattle.dk_model.specs.DurableWorlds.{DurableWorld, empty_world}
 use Rattle.dk_model.specs.Worlds.{fresh_world}
 use Rattle.dk_model.specs.Events.{Meaning}
 use Rattle.dk_model.specs.Scripts.{IsSendOf, IsOneSession}
@@ -23,7 +21,6 @@ use Rattle.dk_play.specs.Entering.{post_of, connect_of, entered}
 use Rattle.dk_play.proofs.Alls.{all-append}
 use Rattle.dk_play.proofs.Enterings.{enters-session, visited}
 use Rattle.dk_play.proofs.Handing.{handed, hands-all}
-use Rattle.dk_play.proofs.Picking.{quiet-alone}
 
 -- posts have no numbers of runs
 small-posts : (conn : ConnNo) (sends : List Line) → AllByRecursion IsSmall (map (post_of conn) sends)
@@ -114,10 +111,10 @@ phases-two events later =
           ∙ drop-append_seam events later
 
 -- both phases are a play of the script
-pub played-all : (rules : Meaning) (d d' : DurableWorld) (lines : List Line) (events later all : List Event) (marks : List ℕ) (commits : ℕ)
-    → Begins rules events d → VisitsAll rules d lines later d' → all ≡ events ++ later → marks ≡ 0 ∷ length events ∷ [] → commits ≡ d'.commits → d'.tasks ≡ maps.empty
-    → IsPlayed rules (fresh_world None) (lines ∷ []) (phases_of all marks) commits 0
-played-all rules d d' lines events later all marks commits b v joined places counted tasks =
+pub played-all : (rules : Meaning) (d d' : DurableWorld) (lines : List Line) (events later all : List Event) (marks : List ℕ) (commits tasks : ℕ)
+    → Begins rules events d → VisitsAll rules d lines later d' → all ≡ events ++ later → marks ≡ 0 ∷ length events ∷ [] → commits ≡ d'.commits → tasks ≡ maps.len d'.tasks
+    → IsPlayed rules (fresh_world None) (lines ∷ []) (phases_of all marks) commits tasks
+played-all rules d d' lines events later all marks commits tasks b v joined places counted pending =
     let cut : phases_of all marks ≡ events ∷ later ∷ [] = ap (λ es. phases_of es marks) joined ∙ ap (phases_of (events ++ later)) places ∙ phases-two events later in
     let small : AreSmall (events ∷ later ∷ []) = (subst (AllByRecursion IsSmall) (sym b.serves.all) b.serves.small, (v.small, tt)) in
     record {
@@ -142,6 +139,6 @@ played-all rules d d' lines events later all marks commits b v joined places cou
         (v.end, v.plays, refl),
       );
       commits_are = counted ∙ sym (ap (λ (w : DurableWorld). w.commits) v.durable);
-      tasks_are = sym (ap (λ (w : DurableWorld). maps.len w.tasks) v.durable ∙ ap (maps.len {R = key_cmp}) tasks ∙ len-empty key_cmp Task);
+      tasks_are = pending ∙ sym (ap (λ (w : DurableWorld). maps.len w.tasks) v.durable);
       small = subst AreSmall (sym cut) small;
     }

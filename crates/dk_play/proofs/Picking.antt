@@ -1,5 +1,5 @@
 -- What can be run in a world with one connection or none, and no tasks.
-use Rattle.std.proofs.Common.{◌≡◌, ℕ, ◌+◌, ◌<◌, ◌≤◌, ◌==◌, Bool, true, false, cond, not, Option, Some, None, List, [], ◌∷◌, ◌++◌, length, map, filter, refl, sym, ap, ◌∙◌, arith}
+use Rattle.std.proofs.Common.{◌≡◌, ℕ, ◌≤◌, ◌==◌, Bool, false, cond, Some, None, List, [], ◌∷◌, ◌++◌, map, filter, ap, ◌∙◌, arith}
 use Rattle.std.specs.List.{filter_map, list_any, cons_option}
 use Rattle.std.specs.FinMap as maps
 use Rattle.std.specs.FinMap.{FinMap, entries}
@@ -9,7 +9,7 @@ use Rattle.dk_types.specs.declared.job.Job.TheVariants as job
 use Rattle.dk_model.specs.declared.waiting.Waiting.{Waiting}
 use Rattle.dk_model.specs.Keys.{conn_cmp, run_cmp, key_cmp}
 use Rattle.dk_model.specs.DurableWorlds.{DurableWorld, Task, empty_world}
-use Rattle.dk_model.specs.Worlds.{World, Connection, Claim}
+use Rattle.dk_model.specs.Worlds.{Connection, Claim}
 use Rattle.dk_model.specs.Deliveries.{Connections}
 use Rattle.dk_model.specs.Picks.{is_initialize, is_of, is_claimed, job_of, first_job, turn_of, input_of, inputs, task_job, is_due, due_tasks, first_runs, runnable, least, is_sooner, is_earlier, mapped, or_else, pick_task, pick_input, first_of_list, pick}
 use Rattle.dk_model.specs.Transcripts.{IsQuiet}

@@ -1,24 +1,21 @@
 -- A run that is claimed and committed in a world with one connection or none.
-use Rattle.std.proofs.Common.{◌≡◌, ℕ, ◌+◌, ◌*◌, ◌^◌, ◌<◌, ◌≤◌, ◌&&◌, ◌==◌, Bool, true, false, cond, not, Option, Some, None, List, [], ◌∷◌, ◌++◌, length, map, drop, refl, sym, ap, ◌∙◌, subst, arith}
+use Rattle.std.proofs.Common.{◌≡◌, ℕ, ◌+◌, ◌<◌, ◌≤◌, ◌&&◌, ◌==◌, true, false, not, Some, None, List, [], ◌∷◌, ◌++◌, length, map, drop, refl, sym, ap, ◌∙◌, arith}
 use Rattle.std.specs.FinMap as maps
-use Rattle.std.specs.FinMap.{FinMap, get}
+use Rattle.std.specs.FinMap.{get}
 use Rattle.dk_types.specs.declared.number.RunNo.{RunNo}
 use Rattle.dk_types.specs.declared.number.ConnNo.{ConnNo}
-use Rattle.dk_types.specs.declared.item.Item.{Item}
 use Rattle.dk_types.specs.declared.job.Job.{Job}
 use Rattle.dk_types.specs.declared.job.Job.TheVariants as job
 use Rattle.dk_types.specs.declared.job.Out.{Out}
-use Rattle.dk_types.specs.declared.fault.Outcome.{Outcome}
 use Rattle.dk_types.specs.declared.event.Event.{Event}
 use Rattle.dk_types.specs.declared.limits.TheConstants.{NUMBERS_END}
-use Rattle.dk_model.specs.Keys.{run_cmp}
 use Rattle.dk_model.specs.DurableWorlds.{DurableWorld, empty_world}
 use Rattle.dk_model.specs.Steps.{Stepped, step}
 use Rattle.dk_model.specs.Worlds.{World, Connection, Claim}
 use Rattle.dk_model.specs.Picks.{pick, job_of}
 use Rattle.dk_model.specs.Deliveries.{Connections, conn_of, for_conn, input_left, with_outs, closed_by, with_closed, delivered, is_done, without_done}
 use Rattle.dk_model.specs.Events.{Meaning, swept, is_task, with_claim, committed}
-use Rattle.dk_model.specs.Orders.{OrderItem, job_text, outcome_text}
+use Rattle.dk_model.specs.Orders.{job_text, outcome_text}
 use Rattle.dk_model.specs.Orders.{Claimed, Committed}
 use Rattle.dk_play.specs.declared.visitor.Pending.{Pending}
 use Rattle.dk_play.specs.declared.visitor.Pending.TheVariants as pending

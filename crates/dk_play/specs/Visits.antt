@@ -21,7 +21,9 @@ use Rattle.dk_model.specs.Events.{Meaning}
 use Rattle.dk_model.specs.Orders.{OrderItem}
 use Rattle.dk_model.specs.Phases.{IsSmall}
 use Rattle.dk_model.specs.Transcripts.{Playing, Follows, IsQuiet, PlaysPhase}
-use Rattle.dk_plain.specs.PlainJobs.{durable_of}
+use Rattle.dk_model.specs.Lawful.{IsSessionOf, IsJob}
+use Rattle.dk_model.specs.Picks.{job_of}
+use Rattle.dk_plain.specs.Plains.{durable_of, IsBelow}
 use Rattle.dk_play.specs.declared.visitor.Pending.{Pending}
 use Rattle.dk_play.specs.declared.visitor.Pending.TheVariants as pending
 use Rattle.dk_play.specs.declared.visitor.Visitor.{Visitor}
@@ -83,13 +85,24 @@ commit_of run seq outcome = event.Commit 0 run seq outcome
 abbrev pub hand_of : Visitor → Event
 hand_of v = event.Hand 0 v.conn (length v.outs.items) v.outs.items v.closed
 
--- what holds of a play between runs: numbers and places suffice for all that waits
+-- the durable world of a play between runs: it is valid, its largest run is below the next number, and it has no tasks
+pub record IsSettled (d : DurableWorld) (next : ℕ) : Type 0 where
+  pub below : IsBelow d next
+  pub tasks : d.tasks ≡ maps.empty
+
+-- the session is within its limits, and so is each input that waits at it, as a job
+pub record AreJobs (conn : ConnNo) (c : Connection) : Type 0 where
+  pub session : IsSessionOf conn c.name
+  pub inputs : AllByRecursion (λ x. IsJob (job_of conn c.name x)) c.queue
+
+-- what holds of a play between runs: numbers and places suffice for all that waits, which is within its limits
 pub record IsFit (p : Play) : Type 0 where
-  pub first : 1 ≤ p.world.commits
-  pub commits : p.world.commits ≤ p.next
+  pub settled : IsSettled (durable_of p.world) p.next
+  pub first : 1 ≤ (durable_of p.world).commits
   pub numbers : p.next + length p.visitor.queue.items ≤ 2048
   pub places : length p.visitor.outs.items + 2 * length p.visitor.queue.items ≤ 2048
   pub present : p.visitor.closed ≡ true → 0 < length p.visitor.outs.items
+  pub jobs : AreJobs p.visitor.conn (connection_of p.visitor)
 
 -- claims and commits from the one world to the other are put behind the events so far
 pub record Serves (rules : Meaning) (w : World) (before events : List Event) (after : World) : Type 0 where
@@ -109,7 +122,7 @@ pub record Begins (rules : Meaning) (events : List Event) (d : DurableWorld) : T
   pub serves : Serves rules (unclaimed empty_world 0 maps.empty) [] events (unclaimed d 1 maps.empty)
   pub quiet : IsQuiet (unclaimed d 1 maps.empty)
   pub commits : d.commits ≡ 1
-  pub tasks : d.tasks ≡ maps.empty
+  pub settled : IsSettled d 1
 
 -- a play on a world with no connection
 abbrev pub unvisited : World → Playing

@@ -6,16 +6,16 @@ ghost use Rattle.dk_model.specs.DurableWorlds.{empty_world};
 ghost use Rattle.dk_model.specs.Scripts.{IsOneSession};
 ghost use Rattle.dk_model.specs.Phases.{phases_of};
 ghost use Rattle.dk_model.specs.Transcripts.{IsPlayed, IsQuiet};
-ghost use Rattle.dk_plain.specs.Sendings.{IsTerse};
-ghost use Rattle.dk_plain.specs.Writings.{IsFrugal};
-ghost use Rattle.dk_plain.specs.PlainJobs.{durable_of};
-ghost use Rattle.dk_play.specs.Visits.{Begins, VisitsAll, unclaimed};
+ghost use Rattle.dk_model.specs.Sendings.{IsTerse};
+ghost use Rattle.dk_plain.specs.Plains.{durable_of};
+ghost use Rattle.dk_play.specs.Visits.{Begins, IsSettled, VisitsAll, unclaimed};
 ghost use Rattle.std.specs.FinMap as maps;
 
 use crate::serve::{Play, push_run};
 use crate::visitor::Visitor;
 use dk_model::Line;
-use dk_plain::{PlainGame, PlainWorld};
+use dk_game::Game;
+use dk_plain::PlainWorld;
 use dk_types::{ConnNo, Event, Job, NoMemory, RunNo};
 use std::alloc::Global;
 
@@ -30,25 +30,24 @@ pub struct Played {
 }
 
 /// The first run, on the empty world.
-fn begin<G: PlainGame>(
+fn begin<G: Game>(
     alloc: Global,
     game: &G,
     events: &mut Vec<Event>,
 ) -> Result<PlainWorld, NoMemory>
     requires terse { IsTerse (G.rules game.now) }
-    requires frugal { IsFrugal (G.rules game.now) }
     requires start { events.old.items ≡ [] }
     ensures { IfOk result (λ w. Begins (G.rules game.now) events.new.items (durable_of w)) }
 {
     let mut world = PlainWorld::new(alloc);
     let job = Job::Initialize;
-    let stepped = world.run(alloc, game, &job, RunNo(0), 0)?;
-    push_run(events, RunNo(0), job, 1, stepped.outcome)?;
+    let committed = world.run(alloc, game, &job, RunNo(0), 0)?;
+    push_run(events, RunNo(0), job, committed.seq, committed.outcome)?;
     Ok(world)
 }
 
 /// The lines are entered, jobs run until none is left, and the client is handed its messages.
-fn visit<G: PlainGame>(
+fn visit<G: Game>(
     alloc: Global,
     game: &G,
     world: PlainWorld,
@@ -56,9 +55,9 @@ fn visit<G: PlainGame>(
     events: &mut Vec<Event>,
 ) -> Result<PlainWorld, NoMemory>
     requires terse { IsTerse (G.rules game.now) }
-    requires frugal { IsFrugal (G.rules game.now) }
     requires session { IsOneSession lines.now }
-    requires first { world.commits ≡ 1 }
+    requires first { (durable_of world).commits ≡ 1 }
+    requires settled { IsSettled (durable_of world) 1 }
     requires quiet { IsQuiet (unclaimed (durable_of world) 1 maps.empty) }
     requires start { events.old.items ≡ [] }
     ensures { IfOk result (λ w. VisitsAll (G.rules game.now) (durable_of world) lines.now events.new.items (durable_of w)) }
@@ -81,14 +80,13 @@ fn visit<G: PlainGame>(
     Ok(world)
 }
 
-/// Plays the script of one session from the empty world on. The game sends at most one message in each job, so that the session is never cut off, and is frugal, so that no run's effects are too large.
-pub fn play_session<G: PlainGame>(
+/// Plays the script of one session from the empty world on. The game sends at most one message in each job, so that the session is never cut off, and schedules no task.
+pub fn play_session<G: Game>(
     alloc: Global,
     game: &G,
     lines: Vec<Line>,
 ) -> Result<Played, NoMemory>
     requires terse { IsTerse (G.rules game.now) }
-    requires frugal { IsFrugal (G.rules game.now) }
     requires session { IsOneSession lines.items }
     ensures played { IfOk result (λ p. IsPlayed (G.rules game.now) (fresh_world None) (lines.items ∷ []) (phases_of p.events.items p.marks.items) p.commits p.tasks) }
     ensures ordered { IfOk result (λ p. IsNonDecreasing p.marks.items) }
@@ -105,7 +103,7 @@ pub fn play_session<G: PlainGame>(
     Ok(Played {
         events,
         marks,
-        commits: world.commits,
-        tasks: 0,
+        commits: world.commits(),
+        tasks: world.pending_len(),
     })
 }

@@ -1,12 +1,12 @@
 //! Jobs run one after another until none is left, and the hand at the end.
 ghost use Rattle.std.specs.Prelude.{◌≡◌, ◌≤◌, ◌<◌, ◌∷◌, ◌++◌, ◌^◌, [], true, length, IfOk};
-ghost use Rattle.dk_plain.specs.Sendings.{IsTerse};
-ghost use Rattle.dk_plain.specs.Writings.{IsFrugal};
+ghost use Rattle.dk_model.specs.Sendings.{IsTerse};
 ghost use Rattle.dk_play.specs.Visits.{world_of, hand_of, claim_of, commit_of, IsFit, Serves, ServesNext};
 ghost use Rattle.dk_model.specs.Transcripts.{IsQuiet};
 
 use crate::visitor::Visitor;
-use dk_plain::{PlainGame, PlainWorld};
+use dk_game::Game;
+use dk_plain::PlainWorld;
 use dk_types::{ClaimReply, Event, Job, Listed, NoMemory, Outcome, RunNo};
 use std::alloc::Global;
 
@@ -42,15 +42,14 @@ pub fn push_run(
 
 impl Play {
     /// Runs the input that waits first. Answers whether there was one.
-    fn serve_next<G: PlainGame>(
+    fn serve_next<G: Game>(
         &mut self,
         alloc: Global,
         game: &G,
         events: &mut Vec<Event>,
     ) -> Result<bool, NoMemory>
         requires terse { IsTerse (G.rules game.now) }
-        requires frugal { IsFrugal (G.rules game.now) }
-        requires fit { IsFit self.old }
+            requires fit { IsFit self.old }
         ensures serves { IfOk result (λ more. ServesNext (G.rules game.now) more (world_of self.old) events.old.items events.new.items (world_of self.new)) }
         ensures fit { IfOk result (λ _. IsFit self.new) }
         ensures fewer { IfOk result (λ more. more ≡ true → length self.new.visitor.queue.items < length self.old.visitor.queue.items) }
@@ -61,25 +60,23 @@ impl Play {
         };
         let run = RunNo(self.next);
         let job = pending.job(self.visitor.conn, self.visitor.name.clone()?);
-        let seq = self.world.commits + 1;
-        let stepped = self.world.run(alloc, game, &job, run, 0)?;
-        push_run(events, run, job, seq, stepped.outcome)?;
+        let committed = self.world.run(alloc, game, &job, run, 0)?;
+        push_run(events, run, job, committed.seq, committed.outcome)?;
         self.visitor.turn = self.next;
         self.next += 1;
-        self.visitor.deliver(stepped.outs.as_slice())?;
+        self.visitor.deliver(committed.outs.as_slice())?;
         Ok(true)
     }
 
     /// Runs inputs until none is left.
-    pub fn serve_all<G: PlainGame>(
+    pub fn serve_all<G: Game>(
         &mut self,
         alloc: Global,
         game: &G,
         events: &mut Vec<Event>,
     ) -> Result<(), NoMemory>
         requires terse { IsTerse (G.rules game.now) }
-        requires frugal { IsFrugal (G.rules game.now) }
-        requires fit { IsFit self.old }
+            requires fit { IsFit self.old }
         ensures serves { IfOk result (λ _. Serves (G.rules game.now) (world_of self.old) events.old.items events.new.items (world_of self.new)) }
         ensures quiet { IfOk result (λ _. IsQuiet (world_of self.new)) }
         ensures fit { IfOk result (λ _. IsFit self.new) }

@@ -3,10 +3,11 @@ ghost use Rattle.std.specs.Prelude.{◌≡◌, IfOk, codes};
 ghost use Rattle.dk_model.specs.Scripts.{IsOneSession};
 
 use crate::{Played, play_session};
+use dk_game::{Game, Halt};
 use dk_model::{Line, Rules};
-use dk_plain::{Halt, PlainGame, PlainRun};
+use dk_txn::{Txn, View};
 use dk_types::{
-    Blob, ClaimReply, ConnNo, ConnectReply, Event, Input, Job, Listed, Name, NoMemory, Out,
+    Blob, ClaimReply, ConnNo, ConnectReply, Event, GameId, Input, Job, Listed, Name, NoMemory, Out,
     Outcome, PostReply, RunNo,
 };
 use std::alloc::Global;
@@ -29,10 +30,19 @@ impl Rules for Herald {
     ghost lawful = { λ _. lawful_rules (λ _. lawful_send (record { 0 = 1 }) (out.Message (codes "hear"))) };
 }
 
-impl PlainGame for Herald {
-    fn run(&self, alloc: Global, _job: &Job, run: &mut PlainRun) -> Result<(), Halt> {
+impl Game for Herald {
+    ghost use Rattle.std.specs.Prelude.{codes};
+
+    ghost id = { λ _. codes "herald" };
+
+    fn id(&self) -> GameId {
+        GameId::new(b"herald").unwrap()
+    }
+
+    fn run<V: View>(&self, alloc: Global, _job: &Job, txn: &mut Txn<'_, V>) -> Result<(), Halt> {
         let body = Blob::copy_of(alloc, b"hear")?;
-        run.send(ConnNo(1), Out::Message(body))
+        txn.send(ConnNo(1), Out::Message(body))?;
+        Ok(())
     }
 }
 

@@ -1,7 +1,6 @@
 pub mod LinesOf
 pub mod Prefixes
 pub mod NamesOf
-pub mod NameBytes
 pub mod HexBytes
 pub mod Reading
 pub mod Written

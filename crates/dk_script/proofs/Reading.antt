@@ -1,12 +1,12 @@
 -- A script of one session, read line by line.
-use Rattle.std.proofs.Common.{◌≡◌, ℕ, suc, ◌<◌, ◌≤◌, false, List, [], ◌∷◌, ◌++◌, length, map, codes, refl, sym, ap, ◌∙◌, subst, arith, append_assoc, length-append}
+use Rattle.std.proofs.Common.{◌≡◌, ℕ, suc, ◌<◌, ◌≤◌, List, [], ◌∷◌, ◌++◌, length, map, codes, refl, sym, ap, ◌∙◌, subst, arith, append_assoc, length-append}
 use Rattle.std.specs.List.{AllByRecursion}
 use Rattle.std.proofs.lemmas.List.{append-nil, map-append, length-map}
 use Rattle.dk_types.specs.declared.limits.TheConstants.{SCRIPT_MOST_BYTES, INPUTS_MOST_COUNT}
 use Rattle.dk_model.specs.declared.script.Line.{Line}
 use Rattle.dk_model.specs.declared.script.Line.TheVariants.{Login, Send}
 use Rattle.dk_model.specs.Lines.{lines_of}
-use Rattle.dk_model.specs.Scripts.{IsFirstScript, IsOneSession, IsLoginName, IsSendOf, IsText, is_left_out, line_text}
+use Rattle.dk_model.specs.Scripts.{IsFirstScript, IsOneSession, IsLoginName, IsSendOf, IsText, line_text}
 
 -- the text is these lines and the rest: a login, and sends under its name
 pub record IsReading (bytes name : List ℕ) (lines : List Line) (rest : List ℕ) : Type 0 where
@@ -34,13 +34,13 @@ AllByRecursion-push P [] y h p = (p, tt)
 AllByRecursion-push P (x ∷ xs) y h p = (h.0, AllByRecursion-push P xs y h.1 p)
 
 -- one more send is read
-pub IsReading-send : {bytes name rest : List ℕ} {lines : List Line} (line text after : List ℕ) → IsReading bytes name lines rest → lines_of rest ≡ line ∷ lines_of after → length lines < INPUTS_MOST_COUNT → line ≡ codes "send " ++ name ++ 32 ∷ text → IsText text → is_left_out text ≡ false → IsReading bytes name (lines ++ Send name text ∷ []) after
-IsReading-send {bytes} {name} {rest} {lines} line text after r cut few is sendable kept = record {
+pub IsReading-send : {bytes name rest : List ℕ} {lines : List Line} (line text after : List ℕ) → IsReading bytes name lines rest → lines_of rest ≡ line ∷ lines_of after → length lines < INPUTS_MOST_COUNT → line ≡ codes "send " ++ name ++ 32 ∷ text → IsText text → IsReading bytes name (lines ++ Send name text ∷ []) after
+IsReading-send {bytes} {name} {rest} {lines} line text after r cut few is sendable = record {
   sends = r.sends ++ Send name text ∷ [];
   named = r.named;
   all = ap (λ (ls : List Line). ls ++ Send name text ∷ []) r.all;
   few = omega (arith, length-append r.sends (Send name text ∷ []), ap length r.all);
-  each = AllByRecursion-push (IsSendOf name) r.sends (Send name text) r.each (refl, sendable, kept);
+  each = AllByRecursion-push (IsSendOf name) r.sends (Send name text) r.each (refl, sendable);
   spelled = r.spelled ∙ ap (λ (ls : List (List ℕ)). map line_text lines ++ ls) (cut ∙ ap (λ (l : List ℕ). l ∷ lines_of after) is) ∙ sym (append_assoc (map line_text lines) (line_text (Send name text) ∷ []) (lines_of after)) ∙ ap (λ (ls : List (List ℕ)). ls ++ lines_of after) (sym (map-append line_text lines (Send name text ∷ [])));
 }
 
@@ -74,13 +74,13 @@ spelled-at {name = name} {rest = rest} line behind r cut =
     r.spelled ∙ ap (λ (ls : List Line). map line_text ls ++ lines_of rest) r.all ∙ ap (λ (ls : List (List ℕ)). (codes "login " ++ name) ∷ (map line_text r.sends ++ ls)) cut
 
 -- a line that tells no send is no send's line
-is-not-send : (n name line : List ℕ) (x : Line) → n ≡ name → IsSendOf n x → line_text x ≡ line → ((text : List ℕ) → line ≡ codes "send " ++ name ++ 32 ∷ text → IsText text → is_left_out text ≡ false → ⊥) → ⊥
+is-not-send : (n name line : List ℕ) (x : Line) → n ≡ name → IsSendOf n x → line_text x ≡ line → ((text : List ℕ) → line ≡ codes "send " ++ name ++ 32 ∷ text → IsText text → ⊥) → ⊥
 is-not-send n name line (Login m) same send is none = send
 is-not-send n name line (Send m text) same send is none =
-    none text (sym is ∙ ap (λ (k : List ℕ). codes "send " ++ k ++ 32 ∷ text) (send.0 ∙ same)) send.1 send.2
+    none text (sym is ∙ ap (λ (k : List ℕ). codes "send " ++ k ++ 32 ∷ text) (send.0 ∙ same)) send.1
 
 -- no session has a line that tells no send behind its login
-not-by-line : (name line : List ℕ) (sent behind : List (List ℕ)) (others : List Line) → map line_text others ≡ (codes "login " ++ name) ∷ (sent ++ line ∷ behind) → IsOneSession others → ((text : List ℕ) → line ≡ codes "send " ++ name ++ 32 ∷ text → IsText text → is_left_out text ≡ false → ⊥) → ⊥
+not-by-line : (name line : List ℕ) (sent behind : List (List ℕ)) (others : List Line) → map line_text others ≡ (codes "login " ++ name) ∷ (sent ++ line ∷ behind) → IsOneSession others → ((text : List ℕ) → line ≡ codes "send " ++ name ++ 32 ∷ text → IsText text → ⊥) → ⊥
 not-by-line name line sent behind [] e session none = cc
 not-by-line name line sent behind (Login n ∷ others) e session none =
     let found = line-behind line_text (IsSendOf n) sent line behind others (cc) session.2 in
@@ -88,7 +88,7 @@ not-by-line name line sent behind (Login n ∷ others) e session none =
 not-by-line name line sent behind (Send n text ∷ others) e session none = session
 
 -- no script of one session has this line here
-pub not-first-by-line : {bytes name rest : List ℕ} {lines : List Line} (line after : List ℕ) → IsReading bytes name lines rest → lines_of rest ≡ line ∷ lines_of after → ((text : List ℕ) → line ≡ codes "send " ++ name ++ 32 ∷ text → IsText text → is_left_out text ≡ false → ⊥) → (others : List Line) → IsFirstScript bytes others → ⊥
+pub not-first-by-line : {bytes name rest : List ℕ} {lines : List Line} (line after : List ℕ) → IsReading bytes name lines rest → lines_of rest ≡ line ∷ lines_of after → ((text : List ℕ) → line ≡ codes "send " ++ name ++ 32 ∷ text → IsText text → ⊥) → (others : List Line) → IsFirstScript bytes others → ⊥
 not-first-by-line {name = name} line after r cut none others script =
     not-by-line name line (map line_text r.sends) (lines_of after) others (sym script.spelled ∙ spelled-at line (lines_of after) r cut) script.session none
 

@@ -2,7 +2,7 @@
 ghost use Rattle.std.specs.Prelude.{◌≡◌, ℕ, ◌<◌, ◌∷◌, ◌++◌, List, [], false, length, codes, IsTrue, ◌↔◌, ◌==◌, IfSome, IfNone, position};
 ghost use Rattle.std.specs.List.{list_all};
 ghost use Rattle.dk_model.specs.Lines.{lines_of};
-ghost use Rattle.dk_model.specs.Scripts.{IsLoginName, IsText, is_left_out, is_name_byte, is_text_byte};
+ghost use Rattle.dk_model.specs.Scripts.{IsLoginName, IsText, is_name_byte, is_text_byte};
 
 use dk_model::limits::BODY_MOST_BYTES;
 
@@ -41,15 +41,15 @@ pub(crate) fn login_name(line: &[u8]) -> Option<&[u8]>
     }
 }
 
-/// The text of a line `send NAME TEXT` of this name, where it may be sent.
+/// The text of a line `send NAME TEXT` of this name, where it has such a text.
 pub(crate) fn send_text<'a>(line: &'a [u8], name: &[u8]) -> Option<&'a [u8]>
-    ensures found { IfSome result (λ text. (line.now ≡ codes "send " ++ name.now ++ 32 ∷ text.now) × IsText text.now × (is_left_out text.now ≡ false)) }
-    ensures none { IfNone result ((text : List ℕ) → line.now ≡ codes "send " ++ name.now ++ 32 ∷ text → IsText text → is_left_out text ≡ false → ⊥) }
+    ensures found { IfSome result (λ text. (line.now ≡ codes "send " ++ name.now ++ 32 ∷ text.now) × IsText text.now) }
+    ensures none { IfNone result ((text : List ℕ) → line.now ≡ codes "send " ++ name.now ++ 32 ∷ text → IsText text → ⊥) }
 {
     let named = line.strip_prefix(b"send ".as_slice())?;
     let spaced = named.strip_prefix(name)?;
     let text = spaced.strip_prefix(b" ".as_slice())?;
-    if is_text(text) && !is_command_to_come(text) {
+    if is_text(text) {
         Some(text)
     } else {
         None
@@ -78,11 +78,4 @@ fn are_text_bytes(bytes: &[u8]) -> bool
     ensures { result ≡ list_all is_text_byte bytes.now }
 {
     bytes.iter().all(|b| *b >= 0x20 && *b <= 0x7E)
-}
-
-/// The text is a command that the game does not have yet.
-fn is_command_to_come(text: &[u8]) -> bool
-    ensures { result ≡ is_left_out text.now }
-{
-    text.eq_ignore_ascii_case(b"take".as_slice()) || text.eq_ignore_ascii_case(b"drop".as_slice())
 }

@@ -1,4 +1,4 @@
--- The game sends at most one message in each job, and leaves the number of commits alone.
+-- The game sends at most one message in each job, and schedules and cancels no task.
 use Rattle.std.proofs.Common.{ℕ, Option, Some, None, List, [], ◌∷◌, arith}
 use Rattle.std.specs.FinMap as maps
 use Rattle.dk_types.specs.declared.number.ConnNo.{ConnNo}

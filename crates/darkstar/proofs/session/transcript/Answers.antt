@@ -7,7 +7,6 @@ use Rattle.dk_model.specs.Phases.{phases_of}
 use Rattle.dk_model.specs.Transcripts.{IsPlayed, transcript_text}
 use Rattle.sword_world.specs.Rules.{sword_rules}
 use Rattle.sword_world.proofs.SwordSends.{sword-is_terse}
-use Rattle.sword_world.proofs.SwordWrites.{sword-is_frugal}
 use Rattle.darkstar.specs.Headline.{IsToldPlay}
 use Rattle.darkstar.proofs.PlayOrder.{IsTranscript-IsPlayed}
 use Rattle.darkstar.proofs.session.transcript.Goals as goal
@@ -22,10 +21,6 @@ told (Err e) lines events items marks places commits tasks same_events same_mark
 -- SwordWorld sends at most one message in each job
 pub play_session-requires-clause-terse : goal.play_session-requires-clause-terse
 play_session-requires-clause-terse c = sword-is_terse
-
--- and writes little
-pub play_session-requires-clause-frugal : goal.play_session-requires-clause-frugal
-play_session-requires-clause-frugal c = sword-is_frugal
 
 pub returns : goal.returns
 returns c =

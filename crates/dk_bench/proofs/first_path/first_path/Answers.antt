@@ -1,11 +1,6 @@
 use Rattle.sword_world.proofs.SwordSends.{sword-is_terse}
-use Rattle.sword_world.proofs.SwordWrites.{sword-is_frugal}
 use Rattle.dk_bench.proofs.first_path.first_path.Goals as goal
 
 -- SwordWorld sends at most one message in each job
 pub play_session-requires-clause-terse : goal.play_session-requires-clause-terse
 play_session-requires-clause-terse c = sword-is_terse
-
--- and writes little
-pub play_session-requires-clause-frugal : goal.play_session-requires-clause-frugal
-play_session-requires-clause-frugal c = sword-is_frugal

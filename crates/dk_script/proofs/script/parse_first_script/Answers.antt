@@ -9,5 +9,5 @@ returns-in_default-send_text-clause-refused c = λ refused.
 pub sends-preserved : goal.sends-preserved
 sends-preserved c =
     let sendable = c.in-Some-send_text.ensures.found in
-    let read = IsReading-send c.cut_line-in-sends.result.0.now c.in-Some-send_text.text.now c.cut_line-in-sends.result.1.now c.sends.invariant c.cut_line-in-sends.ensures.cut (omega (arith, c.sends.lines.ok.0)) sendable.0 sendable.1 sendable.2 in
+    let read = IsReading-send c.cut_line-in-sends.result.0.now c.in-Some-send_text.text.now c.cut_line-in-sends.result.1.now c.sends.invariant c.cut_line-in-sends.ensures.cut (omega (arith, c.sends.lines.ok.0)) sendable.0 sendable.1 in
     rw (c.in_ok-push-2.ensures.items, c.in_ok-send_line.ensures) read

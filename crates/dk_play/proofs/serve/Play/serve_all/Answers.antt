@@ -1,5 +1,5 @@
 use Rattle.std.proofs.Common.{refl, ◌∙◌}
-use Rattle.dk_play.specs.Visits.{world_of, ServesNext}
+use Rattle.dk_play.specs.Visits.{world_of}
 use Rattle.dk_play.proofs.Runs.{serves-none, serves-on}
 use Rattle.dk_play.proofs.serve.Play.serve_all.Goals as goal
 

@@ -5,7 +5,6 @@ use Rattle.dk_play.specs.Visits.{connection_of}
 use Rattle.dk_play.proofs.Delivering.{delivering-taken, delivering-past}
 use Rattle.std.proofs.lemmas.Bool.{eq-eqb}
 use Rattle.dk_play.proofs.Singles.{unequal}
-use Rattle.dk_play.proofs.Phasing.{played-all}
 use Rattle.dk_play.proofs.visitor.Visitor.deliver.Goals as goal
 use Rattle.dk_play.proofs.visitor.Visitor.deliver.Goals.{then-conn-self+then-not-self+in_ok-copied+in_ok-push, else-conn-self, else-conn-self-via-then-conn-self+else-not-self, else-conn-self-via-else-conn-self}
 

@@ -1,0 +1,30 @@
+-- What a script may say is within the limits of the world.
+use Rattle.std.proofs.Common.{◌≡◌, ℕ, ◌<◌, ◌≤◌, true, List, length, arith}
+use Rattle.std.specs.List.{list_all}
+use Rattle.std.proofs.lemmas.Bool.Decides.{nat_tests}
+use Rattle.std.proofs.lemmas.List.Sums.{AllPass-from_list_all}
+use Rattle.std.proofs.lemmas.Str.{utf8_valid_len-IsUtf8, IsUtf8-from_ascii}
+use Rattle.std.proofs.lemmas.Str.Ascii.{IsAscii-from_all}
+use Rattle.dk_types.specs.Names.{IsName}
+use Rattle.dk_model.specs.Validity.{IsBody}
+use Rattle.dk_model.specs.Scripts.{IsLoginName, IsText, is_name_byte, is_text_byte}
+
+-- a visible byte is ASCII
+name_byte_small : (b : ℕ) → is_name_byte b ≡ true → b < 128
+name_byte_small b h = grind (arith, nat_tests)
+
+-- a login name is a name
+pub login_name : (name : List ℕ) → IsLoginName name → IsName name
+login_name name h = record {
+  some = h.some;
+  most = omega (arith, h.most);
+  text = utf8_valid_len-IsUtf8 name (IsUtf8-from_ascii name (IsAscii-from_all name (λ k d l. name_byte_small _ (AllPass-from_list_all is_name_byte name h.visible k d l))));
+}
+
+-- a byte of a text is a byte
+text_byte_small : (b : ℕ) → is_text_byte b ≡ true → b < 256
+text_byte_small b h = grind (arith, nat_tests)
+
+-- a text is a body
+pub text_body : (text : List ℕ) → IsText text → IsBody text
+text_body text h = record { short = h.0; bytes = λ k d l. text_byte_small _ (AllPass-from_list_all is_text_byte text h.1 k d l) }

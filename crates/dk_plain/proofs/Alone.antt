@@ -1,0 +1,87 @@
+-- A run that is alone on the world: all that it reads is the world's, and it may be committed next.
+use Rattle.std.proofs.Common.{◌≡◌, ℕ, ◌+◌, ◌^◌, ◌<◌, ◌≤◌, Result, Ok, Err, IfOk, arith, length, List, [], ◌∷◌, refl, sym, ap, subst, ◌∙◌}
+use Rattle.std.proofs.lemmas.List.{length-map}
+use Rattle.std.specs.List.{AllByRecursion}
+use Rattle.std.specs.FinMap as map
+use Rattle.dk_types.specs.declared.number.RunNo.{RunNo}
+use Rattle.dk_types.specs.declared.item.Item.{Item}
+use Rattle.dk_types.specs.declared.item.Read.{Read}
+use Rattle.dk_types.specs.declared.job.Job.{Job}
+use Rattle.dk_types.specs.declared.job.Job.TheVariants as job
+use Rattle.dk_model.specs.DurableWorlds.{DurableWorld, Agrees}
+use Rattle.dk_model.specs.Validity.{IsValid}
+use Rattle.dk_model.specs.Events.{Meaning}
+use Rattle.dk_model.specs.Steps.{step}
+use Rattle.dk_model.specs.Finishes.{told_step, KeepsLaw}
+use Rattle.dk_model.specs.Lawful.{AreLawful, IsJob}
+use Rattle.dk_model.proofs.StepLaws.{step_goes_on}
+use Rattle.dk_model.proofs.StepValid.{IsReady}
+use Rattle.dk_laws.proofs.StepDue.{step_due}
+use Rattle.dk_types.specs.declared.fault.NoMemory.{NoMemory}
+use Rattle.dk_overlay.specs.declared.finished.Finished.{Finished}
+use Rattle.dk_overlay.specs.Logged.{Logged, nothing_done}
+use Rattle.dk_overlay.specs.Finishes.{told}
+use Rattle.dk_overlay.specs.Knowing.{JobFits}
+use Rattle.dk_txn.specs.Law.{IsBegun}
+use Rattle.dk_model.specs.Keys.{key_cmp}
+use Rattle.dk_tasks.specs.Tasks.{Kept, bare, durable_tasks}
+use Rattle.dk_tasks.proofs.Durable.{entries-durable}
+use Rattle.dk_durable.specs.StampedWorlds.{Stamped, durable_of, read_now}
+use Rattle.dk_durable.specs.Commits.{StepsFrom, CommitsSteps}
+use Rattle.dk_plain.specs.Plains.{TellsStep}
+
+-- reads that a look of this world gave agree with it
+agrees_now : (w v : Stamped) → ((item : Item) (read : Read) → read ≡ read_now w item → read ≡ read_now v item) → (reads : List (Item × Read))
+    → AllByRecursion (λ r. r.1 ≡ read_now v r.0) reads → Agrees (durable_of w) reads
+unfolding Agrees
+agrees_now w v kept [] given = tt
+agrees_now w v kept (r ∷ reads) given = (ap (λ (x : Read). x.answer) (kept r.0 (read_now w r.0) refl ∙ sym given.0), agrees_now w v kept reads given.1)
+
+-- a transaction as it was begun
+pub begun_so : (t : Logged) (run : RunNo) (at : ℕ) → t ≡ nothing_done run at → IsBegun t
+begun_so t run at start = start ∙ (λ i. nothing_done ((sym start) i).run ((sym start) i).at)
+
+-- the law of a run that was begun so
+pub law_so : (rules : Meaning) (j : Job) (run : RunNo) (at : ℕ) (t : Logged) (result : Result Finished NoMemory) → t ≡ nothing_done run at
+    → IfOk result (λ f. KeepsLaw rules j t.run t.at f.reads.items (told f)) → IfOk result (λ f. KeepsLaw rules j run at f.reads.items (told f))
+law_so rules j run at t (Ok f) start law = subst (λ (l : Logged). KeepsLaw rules j l.run l.at f.reads.items (told f)) start law
+law_so rules j run at t (Err e) start law = tt
+
+-- the reads were given by the view, also once it is had back
+pub given_back : {S : Type 0} {v u : S} (gave : S → Item → Read → Type 0) (result : Result Finished NoMemory) → v ≡ u
+    → IfOk result (λ f. AllByRecursion (λ r. gave v r.0 r.1) f.reads.items) → IfOk result (λ f. AllByRecursion (λ r. gave u r.0 r.1) f.reads.items)
+given_back gave result same given = subst (λ v. IfOk result (λ f. AllByRecursion (λ r. gave v r.0 r.1) f.reads.items)) same given
+
+-- a run that keeps the law, and read this world alone, tells what its job's step tells
+pub tells_alone : (rules : Meaning) (j : Job) (run : RunNo) (at : ℕ) (w v : Stamped) (result : Result Finished NoMemory)
+    → IfOk result (λ f. KeepsLaw rules j run at f.reads.items (told f)) → IfOk result (λ f. AllByRecursion (λ r. r.1 ≡ read_now v r.0) f.reads.items)
+    → ((item : Item) (read : Read) → read ≡ read_now w item → read ≡ read_now v item)
+    → IfOk result (λ f. TellsStep rules j run at (durable_of w) (told f))
+tells_alone rules j run at w v (Ok f) law given kept = λ valid new own. law.keeps (durable_of w) valid (agrees_now w v kept f.reads.items given) new own
+tells_alone rules j run at w v (Err e) law given kept = tt
+
+-- a job within its limits has the moments of a task within theirs
+pub job_fits : (j : Job) → IsJob j → JobFits j
+job_fits (job.Task key due period kind arg) h = record { due_most = h.1.due; period_most = h.1.period }
+job_fits job.Initialize h = tt
+job_fits (job.Login conn name) h = tt
+job_fits (job.Message conn name body) h = tt
+job_fits (job.Channel conn name channel body) h = tt
+job_fits (job.Disconnect conn name graceful) h = tt
+
+-- a step of lawful rules may be committed next
+pub steps_from : (rules : Meaning) → AreLawful rules → (j : Job) (run : RunNo) (at : ℕ) (d : DurableWorld) → IsValid d → IsReady j run at d → StepsFrom d run (step rules j run at d)
+steps_from rules lawful j run at d valid ready =
+    let goes = step_goes_on rules lawful j run at d in
+    record { commits = goes.commits; last = goes.last; objects = goes.objects; names = goes.names; tasks = goes.tasks; due = step_due rules lawful j run at d valid ready }
+
+-- what is left once the run is committed
+pub commits_step : (rules : Meaning) → AreLawful rules → (j : Job) (run : RunNo) (at : ℕ) (old mid new : Stamped) (f : Finished) → IsValid (durable_of old) → IsReady j run at (durable_of old) → durable_of mid ≡ durable_of old
+    → told f ≡ told_step (durable_of old) (step rules j run at (durable_of old)) → CommitsSteps mid new run (told f) → durable_of new ≡ (step rules j run at (durable_of old)).world
+commits_step rules lawful j run at old mid new f valid ready same tells commits =
+    let s = step rules j run at (durable_of old) in
+    (commits s (subst (λ d. StepsFrom d run s) (sym same) (steps_from rules lawful j run at (durable_of old) valid ready)) (subst (λ d. told f ≡ told_step d s) (sym same) tells)).world
+
+-- as many tasks as are kept
+pub len_tasks : (tasks : map.FinMap key_cmp Kept) → map.len tasks ≡ map.len (durable_tasks tasks)
+len_tasks tasks = map.len-entries tasks ∙ sym (map.len-entries (durable_tasks tasks) ∙ ap length (entries-durable tasks) ∙ length-map (map.entries tasks) bare)
