@@ -1,0 +1,4 @@
+//! Channels: who is on them, and what is sent on them.
+#![tactic(auto)]
+
+mod members;
