@@ -1,0 +1,3 @@
+pub mod Managing
+pub mod Telling
+pub mod RecordReads
