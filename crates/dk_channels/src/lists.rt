@@ -1,8 +1,9 @@
 //! Lists of members, and of a session's channels.
 ghost use Rattle.std.specs.Prelude.{◌≡◌, ◌∷◌, ◌++◌, [], IfOk};
+ghost use Rattle.std.specs.Option.{option_copied};
 ghost use Rattle.dk_model.specs.Platforms.{is_member as has_member, is_sender as may_send, without_member as members_without, without_channel as channels_without};
 
-use dk_types::{ConnNo, Listed, Name, NoMemory, Session};
+use dk_types::{Listed, Name, NoMemory, Session};
 use std::alloc::Global;
 
 /// Whether the session is among the members.
@@ -14,6 +15,7 @@ pub(crate) fn is_member(session: &Session, members: &[Session]) -> bool
 
 /// Whether a message of this sender is sent on: of a member, or of nobody.
 pub(crate) fn is_sender(sender: Option<&Session>, members: &[Session]) -> bool
+    ensures { result ≡ may_send (option_copied sender.entry) members.now }
 {
     match sender {
         None => true,

@@ -1,0 +1,125 @@
+//! Channels and their records.
+ghost use Rattle.std.specs.Prelude.{◌≡◌, Ok, IfOk, IfErr, MatchOption, true, false};
+ghost use Rattle.dk_model.specs.Records.{channel_name, is_name_too_long};
+ghost use Rattle.dk_model.specs.Runs.{and_then, give};
+ghost use Rattle.dk_model.specs.Platforms as platform;
+ghost use Rattle.dk_txn.specs.Does.{Does};
+ghost use Rattle.dk_txn.specs.Refusals.{refusal_fault};
+ghost use Rattle.dk_channels.specs.Channels as acts;
+
+use dk_model::Mode;
+use dk_refs::{ChannelRecord, Delivery, ManagedRef};
+use dk_txn::{Refusal, Txn, View};
+use dk_types::{Listed, Name, NoMemory, Session};
+use std::alloc::Global;
+
+/// A channel, by its name (`Channel`).
+#[derive(Clone, Debug, Drop, PartialEq, Eq)]
+pub struct Channel {
+    pub name: Name,
+}
+
+/// The platform name of a channel's record; none where it would pass 255 bytes.
+fn key_of(alloc: Global, name: &Name) -> Result<Option<Name>, NoMemory>
+    ensures { IfOk result (λ key. MatchOption key (is_name_too_long (channel_name name.now) ≡ true) (λ key. (key ≡ channel_name name.now) × (is_name_too_long (channel_name name.now) ≡ false))) }
+{
+    name.with_prefix(alloc, "$c.")
+}
+
+/// The refusal of a name that is too long for a channel.
+fn name_too_long(name: &Name) -> Refusal {
+    Refusal::TooLong {
+        len: 3 + name.as_slice().len() as u64,
+    }
+}
+
+/// Makes a channel without members (`ChannelManager.createChannel`). Where a game listens, what its members send goes to the
+/// game alone. Refuses 4 where `$c.` and the name pass 255 bytes, 9 where there is such a channel, 8.
+pub fn create_channel<V: View>(
+    alloc: Global,
+    txn: &mut Txn<'_, V>,
+    name: &Name,
+    listener: bool,
+    delivery: Delivery,
+) -> Result<Channel, Refusal>
+    ensures { Does V.gave refusal_fault txn.old txn.new (acts.create_channel name.now listener delivery) result }
+{
+    let before = txn.set_mode(Mode::Platform);
+    let end = make_channel(alloc, txn, name, listener, delivery);
+    txn.set_mode(before);
+    end?;
+    Ok(Channel {
+        name: name.clone()?,
+    })
+}
+
+fn make_channel<V: View>(
+    alloc: Global,
+    txn: &mut Txn<'_, V>,
+    name: &Name,
+    listener: bool,
+    delivery: Delivery,
+) -> Result<(), Refusal>
+    ensures { Does V.gave refusal_fault txn.old txn.new (platform.new_channel name.now listener delivery) result }
+{
+    let Some(key) = key_of(alloc, name)? else {
+        return Err(name_too_long(name));
+    };
+    match txn.bound(&key) {
+        Ok(_) => return Err(Refusal::NameExists),
+        Err(Refusal::NameNotBound) => {}
+        Err(refused) => return Err(refused),
+    }
+    let record = ChannelRecord {
+        listener,
+        delivery,
+        members: Listed::from_vec(Vec::new(alloc)),
+    };
+    let made = ManagedRef::create(alloc, txn, &record)?;
+    txn.bind(&key, made.id())
+}
+
+/// The channel of a name (`ChannelManager.getChannel`). Refuses 4, 1.
+pub fn get_channel<V: View>(
+    alloc: Global,
+    txn: &mut Txn<'_, V>,
+    name: &Name,
+) -> Result<Channel, Refusal>
+    ensures { Does V.gave refusal_fault txn.old txn.new (acts.get_channel name.now) result }
+{
+    let Some(key) = key_of(alloc, name)? else {
+        return Err(name_too_long(name));
+    };
+    txn.bound(&key)?;
+    Ok(Channel {
+        name: name.clone()?,
+    })
+}
+
+/// The channel's record, with the reference to it. Refuses 1, and 2, 3, 10 where the name does not lead to a record.
+pub fn record_of<V: View>(
+    alloc: Global,
+    txn: &mut Txn<'_, V>,
+    name: &Name,
+) -> Result<(ManagedRef<ChannelRecord>, ChannelRecord), Refusal>
+    ensures { Does V.gave refusal_fault txn.old txn.new (platform.channel_under name.now) result }
+{
+    let Some(key) = key_of(alloc, name)? else {
+        return Err(Refusal::NameNotBound);
+    };
+    let reference = ManagedRef::<ChannelRecord>::of(txn.bound(&key)?);
+    let record = reference.get(alloc, txn)?;
+    Ok((reference, record))
+}
+
+/// The members, in joining order (`Channel.getSessions`). Refuses 1.
+pub fn members<V: View>(
+    alloc: Global,
+    txn: &mut Txn<'_, V>,
+    channel: &Channel,
+) -> Result<Listed<Session>, Refusal>
+    ensures { Does V.gave refusal_fault txn.old txn.new (platform.members channel.now.name) result }
+{
+    let (_, record) = record_of(alloc, txn, &channel.name)?;
+    Ok(record.members)
+}
