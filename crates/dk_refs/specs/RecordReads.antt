@@ -2,8 +2,7 @@
 use Rattle.std.specs.Prelude.{None}
 use Rattle.dk_model.specs.Records.{session_bytes, session_of, next_session, channel_bytes, channel_of, next_channel}
 use Rattle.dk_records.specs.RecordLaws.{IsSessionRecord, IsChannelRecord, each_session_exact, each_channel_exact}
-use Rattle.dk_refs.specs.Managing.{ReadsExactly}
-use Rattle.dk_refs.proofs.Exact.{reads_exactly}
+use Rattle.dk_refs.specs.Managing.{ReadsExactly, reads_exactly}
 
 pub session_reads : ReadsExactly IsSessionRecord session_bytes session_of
 unfolding session_of

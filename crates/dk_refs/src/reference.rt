@@ -26,12 +26,12 @@ impl<T> Model for ManagedRef<T> {
 
     ghost view = { λ r. r.id };
 
-    ghost inverse = { λ id. record { id = id; of = tt } };
+    ghost inverse = { λ id. record { id = id; of = record {} } };
 }
 
 impl<T> Clone for ManagedRef<T> {
     fn clone(&self) -> Result<ManagedRef<T>, AllocError> {
-        Ok(*self)
+        Ok(ManagedRef::of(self.id))
     }
 }
 
@@ -75,7 +75,7 @@ impl<T: Managed> ManagedRef<T> {
     /// The object's value (`ManagedReference.get`). Refuses 2, 3, 10.
     pub fn get<V: View>(&self, alloc: Global, txn: &mut Txn<'_, V>) -> Result<T, Refusal>
         ensures does { Does V.gave refusal_fault txn.old txn.new (get_as T.KIND T.of self.now) result }
-        ensures refused { OnErr result (SameChanges txn.old.log txn.new.log) }
+        ensures same_changes { SameChanges txn.old.log txn.new.log }
         ensures kind { IfErr result (TellsKind txn.new.log self.now) }
     {
         let object = txn.get(self.id)?;

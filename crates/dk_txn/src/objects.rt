@@ -52,7 +52,7 @@ impl<'a, V: View> Txn<'a, V> {
     /// The object (`DataManager.getBinding` and `ManagedReference.get` read by it). Refuses 2.
     pub fn get(&mut self, id: ObjectId) -> Result<Object, Refusal>
         ensures does { Does V.gave refusal_fault self.old self.new (act.get id) result }
-        ensures refused { OnErr result (SameChanges self.old.log self.new.log) }
+        ensures same_changes { SameChanges self.old.log self.new.log }
     {
         let known = self.known_object(id)?;
         known.after.ok_or(Refusal::ObjectNotFound)

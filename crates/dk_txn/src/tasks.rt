@@ -1,8 +1,8 @@
 //! The calls on tasks, and messages.
-ghost use Rattle.std.specs.Prelude.{◌≡◌, ◌+◌, ◌≤◌, ◌<◌, None, OnErr, IfOk, IfErr};
+ghost use Rattle.std.specs.Prelude.{◌≡◌, ◌+◌, ◌≤◌, ◌<◌, not, nat_lt, length, None, OnErr, IfOk, IfErr};
 ghost use Rattle.std.specs.FinMap as map;
 ghost use Rattle.dk_types.specs.declared.item.Item.TheVariants as ask;
-ghost use Rattle.dk_types.specs.declared.limits.TheConstants.{MOMENT_MOST_MS, DELAY_MOST_MS, PERIOD_MOST_MS};
+ghost use Rattle.dk_types.specs.declared.limits.TheConstants.{MOMENT_MOST_MS, DELAY_MOST_MS, PERIOD_MOST_MS, MESSAGES_MOST_COUNT};
 ghost use Rattle.dk_model.specs.Runs as act;
 ghost use Rattle.dk_model.specs.Steps.{own_task as own_act};
 ghost use Rattle.dk_overlay.specs.Asked.{IsAsked};
@@ -125,6 +125,13 @@ impl<'a, V: View> Txn<'a, V> {
         }
         self.log.add_out(to, out)?;
         Ok(())
+    }
+
+    /// Whether the run may send so many more messages.
+    pub fn has_room_for(&self, messages: u64) -> bool
+        ensures { result ≡ not (nat_lt MESSAGES_MOST_COUNT (length self.now.log.outs + messages)) }
+    {
+        self.log.outs_made().saturating_add(messages) <= MESSAGES_MOST_COUNT
     }
 
     /// What an occurrence does to the run's own task, which is due at `due` with this period or 0, in ms: false where it is
