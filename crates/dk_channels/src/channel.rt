@@ -1,16 +1,16 @@
 //! Channels and their records.
-ghost use Rattle.std.specs.Prelude.{◌≡◌, Ok, IfOk, IfErr, MatchOption, true, false};
+ghost use Rattle.std.specs.Prelude.{◌≡◌, Some, IfOk, MatchOption, true, false};
 ghost use Rattle.dk_model.specs.Records.{channel_name, is_name_too_long};
-ghost use Rattle.dk_model.specs.Runs.{and_then, give};
 ghost use Rattle.dk_model.specs.Platforms as platform;
 ghost use Rattle.dk_txn.specs.Does.{Does};
-ghost use Rattle.dk_txn.specs.Refusals.{refusal_fault};
+ghost use Rattle.dk_txn.specs.Refusals.{refusal_fault, TellsLength};
+ghost use Rattle.dk_types.specs.declared.fault.AppFault.TheVariants.{Refused};
 ghost use Rattle.dk_channels.specs.Channels as acts;
 
 use dk_model::Mode;
 use dk_refs::{ChannelRecord, Delivery, ManagedRef};
 use dk_txn::{Refusal, Txn, View};
-use dk_types::{Listed, Name, NoMemory, Session};
+use dk_types::{Listed, Name, NoMemory, ObjectId, Session};
 use std::alloc::Global;
 
 /// A channel, by its name (`Channel`).
@@ -27,7 +27,10 @@ fn key_of(alloc: Global, name: &Name) -> Result<Option<Name>, NoMemory>
 }
 
 /// The refusal of a name that is too long for a channel.
-fn name_too_long(name: &Name) -> Refusal {
+fn name_too_long(name: &Name) -> Refusal
+    ensures told { refusal_fault result ≡ Some (Refused 4) }
+    ensures length { TellsLength (channel_name name.now) result }
+{
     Refusal::TooLong {
         len: 3 + name.as_slice().len() as u64,
     }
@@ -62,21 +65,47 @@ fn make_channel<V: View>(
 ) -> Result<(), Refusal>
     ensures { Does V.gave refusal_fault txn.old txn.new (platform.new_channel name.now listener delivery) result }
 {
-    let Some(key) = key_of(alloc, name)? else {
-        return Err(name_too_long(name));
+    let key = match key_of(alloc, name)? {
+        None => return Err(name_too_long(name)),
+        Some(key) => key,
     };
-    match txn.bound(&key) {
-        Ok(_) => return Err(Refusal::NameExists),
-        Err(Refusal::NameNotBound) => {}
-        Err(refused) => return Err(refused),
+    match txn.binding(&key)? {
+        Some(_) => Err(Refusal::NameExists),
+        None => record_under(alloc, txn, &key, listener, delivery),
     }
+}
+
+/// Makes the record of a channel without members, under a name.
+fn record_under<V: View>(
+    alloc: Global,
+    txn: &mut Txn<'_, V>,
+    key: &Name,
+    listener: bool,
+    delivery: Delivery,
+) -> Result<(), Refusal>
+    ensures { Does V.gave refusal_fault txn.old txn.new (acts.recording key.now listener delivery) result }
+{
     let record = ChannelRecord {
         listener,
         delivery,
         members: Listed::from_vec(Vec::new(alloc)),
     };
     let made = ManagedRef::create(alloc, txn, &record)?;
-    txn.bind(&key, made.id())
+    txn.bind(key, made.id())
+}
+
+/// The id of the record of a channel, where one is bound.
+pub fn recorded<V: View>(
+    alloc: Global,
+    txn: &mut Txn<'_, V>,
+    name: &Name,
+) -> Result<Option<ObjectId>, Refusal>
+    ensures { Does V.gave refusal_fault txn.old txn.new (acts.recorded name.now) result }
+{
+    match key_of(alloc, name)? {
+        None => Ok(None),
+        Some(key) => txn.binding(&key),
+    }
 }
 
 /// The channel of a name (`ChannelManager.getChannel`). Refuses 4, 1.
@@ -87,13 +116,22 @@ pub fn get_channel<V: View>(
 ) -> Result<Channel, Refusal>
     ensures { Does V.gave refusal_fault txn.old txn.new (acts.get_channel name.now) result }
 {
-    let Some(key) = key_of(alloc, name)? else {
-        return Err(name_too_long(name));
-    };
-    txn.bound(&key)?;
+    find_channel(alloc, txn, name)?;
     Ok(Channel {
         name: name.clone()?,
     })
+}
+
+fn find_channel<V: View>(alloc: Global, txn: &mut Txn<'_, V>, name: &Name) -> Result<(), Refusal>
+    ensures { Does V.gave refusal_fault txn.old txn.new (platform.get_channel name.now) result }
+{
+    match key_of(alloc, name)? {
+        None => Err(name_too_long(name)),
+        Some(key) => {
+            txn.bound(&key)?;
+            Ok(())
+        }
+    }
 }
 
 /// The channel's record, with the reference to it. Refuses 1, and 2, 3, 10 where the name does not lead to a record.
@@ -104,12 +142,14 @@ pub fn record_of<V: View>(
 ) -> Result<(ManagedRef<ChannelRecord>, ChannelRecord), Refusal>
     ensures { Does V.gave refusal_fault txn.old txn.new (platform.channel_under name.now) result }
 {
-    let Some(key) = key_of(alloc, name)? else {
-        return Err(Refusal::NameNotBound);
-    };
-    let reference = ManagedRef::<ChannelRecord>::of(txn.bound(&key)?);
-    let record = reference.get(alloc, txn)?;
-    Ok((reference, record))
+    match recorded(alloc, txn, name)? {
+        None => Err(Refusal::NameNotBound),
+        Some(id) => {
+            let reference = ManagedRef::of(id);
+            let record = reference.get(alloc, txn)?;
+            Ok((reference, record))
+        }
+    }
 }
 
 /// The members, in joining order (`Channel.getSessions`). Refuses 1.

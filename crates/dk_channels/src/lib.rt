@@ -5,7 +5,7 @@
 //! for the platform, whoever makes them. A job's own part of a channel is played by the crate above.
 #![tactic(auto)]
 
-pub use channel::{Channel, create_channel, get_channel, members, record_of};
+pub use channel::{Channel, create_channel, get_channel, members, record_of, recorded};
 pub use dk_refs::{ChannelRecord, Delivery};
 pub use leaving::{leave, leave_all};
 pub use joining::join;

@@ -1,10 +1,11 @@
 //! Saving a channel's record and a session's as one.
-ghost use Rattle.std.specs.Prelude.{◌≡◌};
+ghost use Rattle.std.specs.Prelude.{◌≡◌, Some};
+ghost use Rattle.dk_types.specs.declared.fault.AppFault.TheVariants.{Refused};
 ghost use Rattle.dk_model.specs.Records.{channel_bytes, session_bytes};
 ghost use Rattle.dk_model.specs.Platforms as platform;
 ghost use Rattle.dk_model.specs.Runs as act;
 ghost use Rattle.dk_txn.specs.Does.{Does};
-ghost use Rattle.dk_txn.specs.Refusals.{refusal_fault};
+ghost use Rattle.dk_txn.specs.Refusals.{refusal_fault, TellsLength};
 
 use dk_model::limits::BODY_MOST_BYTES;
 use dk_refs::{ChannelRecord, Managed, ManagedRef, SessionRecord};
@@ -12,13 +13,20 @@ use dk_txn::{Refusal, Txn, View};
 use dk_types::{Blob, ObjectId};
 use std::alloc::Global;
 
-/// The refusal of bytes that are too long for an object, where they are.
-fn too_long(payload: &Blob) -> Option<Refusal> {
-    let len = payload.as_slice().len() as u64;
-    if len > BODY_MOST_BYTES {
-        Some(Refusal::TooLong { len })
-    } else {
-        None
+/// Whether bytes are too long for an object.
+fn is_too_long(payload: &Blob) -> bool
+    ensures { result ≡ act.is_too_long payload.now }
+{
+    payload.as_slice().len() as u64 > BODY_MOST_BYTES
+}
+
+/// The refusal of bytes that are too long.
+fn too_long(payload: &Blob) -> Refusal
+    ensures told { refusal_fault result ≡ Some (Refused 4) }
+    ensures length { TellsLength payload.now result }
+{
+    Refusal::TooLong {
+        len: payload.as_slice().len() as u64,
     }
 }
 
@@ -33,11 +41,11 @@ pub(crate) fn save_both<V: View>(
 {
     let first = channel.1.encode(alloc)?;
     let second = session.1.encode(alloc)?;
-    if let Some(refused) = too_long(&first) {
-        return Err(refused);
+    if is_too_long(&first) {
+        return Err(too_long(&first));
     }
-    if let Some(refused) = too_long(&second) {
-        return Err(refused);
+    if is_too_long(&second) {
+        return Err(too_long(&second));
     }
     save_payloads(txn, channel.0.id(), first, session.0.id(), second)
 }

@@ -1,5 +1,5 @@
 -- What each call of a reference does, from the calls of the transaction that it made.
-use Rattle.std.proofs.Common.{◌≡◌, ℕ, ◌==◌, Bool, true, false, Option, Some, None, List, Result, Ok, Err, refl, sym, ap, subst, ◌∙◌, arith}
+use Rattle.std.proofs.Common.{◌≡◌, ℕ, ◌==◌, Bool, true, false, if◌then◌else◌, Option, Some, None, List, Result, Ok, Err, refl, sym, ap, subst, ◌∙◌, arith}
 use Rattle.std.proofs.lemmas.Bool.Decides.{nat_tests}
 use Rattle.std.specs.Option.{ok_or}
 use Rattle.std.specs.Result.{IsErrAnd, IfErr}
@@ -22,7 +22,7 @@ use Rattle.dk_txn.specs.declared.refusal.Refusal.TheVariants as refusal
 use Rattle.dk_txn.specs.declared.txn.Txn.{Txn}
 use Rattle.dk_txn.specs.Refusals.{refusal_fault}
 use Rattle.dk_txn.specs.Does.{DoesFor, Does, Every, failure}
-use Rattle.dk_txn.proofs.Kit.{keeps_all, then_does}
+use Rattle.dk_txn.proofs.Kit.{keeps_all, then_does, give_does, stops}
 use Rattle.dk_txn.proofs.ObjectCalls.{refused_here}
 use Rattle.dk_refs.specs.Telling.{kind_of, TellsKind}
 
@@ -76,6 +76,29 @@ module _ {S : Type 0} {gave : S → Item → Read → Type 0} where
   pub answered_here : {a : Txn S Logged} {A : Type 0} {f : Act A} {x : A} → ((d : DurableWorld) → f (current a.log d) ≡ (Ok x, current a.log d)) → Does gave refusal_fault a a f (Ok x)
   answered_here {a = a} h = record { keeps = keeps_all; does = λ s t d agrees. h d ∙ ap (λ r. (r, current a.log d)) (Some_injective _ _ t) }
 
+  module _ {a b : Txn S Logged} {A : Type 0} (id : ObjectId) (kind : ℕ) (read : List ℕ → Option A) where
+    pub get_stops : {e : Refusal} {r : Result A Refusal} → Does gave refusal_fault a b (act.get id) (Err e) → IsErrAnd r (λ h. h ≡ e) → Does gave refusal_fault a b (get_as kind read id) r
+    unfolding get_as
+    get_stops p is = stops _ p is
+
+    pub update_stops : {e : Refusal} {r : Result A Refusal} → Does gave refusal_fault a b (get_as kind read id) (Err e) → IsErrAnd r (λ h. h ≡ e) → Does gave refusal_fault a b (get_for_update_as kind read id) r
+    unfolding get_for_update_as
+    update_stops p is = stops _ p is
+
+    pub update_halts : {c : Txn S Logged} {x : A} {e : Refusal} {r : Result A Refusal} → Does gave refusal_fault a b (get_as kind read id) (Ok x) → Does gave refusal_fault b c (act.mark id) (Err e)
+        → IsErrAnd r (λ h. h ≡ e) → Does gave refusal_fault a c (get_for_update_as kind read id) r
+    unfolding get_for_update_as
+    update_halts p q is = then_does _ p (stops _ q is)
+
+    pub update_does : {c : Txn S Logged} {x : A} → Does gave refusal_fault a b (get_as kind read id) (Ok x) → Does gave refusal_fault b c (act.mark id) (Ok tt) → Does gave refusal_fault a c (get_for_update_as kind read id) (Ok x)
+    unfolding get_for_update_as
+    update_does p q = then_does _ p (then_does _ q give_does)
+
+  pub save_stops : {a b : Txn S Logged} {e : Refusal} {r : Result (Unit {0}) Refusal} (id : ObjectId) (kind : ℕ) (bytes : List ℕ) → Does gave refusal_fault a b (act.get id) (Err e) → IsErrAnd r (λ h. h ≡ e)
+      → Does gave refusal_fault a b (save_as kind id bytes) r
+  unfolding save_as
+  save_stops id kind bytes p is = stops _ p is
+
   module _ {a b : Txn S Logged} (id : ObjectId) (object : Object) (got : Does gave refusal_fault a b (act.get id) (Ok object)) where
     -- the object has a kind of its own
     pub found_kind : TellsKind b.log id (refusal.WrongKind object.kind)
@@ -115,11 +138,15 @@ module _ {S : Type 0} {gave : S → Item → Read → Type 0} where
   mark_tells {a = a} {b = b} {e = e} id p =
       tells_nothing b.log id e (λ is d agrees. change_other (map.get (current a.log d).world.objects id) id (λ object. Some object) (current a.log d) (current b.log d) (p.does (Err (Refused 3)) (ap failure is) d agrees))
 
-  pub save_tells : {a b : Txn S Logged} {e : Refusal} (id : ObjectId) (bytes : List ℕ) → Does gave refusal_fault a b (act.save id bytes) (Err e) → TellsKind b.log id e
+  save_refused : {a b : Txn S Logged} {e : Refusal} (id : ObjectId) (bytes : List ℕ) → Does gave refusal_fault a b (act.save id bytes) (Err e) → TellsKind b.log id e
   unfolding act.save
-  save_tells {a = a} {b = b} {e = e} id bytes p =
+  save_refused {a = a} {b = b} {e = e} id bytes p =
       tells_nothing b.log id e (λ is d agrees. by d (act.is_too_long bytes) (p.does (Err (Refused 3)) (ap failure is) d agrees))
     where
       by : (d : DurableWorld) (long : Bool) → (if long then act.refuse 4 (current a.log d) else act.change_object id (λ object. Some (record { kind = object.kind; bytes = bytes })) (current a.log d)) ≡ (Err (Refused 3), current b.log d) → ⊥
       by d true e = cc
       by d false e = change_other (map.get (current a.log d).world.objects id) id (λ object. Some (record { kind = object.kind; bytes = bytes })) (current a.log d) (current b.log d) e
+
+  pub save_tells : {a b : Txn S Logged} {r : Result (Unit {0}) Refusal} (id : ObjectId) (bytes : List ℕ) → Does gave refusal_fault a b (act.save id bytes) r → IfErr r (TellsKind b.log id)
+  save_tells {r = Ok u} id bytes p = tt
+  save_tells {r = Err e} id bytes p = save_refused id bytes p

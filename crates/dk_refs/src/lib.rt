@@ -13,3 +13,5 @@ pub use reference::ManagedRef;
 pub mod managed;
 pub mod records;
 pub mod reference;
+#[cfg(test)]
+mod tests;

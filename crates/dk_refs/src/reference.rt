@@ -122,9 +122,9 @@ impl<T: Managed> ManagedRef<T> {
         ensures kind { IfErr result (TellsKind txn.new.log self.now) }
         ensures length { IfErr result (TellsLength (T.bytes value.now)) }
     {
-        let object = txn.get(self.id)?;
-        if object.kind != T::KIND {
-            return Err(Refusal::WrongKind { found: object.kind });
+        let before = txn.get(self.id)?;
+        if before.kind != T::KIND {
+            return Err(Refusal::WrongKind { found: before.kind });
         }
         let payload = value.encode(alloc)?;
         txn.save(self.id, payload)

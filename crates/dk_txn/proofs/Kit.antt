@@ -93,6 +93,16 @@ module _ {P : TaskKey → ℕ → Type 0} {S : Type 0} {gave : S → Item → Re
   same_error {told = told} {r = Err h} p is = record { keeps = p.keeps; does = λ s t d agrees. p.does s (ap (λ x. failure (told x)) (sym is) ∙ t) d agrees }
   same_error {r = Ok x} p is = absurd is
 
+  -- a refused call ends what was to follow it, and is passed on as it is
+  pub stops : {a b : Txn S Logged} {E A B : Type 0} {told : E → Option AppFault} {f : Act A} {e : E} {r : Result B E} (g : A → Act B)
+      → DoesFor P gave told a b f (Err e) → IsErrAnd r (λ h. h ≡ e) → DoesFor P gave told a b (and_then f g) r
+  stops g p is = same_error (stop_does g p refl) is
+
+  -- the rules say the same in other words
+  pub does_as : {a b : Txn S Logged} {E A : Type 0} {told : E → Option AppFault} {f : Act A} {r : Result A E} (g : Act A)
+      → ((s : Run) → f s ≡ g s) → DoesFor P gave told a b g r → DoesFor P gave told a b f r
+  does_as {a = a} g same p = record { keeps = p.keeps; does = λ s t d agrees. same (current a.log d) ∙ p.does s t d agrees }
+
   -- nothing is done
   pub give_does : {a : Txn S Logged} {E A : Type 0} {told : E → Option AppFault} {x : A} → DoesFor P gave told a a (give (Ok x)) (Ok x)
   unfolding give

@@ -19,9 +19,11 @@ use Rattle.dk_overlay.specs.Logged.{Logged, current, changing_name}
 use Rattle.dk_overlay.proofs.Keys.{names_total, names_same}
 use Rattle.dk_overlay.proofs.Layers.{get-layered, layered-insert}
 use Rattle.dk_overlay.proofs.Sound.{sound_name}
+use Rattle.dk_overlay.proofs.Tests.{Some_injective}
 use Rattle.dk_txn.specs.declared.refusal.Refusal.{Refusal}
 use Rattle.dk_txn.specs.declared.refusal.Refusal.TheVariants as refusal
 use Rattle.dk_txn.specs.declared.txn.Txn.{Txn}
+use Rattle.dk_txn.specs.Bindings.{binding}
 use Rattle.dk_txn.specs.Refusals.{refusal_fault}
 use Rattle.dk_txn.specs.Does.{Keeps, Does, SameChanges, KnownName, failure, outcome_told}
 use Rattle.dk_txn.proofs.Kit.{keeps_all}
@@ -65,6 +67,16 @@ module _ {S : Type 0} {gave : S → Item → Read → Type 0} where
         ap (act.bound name) (same_current a.log b.log d same)
         ∙ ap (λ o. (found 1 o, current b.log d)) (known.after d agrees)
         ∙ ap (λ x. (x, current b.log d)) (told_found 1 refusal.NameNotBound refl c.after s (ap (outcome_told refusal_fault) (sym e) ∙ told));
+  }
+
+  pub binding_does : {a b : Txn S Logged} {name : List ℕ} {c : Change ObjectId} → Keeps gave a b → SameChanges a.log b.log → KnownName b.log name c → Does gave refusal_fault a b (binding name) (Ok c.after)
+  unfolding binding
+  binding_does {a = a} {b = b} {name = name} k same known = record {
+    keeps = k;
+    does = λ s told d agrees.
+        ap (binding name) (same_current a.log b.log d same)
+        ∙ ap (λ o. (Ok o, current b.log d)) (known.after d agrees)
+        ∙ ap (λ x. (x, current b.log d)) (Some_injective _ _ told);
   }
 
   pub bind_reserved : {a : Txn S Logged} (name : List ℕ) (id : ObjectId) → act.is_reserved_name a.log.mode name ≡ true → Does gave refusal_fault a a (act.bind name id) (Err refusal.Reserved)

@@ -179,3 +179,8 @@ save_means id bytes short s = rw short refl
 pub length_same : {A : Type 0} (bytes : List ℕ) (e : Refusal) (r : Result A Refusal) → IsErrAnd r (λ h. h ≡ e) → TellsLength bytes e → IfErr r (TellsLength bytes)
 length_same bytes e (Err h) is tells = subst (TellsLength bytes) (sym is) tells
 length_same bytes e (Ok x) is tells = absurd is
+
+-- an object that is not there is refused over no length
+pub length_absent : (bytes : List ℕ) (o : Option Object) → IfErr (ok_or o refusal.ObjectNotFound) (TellsLength bytes)
+length_absent bytes None = tt
+length_absent bytes (Some object) = tt

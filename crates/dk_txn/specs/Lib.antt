@@ -1,4 +1,5 @@
 pub mod Refusals
 pub mod Listing
+pub mod Bindings
 pub mod Does
 pub mod Law

@@ -5,6 +5,7 @@ ghost use Rattle.dk_types.specs.Names.{bytes_cmp};
 ghost use Rattle.dk_model.specs.DurableWorlds.{is_above as above};
 ghost use Rattle.dk_model.specs.Runs as act;
 ghost use Rattle.dk_overlay.specs.Least.{lesser as least_of};
+ghost use Rattle.dk_txn.specs.Bindings as bindings;
 ghost use Rattle.dk_txn.specs.Refusals.{refusal_fault};
 
 use crate::checks::is_reserved_name;
@@ -74,6 +75,15 @@ impl<'a, V: View> Txn<'a, V> {
     {
         let known = self.known_name(name)?;
         known.after.ok_or(Refusal::NameNotBound)
+    }
+
+    /// What the name is bound to, where it is bound: `bound` for a caller to whom both are right. Refuses 7 alone.
+    pub fn binding(&mut self, name: &Name) -> Result<Option<ObjectId>, Refusal>
+        ensures does { Does V.gave refusal_fault self.old self.new (bindings.binding name.now) result }
+        ensures same_changes { SameChanges self.old.log self.new.log }
+    {
+        let known = self.known_name(name)?;
+        Ok(known.after)
     }
 
     /// Binds the name to the object, whatever it was bound to (`DataManager.setBinding`). The object is not looked at.

@@ -53,6 +53,7 @@ impl<'a, V: View> Txn<'a, V> {
     pub fn get(&mut self, id: ObjectId) -> Result<Object, Refusal>
         ensures does { Does V.gave refusal_fault self.old self.new (act.get id) result }
         ensures same_changes { SameChanges self.old.log self.new.log }
+        ensures length { (bytes : List ℕ) → IfErr result (TellsLength bytes) }
     {
         let known = self.known_object(id)?;
         known.after.ok_or(Refusal::ObjectNotFound)

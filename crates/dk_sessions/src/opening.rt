@@ -1,0 +1,94 @@
+//! Records that begin and end, on the platform's behalf.
+ghost use Rattle.std.specs.Prelude.{◌≡◌, [], IfOk};
+ghost use Rattle.dk_model.specs.Platforms as platform;
+ghost use Rattle.dk_model.specs.Records.{session_bytes};
+ghost use Rattle.dk_txn.specs.Does.{Does};
+ghost use Rattle.dk_txn.specs.Refusals.{refusal_fault};
+ghost use Rattle.dk_sessions.specs.Openings as opening;
+
+use crate::recorded::{session_name, too_long};
+use crate::records::own_record;
+use dk_refs::{ManagedRef, SessionRecord};
+use dk_txn::{Mode, Refusal, Txn, View};
+use dk_types::{ConnNo, Listed, Name, Session};
+use std::alloc::Global;
+
+/// Records a session that has begun, on the platform's behalf, whoever calls. Refuses 4, 9, 8.
+pub fn open_record<V: View>(
+    alloc: Global,
+    txn: &mut Txn<'_, V>,
+    session: &Session,
+) -> Result<(), Refusal>
+    ensures { Does V.gave refusal_fault txn.old txn.new (platform.open_record session.now) result }
+{
+    let before = txn.set_mode(Mode::Platform);
+    let end = new_record(alloc, txn, session);
+    txn.set_mode(before);
+    end
+}
+
+/// Takes away the record of a session that ends, and its binding, on the platform's behalf, whoever calls. Refuses 1,
+/// also where another connection's number is recorded, and then 2, 3 and 10 of the record.
+pub fn close_record<V: View>(
+    alloc: Global,
+    txn: &mut Txn<'_, V>,
+    session: &Session,
+) -> Result<(), Refusal>
+    ensures { Does V.gave refusal_fault txn.old txn.new (platform.close_record session.now) result }
+{
+    let before = txn.set_mode(Mode::Platform);
+    let end = take_record(alloc, txn, session);
+    txn.set_mode(before);
+    end
+}
+
+fn new_record<V: View>(
+    alloc: Global,
+    txn: &mut Txn<'_, V>,
+    session: &Session,
+) -> Result<(), Refusal>
+    ensures { Does V.gave refusal_fault txn.old txn.new (platform.new_record session.now) result }
+{
+    let key = match session_name(alloc, &session.name)? {
+        None => return Err(too_long(&session.name)),
+        Some(key) => key,
+    };
+    match txn.binding(&key)? {
+        Some(_) => Err(Refusal::NameExists),
+        None => record_under(alloc, txn, &key, session.conn),
+    }
+}
+
+/// Makes the record of a session that is on no channel, under a name.
+fn record_under<V: View>(
+    alloc: Global,
+    txn: &mut Txn<'_, V>,
+    key: &Name,
+    conn: ConnNo,
+) -> Result<(), Refusal>
+    ensures { Does V.gave refusal_fault txn.old txn.new (opening.recording key.now conn) result }
+{
+    let session = SessionRecord {
+        conn,
+        channels: Listed::from_vec(Vec::new(alloc)),
+    };
+    let made = ManagedRef::create(alloc, txn, &session)?;
+    txn.bind(key, made.id())
+}
+
+fn take_record<V: View>(
+    alloc: Global,
+    txn: &mut Txn<'_, V>,
+    session: &Session,
+) -> Result<(), Refusal>
+    ensures { Does V.gave refusal_fault txn.old txn.new (opening.taking session.now) result }
+{
+    let found = own_record(alloc, txn, session)?;
+    match session_name(alloc, &session.name)? {
+        None => Err(too_long(&session.name)),
+        Some(key) => {
+            txn.unbind(&key)?;
+            found.0.remove(txn)
+        }
+    }
+}

@@ -1,0 +1,28 @@
+//! Messages to sessions.
+ghost use Rattle.std.specs.Prelude.{◌≡◌, OnErr};
+ghost use Rattle.dk_model.specs.Platforms as platform;
+ghost use Rattle.dk_txn.specs.Does.{Does, SameChanges};
+ghost use Rattle.dk_txn.specs.Refusals.{refusal_fault};
+
+use crate::records::is_connected;
+use dk_txn::{Refusal, Txn, View};
+use dk_types::{Blob, Out, Session};
+use std::alloc::Global;
+
+/// A message to a session that is connected (`ClientSession.send`). The body is copied. Refuses 2, 3 and 10 of the
+/// record, and then 1, 4, 8.
+pub fn send<V: View>(
+    alloc: Global,
+    txn: &mut Txn<'_, V>,
+    session: &Session,
+    body: &Blob,
+) -> Result<(), Refusal>
+    ensures does { Does V.gave refusal_fault txn.old txn.new (platform.session_send session.now body.now) result }
+    ensures refused { OnErr result (SameChanges txn.old.log txn.new.log) }
+{
+    if !is_connected(alloc, txn, session)? {
+        return Err(Refusal::NameNotBound);
+    }
+    let copy = Blob::copy_of(alloc, body.as_slice())?;
+    txn.send(session.conn, Out::Message(copy))
+}
