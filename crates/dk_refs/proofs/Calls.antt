@@ -54,17 +54,27 @@ tells_nothing t id refusal.TooMany h = tt
 tells_nothing t id refusal.NameExists h = tt
 tells_nothing t id refusal.BadBytes h = tt
 
-found_other : {A : Type 0} (o : Option A) → found 2 o ≡ Err (Refused 3) → ⊥
-found_other None e = cc
-found_other (Some x) e = cc
+-- a refusal by another number is not by 3
+not_three : {A : Type 0} (n : ℕ) (o : Option A) → (n ≡ 3 → ⊥) → found n o ≡ Err (Refused 3) → ⊥
+not_three n None other e = let same : n ≡ 3 = cc in other same
+not_three n (Some x) other e = cc
+
+two : ◌≡◌ {A = ℕ} 2 3 → ⊥
+two e = cc
+
+four : ◌≡◌ {A = ℕ} 4 3 → ⊥
+four e = cc
+
+six : ◌≡◌ {A = ℕ} 6 3 → ⊥
+six e = cc
+
+touched_other : (b : Bool) (s t u : Run) → ◌≡◌ {A = Result (Unit {0}) AppFault × Run} (if b then act.refuse 6 s else (Ok tt, u)) (Err (Refused 3), t) → ⊥
+touched_other true s t u e = not_three {A = Unit {0}} 6 None six (ap (λ p. p.0) e)
+touched_other false s t u e = not_three {A = Unit {0}} 6 (Some tt) six (ap (λ p. p.0) e)
 
 change_other : (o : Option Object) (id : ObjectId) (change : Object → Option Object) (s t : Run) → change_found o id change s ≡ (Err (Refused 3), t) → ⊥
-change_other None id change s t e = cc
-change_other (Some object) id change s t e = by (act.is_reserved_kind s.mode object.kind) e
-  where
-    by : (b : Bool) → (if b then act.refuse 6 s else (Ok tt, act.with_object s id (change object))) ≡ (Err (Refused 3), t) → ⊥
-    by true e = cc
-    by false e = cc
+change_other None id change s t e = not_three {A = Unit {0}} 2 None two (ap (λ p. p.0) e)
+change_other (Some object) id change s t e = touched_other (act.is_reserved_kind s.mode object.kind) s t (act.with_object s id (change object)) e
 
 -- an error that is passed on is as it was
 pub passed : {A : Type 0} (Holds : Refusal → Type 0) (e : Refusal) (r : Result A Refusal) → IsErrAnd r (λ h. h ≡ e) → Holds e → IfErr r Holds
@@ -131,7 +141,7 @@ module _ {S : Type 0} {gave : S → Item → Read → Type 0} where
   -- a refusal of these calls tells nothing of a kind
   pub get_tells : {a b : Txn S Logged} {e : Refusal} (id : ObjectId) → Does gave refusal_fault a b (act.get id) (Err e) → TellsKind b.log id e
   unfolding act.get
-  get_tells {a = a} {b = b} {e = e} id p = tells_nothing b.log id e (λ is d agrees. found_other (map.get (current a.log d).world.objects id) (ap (λ q. q.0) (p.does (Err (Refused 3)) (ap failure is) d agrees)))
+  get_tells {a = a} {b = b} {e = e} id p = tells_nothing b.log id e (λ is d agrees. not_three 2 (map.get (current a.log d).world.objects id) two (ap (λ q. q.0) (p.does (Err (Refused 3)) (ap failure is) d agrees)))
 
   pub mark_tells : {a b : Txn S Logged} {e : Refusal} (id : ObjectId) → Does gave refusal_fault a b (act.mark id) (Err e) → TellsKind b.log id e
   unfolding act.mark
@@ -144,7 +154,7 @@ module _ {S : Type 0} {gave : S → Item → Read → Type 0} where
       tells_nothing b.log id e (λ is d agrees. by d (act.is_too_long bytes) (p.does (Err (Refused 3)) (ap failure is) d agrees))
     where
       by : (d : DurableWorld) (long : Bool) → (if long then act.refuse 4 (current a.log d) else act.change_object id (λ object. Some (record { kind = object.kind; bytes = bytes })) (current a.log d)) ≡ (Err (Refused 3), current b.log d) → ⊥
-      by d true e = cc
+      by d true e = not_three {A = Unit {0}} 4 None four (ap (λ p. p.0) e)
       by d false e = change_other (map.get (current a.log d).world.objects id) id (λ object. Some (record { kind = object.kind; bytes = bytes })) (current a.log d) (current b.log d) e
 
   pub save_tells : {a b : Txn S Logged} {r : Result (Unit {0}) Refusal} (id : ObjectId) (bytes : List ℕ) → Does gave refusal_fault a b (act.save id bytes) r → IfErr r (TellsKind b.log id)
