@@ -47,13 +47,25 @@ pub fn create_channel<V: View>(
 ) -> Result<Channel, Refusal>
     ensures { Does V.gave refusal_fault txn.old txn.new (acts.create_channel name.now listener delivery) result }
 {
-    let before = txn.set_mode(Mode::Platform);
-    let end = make_channel(alloc, txn, name, listener, delivery);
-    txn.set_mode(before);
-    end?;
+    open_channel(alloc, txn, name, listener, delivery)?;
     Ok(Channel {
         name: name.clone()?,
     })
+}
+
+fn open_channel<V: View>(
+    alloc: Global,
+    txn: &mut Txn<'_, V>,
+    name: &Name,
+    listener: bool,
+    delivery: Delivery,
+) -> Result<(), Refusal>
+    ensures { Does V.gave refusal_fault txn.old txn.new (platform.create_channel name.now listener delivery) result }
+{
+    let before = txn.set_mode(Mode::Platform);
+    let end = make_channel(alloc, txn, name, listener, delivery);
+    txn.set_mode(before);
+    end
 }
 
 fn make_channel<V: View>(
