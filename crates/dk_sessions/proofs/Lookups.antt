@@ -1,16 +1,18 @@
 -- What the calls that read a session's record do, from the calls that they made.
-use Rattle.std.proofs.Common.{◌≡◌, ℕ, Bool, true, false, if◌then◌else◌, nat_eq, Option, Some, None, is_some, List, Result, Ok, Err, refl, sym, ap, subst, ◌∙◌}
+use Rattle.std.proofs.Common.{◌≡◌, ℕ, Bool, true, false, if◌then◌else◌, nat_eq, Option, Some, None, is_some, List, Result, Ok, Err, refl, sym, ap, subst, ◌∙◌, arith}
+use Rattle.std.proofs.lemmas.Bool.Decides.{nat_tests}
 use Rattle.std.specs.Result.{IsErrAnd}
 use Rattle.dk_types.specs.declared.number.ObjectId.{ObjectId}
 use Rattle.dk_types.specs.declared.job.Session.{Session}
 use Rattle.dk_types.specs.declared.item.Item.{Item}
 use Rattle.dk_types.specs.declared.item.Read.{Read}
+use Rattle.dk_types.specs.declared.job.Out.TheVariants as out
 use Rattle.dk_types.specs.declared.fault.AppFault.TheVariants.{Refused}
 use Rattle.dk_model.specs.declared.records.SessionRecord.{SessionRecord}
-use Rattle.dk_model.specs.Runs.{Run, Act, and_then, give, refuse}
+use Rattle.dk_model.specs.Runs.{Run, Act, and_then, give, refuse, send}
 use Rattle.dk_model.specs.References.{get_as}
 use Rattle.dk_model.specs.Records.{SESSION_KIND, session_of, session_name, is_name_too_long}
-use Rattle.dk_model.specs.Platforms.{platform_bound, found_as, numbered, recorded_as, session_under, own_record, record_if_connected, is_connected, find_session}
+use Rattle.dk_model.specs.Platforms.{platform_bound, found_as, numbered, recorded_as, session_under, own_record, record_if_connected, is_connected, find_session, session_send}
 use Rattle.dk_overlay.specs.Logged.{Logged}
 use Rattle.dk_txn.specs.declared.refusal.Refusal.{Refusal}
 use Rattle.dk_txn.specs.declared.refusal.Refusal.TheVariants as refusal
@@ -22,6 +24,12 @@ use Rattle.dk_txn.proofs.Kit.{then_does, give_does, does_as, stops, if_true_does
 use Rattle.dk_txn.proofs.ObjectCalls.{refused_here}
 use Rattle.dk_refs.proofs.Calls.{answered_here}
 use Rattle.dk_sessions.specs.Lookups.{recorded, is_recorded, IsTooLong}
+
+pub eq_true : (a b : ℕ) → a ≡ b → nat_eq a b ≡ true
+eq_true a b h = grind (arith, nat_tests)
+
+pub eq_false : (a b : ℕ) → (a ≡ b → ⊥) → nat_eq a b ≡ false
+eq_false a b h = grind (arith, nat_tests)
 
 module _ {S : Type 0} {gave : S → Item → Read → Type 0} where
   pub recorded_long : {a : Txn S Logged} (name : List ℕ) → is_name_too_long (session_name name) ≡ true → Does gave refusal_fault a a (recorded name) (Ok None)
@@ -102,9 +110,15 @@ module _ {S : Type 0} {gave : S → Item → Read → Type 0} where
       pub own_halts : {e : Refusal} {r : Result (Option (ObjectId × SessionRecord)) Refusal} → Does gave refusal_fault b c (get_as SESSION_KIND session_of id) (Err e) → IsErrAnd r (λ h. h ≡ e) → Does gave refusal_fault a c (record_if_connected session) r
       own_halts q is = own_some (stops _ q is)
 
-      pub own_tells : {x : SessionRecord} {answer : Option (ObjectId × SessionRecord)} → Does gave refusal_fault b c (get_as SESSION_KIND session_of id) (Ok x) → answer ≡ (if nat_eq x.conn.0 session.conn.0 then Some (id, x) else None)
+      own_tells : {x : SessionRecord} {answer : Option (ObjectId × SessionRecord)} → Does gave refusal_fault b c (get_as SESSION_KIND session_of id) (Ok x) → answer ≡ (if nat_eq x.conn.0 session.conn.0 then Some (id, x) else None)
           → Does gave refusal_fault a c (record_if_connected session) (Ok answer)
       own_tells {x = x} q is = own_some (then_does _ q (subst (λ y. Does gave refusal_fault c c (give (Ok (if nat_eq x.conn.0 session.conn.0 then Some (id, x) else None))) (Ok y)) (sym is) give_does))
+
+      pub own_same : {x : SessionRecord} {at : ObjectId} → Does gave refusal_fault b c (get_as SESSION_KIND session_of id) (Ok x) → x.conn.0 ≡ session.conn.0 → at ≡ id → Does gave refusal_fault a c (record_if_connected session) (Ok (Some (at, x)))
+      own_same {x = x} q same is = own_tells q (rw (eq_true x.conn.0 session.conn.0 same, is) refl)
+
+      pub own_other : {x : SessionRecord} → Does gave refusal_fault b c (get_as SESSION_KIND session_of id) (Ok x) → (x.conn.0 ≡ session.conn.0 → ⊥) → Does gave refusal_fault a c (record_if_connected session) (Ok None)
+      own_other {x = x} q other = own_tells q (rw (eq_false x.conn.0 session.conn.0 other) refl)
 
     pub mine_stops : {e : Refusal} {r : Result (ObjectId × SessionRecord) Refusal} → Does gave refusal_fault a b (session_under session.name) (Err e) → IsErrAnd r (λ h. h ≡ e) → Does gave refusal_fault a b (own_record session) r
     mine_stops p is = stops _ p is
@@ -134,3 +148,17 @@ module _ {S : Type 0} {gave : S → Item → Read → Type 0} where
         → Does gave refusal_fault a b (find_session name) (Ok (record { name = copy; conn = x.1.conn }))
     find_does {a = a} {b = b} {x = x} short p same =
         subst (λ (n : List ℕ). Does gave refusal_fault a b (find_session name) (Ok (record { name = n; conn = x.1.conn }))) (sym same) (find_short short (then_does _ p give_does))
+
+module _ {S : Type 0} {gave : S → Item → Read → Type 0} {a b : Txn S Logged} (session : Session) (body : List ℕ) where
+  pub send_stops : {e : Refusal} {r : Result (Unit {0}) Refusal} → Does gave refusal_fault a b (is_connected session) (Err e) → IsErrAnd r (λ h. h ≡ e) → Does gave refusal_fault a b (session_send session body) r
+  unfolding session_send
+  send_stops p is = stops _ p is
+
+  module _ {connected : Bool} (p : Does gave refusal_fault a b (is_connected session) (Ok connected)) where
+    pub send_refused : connected ≡ false → Does gave refusal_fault a b (session_send session body) (Err refusal.NameNotBound)
+    unfolding session_send
+    send_refused is = then_does _ p (if_false_does _ is (refused_here (Refused 1) refl (λ d. refl)))
+
+    pub send_does : {c : Txn S Logged} {r : Result (Unit {0}) Refusal} → connected ≡ true → Does gave refusal_fault b c (send session.conn (out.Message body)) r → Does gave refusal_fault a c (session_send session body) r
+    unfolding session_send
+    send_does is q = then_does _ p (if_true_does _ is q)

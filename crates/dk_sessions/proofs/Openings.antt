@@ -25,8 +25,12 @@ use Rattle.dk_sessions.specs.Lookups.{IsTooLong}
 use Rattle.dk_sessions.specs.Openings.{recording, taking}
 
 -- what follows where a name was looked up
-after_name : Session → Option ObjectId → Act (Unit {0})
+abbrev after_name : Session → Option ObjectId → Act (Unit {0})
 after_name session o s = if is_some o then refuse 9 s else recording (session_name session.name) session.conn s
+
+means : (session : Session) → is_name_too_long (session_name session.name) ≡ false → (s : Run) → new_record session s ≡ and_then (binding (session_name session.name)) (after_name session) s
+unfolding new_record binding and_then
+means session short s = rw short refl
 
 -- a session under a name that is too long has no record
 unrecorded : (session : Session) (x : ObjectId × SessionRecord) (s t : Run) → is_name_too_long (session_name session.name) ≡ true → own_record session s ≡ (Ok x, t) → ⊥
@@ -41,15 +45,11 @@ module _ {S : Type 0} {gave : S → Item → Read → Type 0} (session : Session
   open_long is long = refused_here (Refused 4) is (λ d. rw long refl)
 
   module _ {a b : Txn S Logged} (key : List ℕ) (is : key ≡ session_name session.name) (short : is_name_too_long (session_name session.name) ≡ false) where
-    means : (s : Run) → new_record session s ≡ and_then (binding (session_name session.name)) (after_name session) s
-    unfolding new_record binding and_then
-    means s = rw short refl
-
     pub open_stops : {e : Refusal} {r : Result (Unit {0}) Refusal} → Does gave refusal_fault a b (binding key) (Err e) → IsErrAnd r (λ h. h ≡ e) → Does gave refusal_fault a b (new_record session) r
-    open_stops {e = e} p told = does_as _ means (stops _ (subst (λ k. Does gave refusal_fault a b (binding k) (Err e)) is p) told)
+    open_stops {e = e} p told = does_as _ (means session short) (stops _ (subst (λ k. Does gave refusal_fault a b (binding k) (Err e)) is p) told)
 
     found_then : {c : Txn S Logged} {o : Option ObjectId} {r : Result (Unit {0}) Refusal} → Does gave refusal_fault a b (binding key) (Ok o) → Does gave refusal_fault b c (after_name session o) r → Does gave refusal_fault a c (new_record session) r
-    found_then {o = o} p q = does_as _ means (then_does (after_name session) (subst (λ k. Does gave refusal_fault a b (binding k) (Ok o)) is p) q)
+    found_then {o = o} p q = does_as _ (means session short) (then_does (after_name session) (subst (λ k. Does gave refusal_fault a b (binding k) (Ok o)) is p) q)
 
     pub open_exists : {id : ObjectId} → Does gave refusal_fault a b (binding key) (Ok (Some id)) → Does gave refusal_fault a b (new_record session) (Err refusal.NameExists)
     open_exists p = found_then p (refused_here (Refused 9) refl (λ d. refl))

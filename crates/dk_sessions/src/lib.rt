@@ -14,3 +14,5 @@ pub mod opening;
 pub mod recorded;
 pub mod records;
 pub mod sending;
+#[cfg(test)]
+mod tests;

@@ -1,7 +1,5 @@
 //! Records that begin and end, on the platform's behalf.
-ghost use Rattle.std.specs.Prelude.{◌≡◌, [], IfOk};
 ghost use Rattle.dk_model.specs.Platforms as platform;
-ghost use Rattle.dk_model.specs.Records.{session_bytes};
 ghost use Rattle.dk_txn.specs.Does.{Does};
 ghost use Rattle.dk_txn.specs.Refusals.{refusal_fault};
 ghost use Rattle.dk_sessions.specs.Openings as opening;

@@ -6,6 +6,7 @@ ghost use Rattle.dk_txn.specs.Refusals.{refusal_fault, TellsLength};
 ghost use Rattle.dk_sessions.specs.Lookups as lookup;
 
 use dk_txn::{Refusal, Txn, View};
+use dk_types::limits::NAME_MOST_BYTES;
 use dk_types::{Name, NoMemory, ObjectId};
 use std::alloc::Global;
 
@@ -16,9 +17,16 @@ pub fn session_name(alloc: Global, name: &Name) -> Result<Option<Name>, NoMemory
     name.with_prefix(alloc, "$s.")
 }
 
+/// Whether the platform name of a login name would pass 255 bytes.
+pub(crate) fn is_too_long(name: &Name) -> bool
+    ensures { result ≡ is_name_too_long (named name.now) }
+{
+    name.as_slice().len() as u64 + 3 > NAME_MOST_BYTES
+}
+
 /// The refusal of a login name whose platform name would be too long.
 pub(crate) fn too_long(name: &Name) -> Refusal
-    ensures { TellsLength (named name.now) result }
+    ensures length { TellsLength (named name.now) result }
     ensures told { lookup.IsTooLong result }
 {
     Refusal::TooLong {

@@ -4,7 +4,7 @@ ghost use Rattle.dk_model.specs.Platforms as platform;
 ghost use Rattle.dk_txn.specs.Does.{Does, SameChanges};
 ghost use Rattle.dk_txn.specs.Refusals.{refusal_fault};
 
-use crate::recorded::{recorded, session_name, too_long};
+use crate::recorded::{is_too_long, recorded, too_long};
 use dk_refs::{ManagedRef, SessionRecord};
 use dk_txn::{Refusal, Txn, View};
 use dk_types::{Name, Session};
@@ -97,12 +97,13 @@ pub fn find<V: View>(
     ensures does { Does V.gave refusal_fault txn.old txn.new (platform.find_session name.now) result }
     ensures same_changes { SameChanges txn.old.log txn.new.log }
 {
-    if session_name(alloc, name)?.is_none() {
+    if is_too_long(name) {
         return Err(too_long(name));
     }
     let found = session_under(alloc, txn, name)?;
+    let copy = name.clone()?;
     Ok(Session {
-        name: name.clone()?,
+        name: copy,
         conn: found.1.conn,
     })
 }

@@ -20,7 +20,8 @@ pub fn send<V: View>(
     ensures does { Does V.gave refusal_fault txn.old txn.new (platform.session_send session.now body.now) result }
     ensures refused { OnErr result (SameChanges txn.old.log txn.new.log) }
 {
-    if !is_connected(alloc, txn, session)? {
+    let connected = is_connected(alloc, txn, session)?;
+    if !connected {
         return Err(Refusal::NameNotBound);
     }
     let copy = Blob::copy_of(alloc, body.as_slice())?;

@@ -1,0 +1,15 @@
+use Rattle.std.proofs.Common.{refl}
+use Rattle.dk_sessions.proofs.Lookups.{connected_stops, connected_none, connected_halts, connected_tells}
+use Rattle.dk_sessions.proofs.records.is_connected.Goals as goal
+
+pub returns-in_err-recorded-clause-does : goal.returns-in_err-recorded-clause-does
+returns-in_err-recorded-clause-does g c = connected_stops c.args.session.now c.in_err-recorded.ensures.does c.from_residual.ensures.1
+
+pub returns-in-None-clause-does : goal.returns-in-None-clause-does
+returns-in-None-clause-does g c = connected_none c.args.session.now (rw c.in-None.is at c.in_ok-recorded.ensures.does)
+
+pub returns-in_err-found-in-Some-clause-does : goal.returns-in_err-found-in-Some-clause-does
+returns-in_err-found-in-Some-clause-does g c = connected_halts c.args.session.now (rw c.in-Some.is at c.in_ok-recorded.ensures.does) (rw c.of.ensures at c.in_err-found-in-Some.ensures.does) c.from_residual-in_err-found-in-Some.ensures.1
+
+pub returns-in_ok-found-in-Some-clause-does : goal.returns-in_ok-found-in-Some-clause-does
+returns-in_ok-found-in-Some-clause-does g c = connected_tells c.args.session.now (rw c.in-Some.is at c.in_ok-recorded.ensures.does) (rw c.of.ensures at c.in_ok-found-in-Some.ensures.does) refl

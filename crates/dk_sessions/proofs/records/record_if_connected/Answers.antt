@@ -1,0 +1,17 @@
+use Rattle.dk_sessions.proofs.Lookups.{own_stops, own_none, own_halts, own_same, own_other}
+use Rattle.dk_sessions.proofs.records.record_if_connected.Goals as goal
+
+pub returns-in_err-recorded-clause-does : goal.returns-in_err-recorded-clause-does
+returns-in_err-recorded-clause-does g c = own_stops c.args.session.now c.in_err-recorded.ensures.does c.from_residual.ensures.1
+
+pub returns-in-None-clause-does : goal.returns-in-None-clause-does
+returns-in-None-clause-does g c = own_none c.args.session.now (rw c.in-None.is at c.in_ok-recorded.ensures.does)
+
+pub returns-in_err-found-in-Some-clause-does : goal.returns-in_err-found-in-Some-clause-does
+returns-in_err-found-in-Some-clause-does g c = own_halts c.args.session.now (rw c.in-Some.is at c.in_ok-recorded.ensures.does) (rw c.of-reference.ensures at c.in_err-found-in-Some.ensures.does) c.from_residual-in_err-found-in-Some.ensures.1
+
+pub returns-then-found-session-clause-does : goal.returns-then-found-session-clause-does
+returns-then-found-session-clause-does g c = own_same c.args.session.now (rw c.in-Some.is at c.in_ok-recorded.ensures.does) (rw c.of-reference.ensures at c.in_ok-found-in-Some.ensures.does) c.if-found-session.true c.of-reference.ensures
+
+pub returns-else-found-session-clause-does : goal.returns-else-found-session-clause-does
+returns-else-found-session-clause-does g c = own_other c.args.session.now (rw c.in-Some.is at c.in_ok-recorded.ensures.does) (rw c.of-reference.ensures at c.in_ok-found-in-Some.ensures.does) c.if-found-session.false

@@ -1,0 +1,14 @@
+use Rattle.dk_sessions.proofs.Lookups.{under_stops, under_none, under_halts, under_finds}
+use Rattle.dk_sessions.proofs.records.session_under.Goals as goal
+
+pub returns-in_err-recorded-clause-does : goal.returns-in_err-recorded-clause-does
+returns-in_err-recorded-clause-does g c = under_stops c.args.name.now c.in_err-recorded.ensures.does c.from_residual.ensures.1
+
+pub returns-in-None-clause-does : goal.returns-in-None-clause-does
+returns-in-None-clause-does g c = under_none c.args.name.now (rw c.in-None.is at c.in_ok-recorded.ensures.does)
+
+pub returns-in_err-session-in-Some-clause-does : goal.returns-in_err-session-in-Some-clause-does
+returns-in_err-session-in-Some-clause-does g c = under_halts c.args.name.now (rw c.in-Some.is at c.in_ok-recorded.ensures.does) (rw c.of-reference.ensures at c.in_err-session-in-Some.ensures.does) c.from_residual-in_err-session-in-Some.ensures.1
+
+pub returns-in_ok-session-in-Some-clause-does : goal.returns-in_ok-session-in-Some-clause-does
+returns-in_ok-session-in-Some-clause-does g c = rw c.of-reference.ensures (under_finds c.args.name.now (rw c.in-Some.is at c.in_ok-recorded.ensures.does) (rw c.of-reference.ensures at c.in_ok-session-in-Some.ensures.does))
