@@ -1,5 +1,5 @@
 -- The message is sent to one member after another.
-use Rattle.std.proofs.Common.{◌≡◌, ℕ, ◌+◌, ◌<◌, ◌≤◌, Bool, true, false, not, nat_le, nat_lt, if◌then◌else◌, Option, Some, None, List, [], ◌∷◌, ◌++◌, length, map, take, get_or, Result, Ok, Err, refl, sym, ap, subst, ◌∙◌, arith, append_assoc, append-nil, length-append, take_all, length-take-le}
+use Rattle.std.proofs.Common.{◌≡◌, ℕ, suc, ◌+◌, ◌<◌, ◌≤◌, Bool, true, false, not, nat_le, nat_lt, if◌then◌else◌, Option, Some, None, List, [], ◌∷◌, ◌++◌, length, map, take, get_or, Result, Ok, Err, refl, sym, ap, subst, ◌∙◌, arith, append_assoc, append-nil, length-append, take_all, length-take-le}
 use Rattle.std.specs.Result.{IsErrAnd}
 use Rattle.std.proofs.lemmas.Bool.Decides.{nat_tests}
 use Rattle.std.proofs.lemmas.List.{take_more}
@@ -13,7 +13,7 @@ use Rattle.dk_types.specs.declared.fault.AppFault.{AppFault}
 use Rattle.dk_types.specs.declared.fault.AppFault.TheVariants.{Refused}
 use Rattle.dk_model.specs.DurableWorlds.{DurableWorld, Agrees}
 use Rattle.dk_model.specs.Runs as act
-use Rattle.dk_model.specs.Runs.{Run, Act, is_too_long, body_of}
+use Rattle.dk_model.specs.Runs.{Run, Act, refuse, is_too_long, body_of, TOO_LONG}
 use Rattle.dk_model.specs.Platforms.{send_each}
 use Rattle.dk_overlay.specs.Logged.{Logged, current}
 use Rattle.dk_txn.specs.declared.refusal.Refusal.{Refusal}
@@ -32,15 +32,19 @@ map_last f (y ∷ xs) x = ap (λ l. f y ∷ l) (map_last f xs x)
 
 map_length : {A B : Type 0} (f : A → B) (xs : List A) → length (map f xs) ≡ length xs
 map_length f [] = refl
-map_length f (y ∷ xs) = ap (λ n. 1 + n) (map_length f xs)
+map_length f (y ∷ xs) = ap suc (map_length f xs)
 
 send_ok : (to : ConnNo) (message : Out) (s : Run) → is_too_long (body_of message) ≡ false → nat_le MESSAGES_MOST_COUNT (length s.outs) ≡ false
     → act.send to message s ≡ (Ok tt, record s { outs = s.outs ++ (to, message) ∷ [] })
 unfolding act.send
 send_ok to message s short few = rw (short, few) refl
 
-never : {A B : Type 0} {x : B} {P : Type 0} (s t : Run) {fault : A} → (Ok x, s) ≡ (Err fault, t) → P
-never s t e = absurd (cc (ap (λ p. p.0) e))
+never : {A B P : Type 0} (x : B) (fault : A) (s t : Run) → ◌≡◌ {A = Result B A × Run} (Ok x, s) (Err fault, t) → P
+never {A = A} {B = B} x fault s t e = let same : ◌≡◌ {A = Result B A} (Ok x) (Err fault) = ap (λ p. p.0) e in absurd cc
+
+refused_never : {P : Type 0} (o : Option AppFault) (s : Result (Unit {0}) AppFault) → failure o ≡ Some s → ((fault : AppFault) → o ≡ Some fault → P) → P
+refused_never None s t k = absurd cc
+refused_never (Some fault) s t k = k fault refl
 
 -- after so many members there is room for one more message
 room : (outs : List (ConnNo × Out)) (f : Session → ConnNo × Out) (members : List Session) (i : ℕ) → nat_lt MESSAGES_MOST_COUNT (length outs + length members) ≡ false → i < length members
@@ -57,6 +61,10 @@ more outs message members i m h is =
     ∙ ap (λ (y : Session). outs ++ map (λ m. (m.conn, message)) (take i members ++ y ∷ [])) is
     ∙ ap (λ l. outs ++ map (λ m. (m.conn, message)) l) (sym (take_more members i m h))
 
+-- a body is too long
+pub refuses_long : {S A : Type 0} {gave : S → Item → Read → Type 0} {a : Txn S Logged} {e : Refusal} → refusal_fault e ≡ Some (Refused TOO_LONG) → Does gave refusal_fault a a (refuse {A = A} TOO_LONG) (Err e)
+refuses_long {A = A} told = refused_here {f = refuse {A = A} TOO_LONG} (Refused TOO_LONG) told (λ d. refl)
+
 module _ {S : Type 0} {gave : S → Item → Read → Type 0} (members : List Session) (message : Out) where
   -- where there is no room for all, it is refused
   pub each_full : {a : Txn S Logged} → nat_lt MESSAGES_MOST_COUNT (length a.log.outs + length members) ≡ true → Does gave refusal_fault a a (send_each members message) (Err refusal.TooMany)
@@ -72,7 +80,7 @@ module _ {S : Type 0} {gave : S → Item → Read → Type 0} (members : List Se
     each_starves {r = Err h} is = record { keeps = so_far.keeps; does = λ s t. cc (subst (λ h. failure (refusal_fault h) ≡ Some s) is t) }
     each_starves {r = Ok x} is = absurd is
 
-    module _ {c : Txn S Logged} (m : Session) (short : is_too_long (body_of message) ≡ false) (fits : nat_lt MESSAGES_MOST_COUNT (length a.log.outs + length members) ≡ false) (h : i < length members) where
+    module _ (m : Session) (short : is_too_long (body_of message) ≡ false) (fits : nat_lt MESSAGES_MOST_COUNT (length a.log.outs + length members) ≡ false) (h : i < length members) where
       here : (d : DurableWorld) → Agrees d b.log.reads → act.send m.conn message (current b.log d) ≡ (Ok tt, record (current a.log d) { outs = (a.log.outs ++ map (λ m. (m.conn, message)) (take i members)) ++ (m.conn, message) ∷ [] })
       here d agrees =
           let now = so_far.sent d agrees in
@@ -80,7 +88,7 @@ module _ {S : Type 0} {gave : S → Item → Read → Type 0} (members : List Se
           ∙ send_ok m.conn message (record (current a.log d) { outs = a.log.outs ++ map (λ m. (m.conn, message)) (take i members) }) short (room a.log.outs (λ m. (m.conn, message)) members i fits h)
 
       -- one more member is sent it
-      pub sent_more : m ≡ get_or members i m → Does gave refusal_fault b c (act.send m.conn message) (Ok tt) → AreSent gave a c members message (i + 1)
+      pub sent_more : {c : Txn S Logged} → m ≡ get_or members i m → Does gave refusal_fault b c (act.send m.conn message) (Ok tt) → AreSent gave a c members message (i + 1)
       sent_more is p = record {
         keeps = keeps_then so_far.keeps p.keeps;
         sent = λ d agrees.
@@ -89,14 +97,12 @@ module _ {S : Type 0} {gave : S → Item → Read → Type 0} (members : List Se
       }
 
       -- it is never refused
-      pub each_stops : {e : Refusal} {r : Result (Unit {0}) Refusal} → Does gave refusal_fault b c (act.send m.conn message) (Err e) → IsErrAnd r (λ h. h ≡ e) → Does gave refusal_fault a c (send_each members message) r
+      pub each_stops : {c : Txn S Logged} {e : Refusal} {r : Result (Unit {0}) Refusal} → Does gave refusal_fault b c (act.send m.conn message) (Err e) → IsErrAnd r (λ h. h ≡ e) → Does gave refusal_fault a c (send_each members message) r
       each_stops {e = e} {r = Err q} p is = record {
         keeps = keeps_then so_far.keeps p.keeps;
-        does = λ s t d agrees. refused_never (refusal_fault e) s (subst (λ q. failure (refusal_fault q) ≡ Some s) is t) (λ fault told. never _ _ (sym (here d (agreed p.keeps d agrees)) ∙ p.does (Err fault) (ap failure told) d agrees));
-      } where
-        refused_never : {P : Type 0} (o : Option AppFault) (s : Result (Unit {0}) AppFault) → failure o ≡ Some s → ((fault : AppFault) → o ≡ Some fault → P) → P
-        refused_never None s t k = cc t
-        refused_never (Some fault) s t k = k fault refl
+        does = λ s t d agrees. refused_never (refusal_fault e) s (subst (λ q. failure (refusal_fault q) ≡ Some s) is t)
+            (λ fault told. never tt fault _ _ (sym (here d (agreed p.keeps d agrees)) ∙ p.does (Err fault) (ap failure told) d agrees));
+      }
       each_stops {r = Ok x} p is = absurd is
 
     -- all were sent it

@@ -1,5 +1,6 @@
 //! Leaving a channel.
-ghost use Rattle.std.specs.Prelude.{◌≡◌};
+ghost use Rattle.std.specs.Prelude.{◌≡◌, [], IfOk};
+ghost use Rattle.dk_model.specs.Records.{channel_bytes, session_bytes};
 ghost use Rattle.dk_model.specs.Platforms as platform;
 ghost use Rattle.dk_model.specs.Runs as act;
 ghost use Rattle.dk_txn.specs.Does.{Does};
@@ -9,10 +10,10 @@ use crate::channel::{Channel, record_of};
 use crate::lists::{is_member, without_channel, without_member};
 use crate::saving::save_both;
 use dk_model::Mode;
-use dk_refs::{ChannelRecord, Managed, ManagedRef, SessionRecord};
+use dk_refs::{ChannelRecord, Delivery, Managed, ManagedRef, SessionRecord};
 use dk_sessions::{own_record, record_if_connected};
 use dk_txn::{Refusal, Txn, View};
-use dk_types::{Listed, Name, Session};
+use dk_types::{Blob, Listed, Name, NoMemory, Session};
 use std::alloc::Global;
 
 /// Takes the session from the channel's members, and the channel from the session's record (`Channel.leave`). A leave of one
@@ -89,18 +90,37 @@ pub fn leave_all<V: View>(
 fn empty_out<V: View>(alloc: Global, txn: &mut Txn<'_, V>, name: &Name) -> Result<(), Refusal>
     ensures { Does V.gave refusal_fault txn.old txn.new (act.and_then (platform.channel_under name.now) (λ c. platform.leave_members name.now c c.1.members)) result }
 {
-    let (channel, record) = record_of(alloc, txn, name)?;
+    let channel = record_of(alloc, txn, name)?;
+    leave_members(alloc, txn, name, channel)
+}
+
+/// The bytes of a channel's record without members.
+fn emptied(alloc: Global, listener: bool, delivery: Delivery) -> Result<Blob, NoMemory>
+    ensures { IfOk result (λ payload. payload ≡ channel_bytes (record { listener = listener; delivery = delivery; members = [] })) }
+{
+    let record = ChannelRecord {
+        listener,
+        delivery,
+        members: Listed::from_vec(Vec::new(alloc)),
+    };
+    record.encode(alloc)
+}
+
+fn leave_members<V: View>(
+    alloc: Global,
+    txn: &mut Txn<'_, V>,
+    name: &Name,
+    channel: (ManagedRef<ChannelRecord>, ChannelRecord),
+) -> Result<(), Refusal>
+    ensures { Does V.gave refusal_fault txn.old txn.new (platform.leave_members name.now channel channel.1.members) result }
+{
+    let (place, record) = channel;
     let members = record.members;
     if members.as_slice().is_empty() {
         return Ok(());
     }
-    let emptied = ChannelRecord {
-        listener: record.listener,
-        delivery: record.delivery,
-        members: Listed::from_vec(Vec::new(alloc)),
-    };
-    let payload = emptied.encode(alloc)?;
-    txn.save(channel.id(), payload)?;
+    let payload = emptied(alloc, record.listener, record.delivery)?;
+    txn.save(place.id(), payload)?;
     drop_each(alloc, txn, name, members.as_slice())
 }
 
@@ -127,13 +147,25 @@ fn drop_channel<V: View>(
 ) -> Result<(), Refusal>
     ensures { Does V.gave refusal_fault txn.old txn.new (platform.drop_channel name.now session.now) result }
 {
-    let Some((own, record)) = record_if_connected(alloc, txn, session)? else {
-        return Ok(());
+    match record_if_connected(alloc, txn, session)? {
+        None => Ok(()),
+        Some(found) => drop_from(alloc, txn, name, found),
+    }
+}
+
+fn drop_from<V: View>(
+    alloc: Global,
+    txn: &mut Txn<'_, V>,
+    name: &Name,
+    own: (ManagedRef<SessionRecord>, SessionRecord),
+) -> Result<(), Refusal>
+    ensures { Does V.gave refusal_fault txn.old txn.new (act.save own.0 (session_bytes (record (own.1) { channels = platform.without_channel name.now own.1.channels }))) result }
+{
+    let (place, sessions) = own;
+    let sessions = SessionRecord {
+        conn: sessions.conn,
+        channels: without_channel(alloc, sessions.channels, name)?,
     };
-    let record = SessionRecord {
-        conn: record.conn,
-        channels: without_channel(alloc, record.channels, name)?,
-    };
-    let payload = record.encode(alloc)?;
-    txn.save(own.id(), payload)
+    let payload = sessions.encode(alloc)?;
+    txn.save(place.id(), payload)
 }

@@ -8,12 +8,13 @@
 pub use channel::{Channel, create_channel, get_channel, members, record_of, recorded};
 pub use dk_refs::{ChannelRecord, Delivery};
 pub use leaving::{leave, leave_all};
+pub use lists::is_member;
 pub use joining::join;
 pub use sending::send;
 
 pub mod channel;
 pub mod joining;
 pub mod leaving;
-mod lists;
+pub mod lists;
 mod saving;
 pub mod sending;

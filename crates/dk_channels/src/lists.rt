@@ -7,7 +7,7 @@ use dk_types::{Listed, Name, NoMemory, Session};
 use std::alloc::Global;
 
 /// Whether the session is among the members.
-pub(crate) fn is_member(session: &Session, members: &[Session]) -> bool
+pub fn is_member(session: &Session, members: &[Session]) -> bool
     ensures { result ≡ has_member session.now members.now }
 {
     members.iter().any(|member| session == member)

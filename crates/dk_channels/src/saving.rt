@@ -14,14 +14,14 @@ use dk_types::{Blob, ObjectId};
 use std::alloc::Global;
 
 /// Whether bytes are too long for an object.
-fn is_too_long(payload: &Blob) -> bool
+pub(crate) fn is_too_long(payload: &Blob) -> bool
     ensures { result ≡ act.is_too_long payload.now }
 {
     payload.as_slice().len() as u64 > BODY_MOST_BYTES
 }
 
 /// The refusal of bytes that are too long.
-fn too_long(payload: &Blob) -> Refusal
+pub(crate) fn too_long(payload: &Blob) -> Refusal
     ensures told { refusal_fault result ≡ Some (Refused 4) }
     ensures length { TellsLength payload.now result }
 {

@@ -1,5 +1,5 @@
 //! Sending on a channel.
-ghost use Rattle.std.specs.Prelude.{◌≡◌, ◌≤◌, false};
+ghost use Rattle.std.specs.Prelude.{◌≡◌, false, IfOk};
 ghost use Rattle.std.specs.Option.{option_copied};
 ghost use Rattle.dk_types.specs.declared.job.Out.TheVariants as out;
 ghost use Rattle.dk_model.specs.Platforms as platform;
@@ -9,9 +9,9 @@ ghost use Rattle.dk_txn.specs.Refusals.{refusal_fault};
 
 use crate::channel::{Channel, record_of};
 use crate::lists::is_sender;
-use dk_model::limits::BODY_MOST_BYTES;
+use crate::saving::{is_too_long, too_long};
 use dk_txn::{Refusal, Txn, View};
-use dk_types::{Blob, Name, Out, Session};
+use dk_types::{Blob, Name, NoMemory, Out, Session};
 use std::alloc::Global;
 
 /// A message to each member, in joining order (`Channel.send`). Nothing is sent for a sender who is no member. Refuses 1, 4, 8;
@@ -26,14 +26,23 @@ pub fn send<V: View>(
     ensures { Does V.gave refusal_fault txn.old txn.new (platform.channel_send channel.now.name (option_copied sender.entry) body.now) result }
 {
     let (_, record) = record_of(alloc, txn, &channel.name)?;
-    let len = body.as_slice().len() as u64;
-    if len > BODY_MOST_BYTES {
-        return Err(Refusal::TooLong { len });
+    if is_too_long(body) {
+        return Err(too_long(body));
     }
     if !is_sender(sender, record.members.as_slice()) {
         return Ok(());
     }
     send_each(txn, record.members.as_slice(), &channel.name, body)
+}
+
+/// The message that a member gets.
+fn letter(channel: &Name, body: &Blob) -> Result<Out, NoMemory>
+    ensures { IfOk result (λ message. message ≡ out.Channel channel.now body.now) }
+{
+    Ok(Out::Channel {
+        channel: channel.clone()?,
+        body: body.clone()?,
+    })
 }
 
 fn send_each<V: View>(
@@ -49,10 +58,7 @@ fn send_each<V: View>(
         return Err(Refusal::TooMany);
     }
     for member in members {
-        let message = Out::Channel {
-            channel: channel.clone()?,
-            body: body.clone()?,
-        };
+        let message = letter(channel, body)?;
         txn.send(member.conn, message)?;
     }
     Ok(())
