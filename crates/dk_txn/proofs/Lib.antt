@@ -1,5 +1,4 @@
 pub mod Kit
-pub mod Lookups
 pub mod Reading
 pub mod ObjectCalls
 pub mod NameCalls
