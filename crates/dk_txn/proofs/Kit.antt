@@ -1,5 +1,5 @@
 -- How the pieces of a run compose: the lemmas by which a game is proved. `docs/TRANSACTIONS.md` shows their use.
-use Rattle.std.proofs.Common.{◌≡◌, ℕ, Bool, true, false, if◌then◌else◌, Option, Some, None, List, [], ◌++◌, Result, Ok, Err, refl, sym, ap, subst, ◌∙◌, append_assoc, append-nil}
+use Rattle.std.proofs.Common.{◌≡◌, ℕ, Bool, true, false, if◌then◌else◌, Option, Some, None, [], ◌++◌, Result, Ok, Err, refl, sym, ap, subst, ◌∙◌, append_assoc, append-nil}
 use Rattle.std.specs.Result.{IsErrAnd}
 use Rattle.std.specs.List.{AllByRecursion}
 use Rattle.std.specs.FinMap as map
@@ -11,11 +11,10 @@ use Rattle.dk_model.specs.declared.mode.Mode.{Mode}
 use Rattle.dk_model.specs.DurableWorlds.{DurableWorld, Agrees}
 use Rattle.dk_model.specs.Runs.{Run, Act, give, and_then, carry_on, within}
 use Rattle.dk_overlay.specs.Logged.{Logged, current}
-use Rattle.dk_overlay.specs.Knowing.{IsSound}
 use Rattle.dk_overlay.proofs.Sound.{Agrees-front, sound_as}
 use Rattle.dk_overlay.proofs.Tests.{Some_injective}
 use Rattle.dk_txn.specs.declared.txn.Txn.{Txn}
-use Rattle.dk_txn.specs.Does.{KeepsFor, DoesFor, LeadsFor, Keeps, Does, Every, AllGiven, failure, outcome_told}
+use Rattle.dk_txn.specs.Does.{KeepsFor, DoesFor, LeadsFor, Keeps, Does, failure}
 
 -- what a step that fails with a fault leads to
 stopped : {A B : Type 0} (W : DurableWorld → Type 0) (o : Option AppFault) (f : Act A) (g : A → Act B) (before after : DurableWorld → Run)

@@ -1,5 +1,5 @@
 -- The law of a finished run, from what its parts did.
-use Rattle.std.proofs.Common.{◌≡◌, ℕ, suc, Option, Some, None, List, Result, Ok, Err, refl, sym, ap, subst, ◌∙◌, arith}
+use Rattle.std.proofs.Common.{◌≡◌, ℕ, suc, Option, Some, Result, sym, ap, subst, ◌∙◌, arith}
 use Rattle.std.specs.List.{AllByRecursion}
 use Rattle.std.specs.FinMap as map
 use Rattle.dk_types.specs.declared.number.RunNo.{RunNo}
@@ -10,11 +10,10 @@ use Rattle.dk_types.specs.declared.job.Job.{Job}
 use Rattle.dk_types.specs.declared.fault.AppFault.{AppFault}
 use Rattle.dk_model.specs.declared.mode.Mode.TheVariants.{Game}
 use Rattle.dk_model.specs.Keys.{key_cmp}
-use Rattle.dk_model.specs.DurableWorlds.{DurableWorld, Agrees}
-use Rattle.dk_model.specs.Runs.{Run, Act, begun, within}
+use Rattle.dk_model.specs.DurableWorlds.{Agrees}
+use Rattle.dk_model.specs.Runs.{Act, begun, within}
 use Rattle.dk_model.specs.Steps.{work, ended}
 use Rattle.dk_model.specs.Finishes.{IsNew, told_step, KeepsLaw}
-use Rattle.dk_overlay.specs.declared.change.TaskChange.{TaskChange}
 use Rattle.dk_overlay.specs.declared.change.TaskChange.TheVariants.{Moved}
 use Rattle.dk_overlay.specs.declared.finished.Finished.{Finished}
 use Rattle.dk_overlay.specs.Logged.{Logged, current, nothing_done}

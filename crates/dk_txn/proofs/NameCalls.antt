@@ -1,5 +1,5 @@
 -- What each call on names does, but for the next name.
-use Rattle.std.proofs.Common.{◌≡◌, ℕ, true, false, Option, Some, None, is_some, List, [], ◌∷◌, Result, Ok, Err, refl, sym, ap, subst, ◌∙◌}
+use Rattle.std.proofs.Common.{◌≡◌, ℕ, true, false, Option, Some, None, is_some, List, Result, Ok, Err, refl, sym, ap, ◌∙◌}
 use Rattle.std.specs.Option.{ok_or}
 use Rattle.std.specs.FinMap as map
 use Rattle.dk_types.specs.declared.number.ObjectId.{ObjectId}
@@ -14,7 +14,7 @@ use Rattle.dk_model.specs.Runs.{found, with_name, unbind_found}
 use Rattle.dk_overlay.specs.declared.change.Change.{Change}
 use Rattle.dk_overlay.specs.Answers.{id_in, id_in-answer}
 use Rattle.dk_overlay.specs.Changes.{value_now}
-use Rattle.dk_overlay.specs.Layers.{layered, newest}
+use Rattle.dk_overlay.specs.Layers.{newest}
 use Rattle.dk_overlay.specs.Logged.{Logged, current, changing_name}
 use Rattle.dk_overlay.proofs.Keys.{names_total, names_same}
 use Rattle.dk_overlay.proofs.Layers.{get-layered, layered-insert}
@@ -25,8 +25,7 @@ use Rattle.dk_txn.specs.declared.refusal.Refusal.TheVariants as refusal
 use Rattle.dk_txn.specs.declared.txn.Txn.{Txn}
 use Rattle.dk_txn.specs.Bindings.{binding}
 use Rattle.dk_txn.specs.Refusals.{refusal_fault}
-use Rattle.dk_txn.specs.Does.{Keeps, Does, SameChanges, KnownName, failure, outcome_told}
-use Rattle.dk_txn.proofs.Kit.{keeps_all}
+use Rattle.dk_txn.specs.Does.{Keeps, Does, SameChanges, KnownName, outcome_told}
 use Rattle.dk_txn.proofs.Reading.{same_current, keeps_changed, told_found}
 use Rattle.dk_txn.proofs.ObjectCalls.{refused_at, refused_here, done_at}
 

@@ -1,5 +1,5 @@
 -- What each call on objects does.
-use Rattle.std.proofs.Common.{◌≡◌, ℕ, ◌+◌, ◌<◌, ◌≤◌, nat_le, nat_lt, arith, Bool, true, false, Option, Some, None, is_some, List, [], ◌∷◌, ◌++◌, Result, Ok, Err, refl, sym, ap, subst, ◌∙◌, length}
+use Rattle.std.proofs.Common.{◌≡◌, ℕ, ◌+◌, ◌<◌, ◌≤◌, nat_le, arith, true, false, Option, Some, None, List, Result, Ok, Err, refl, sym, ap, subst, ◌∙◌}
 use Rattle.std.proofs.lemmas.Bool.Decides.{nat_tests}
 use Rattle.std.specs.Option.{ok_or}
 use Rattle.std.specs.Result.{IsErrAnd, IfErr}
@@ -19,9 +19,8 @@ use Rattle.dk_model.specs.Runs.{Run, Act, found, with_object, change_found, chan
 use Rattle.dk_overlay.specs.declared.change.Change.{Change}
 use Rattle.dk_overlay.specs.Answers.{object_in, object_in-answer}
 use Rattle.dk_overlay.specs.Changes.{value_now}
-use Rattle.dk_overlay.specs.Layers.{layered, newest}
+use Rattle.dk_overlay.specs.Layers.{newest}
 use Rattle.dk_overlay.specs.Logged.{Logged, current, changing_object, new_id, creating}
-use Rattle.dk_overlay.specs.Knowing.{IsSound, KnowsBefore, MovesAlone}
 use Rattle.dk_overlay.proofs.Keys.{ids_total, ids_same}
 use Rattle.dk_overlay.proofs.Layers.{get-layered, layered-insert}
 use Rattle.dk_overlay.proofs.Sound.{sound_object, sound_as}

@@ -1,8 +1,7 @@
 -- What a read of the view keeps, and what a change of the log keeps.
-use Rattle.std.proofs.Common.{◌≡◌, ℕ, true, false, Option, Some, None, is_some, List, [], ◌∷◌, ◌++◌, Result, Ok, Err, refl, sym, ap, subst, ◌∙◌, append-nil}
+use Rattle.std.proofs.Common.{◌≡◌, ℕ, Option, Some, None, List, [], ◌∷◌, ◌++◌, Result, sym, ap, subst, ◌∙◌, append-nil}
 use Rattle.std.specs.Option.{ok_or}
 use Rattle.std.specs.List.{AllByRecursion}
-use Rattle.std.specs.FinMap as map
 use Rattle.dk_types.specs.declared.number.TaskKey.{TaskKey}
 use Rattle.dk_types.specs.declared.item.Item.{Item}
 use Rattle.dk_types.specs.declared.item.Read.{Read}
@@ -10,7 +9,6 @@ use Rattle.dk_types.specs.declared.fault.AppFault.{AppFault}
 use Rattle.dk_types.specs.declared.fault.AppFault.TheVariants.{Refused}
 use Rattle.dk_model.specs.DurableWorlds.{DurableWorld, Agrees, answer}
 use Rattle.dk_model.specs.Runs.{found}
-use Rattle.dk_overlay.specs.declared.change.TaskChange.TheVariants.{Moved}
 use Rattle.dk_overlay.specs.Asked.{IsAsked}
 use Rattle.dk_overlay.specs.Logged.{Logged, current, reading}
 use Rattle.dk_overlay.specs.Knowing.{IsSound, MovesAlone}
@@ -20,7 +18,7 @@ use Rattle.dk_overlay.proofs.Asking.{agrees_read, WasRead-last}
 use Rattle.dk_txn.specs.declared.refusal.Refusal.{Refusal}
 use Rattle.dk_txn.specs.declared.txn.Txn.{Txn}
 use Rattle.dk_txn.specs.Refusals.{refusal_fault}
-use Rattle.dk_txn.specs.Does.{KeepsFor, Keeps, AllGiven, SameChanges, failure, outcome_told}
+use Rattle.dk_txn.specs.Does.{KeepsFor, Keeps, SameChanges, failure, outcome_told}
 
 All-push : {X : Type 0} (P : X → Type 0) (xs : List X) (x : X) → AllByRecursion P xs → P x → AllByRecursion P (xs ++ x ∷ [])
 All-push P [] x h p = (p, tt)

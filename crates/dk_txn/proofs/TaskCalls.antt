@@ -1,5 +1,5 @@
 -- What each call on tasks does, and a message.
-use Rattle.std.proofs.Common.{◌≡◌, ◌==◌, ℕ, ◌+◌, ◌<◌, ◌≤◌, ◌||◌, nat_le, nat_lt, arith, Bool, true, false, if◌then◌else◌, Option, Some, None, is_some, List, [], ◌∷◌, ◌++◌, length, Result, Ok, Err, refl, sym, ap, subst, ◌∙◌}
+use Rattle.std.proofs.Common.{◌≡◌, ◌==◌, ℕ, ◌+◌, ◌<◌, ◌≤◌, ◌||◌, nat_lt, arith, Bool, true, false, if◌then◌else◌, Option, Some, None, is_some, List, length, Result, Ok, Err, refl, sym, ap, subst, ◌∙◌}
 use Rattle.std.proofs.lemmas.Bool.Decides.{nat_tests}
 use Rattle.std.specs.FinMap as map
 use Rattle.dk_types.specs.declared.number.ConnNo.{ConnNo}
@@ -19,8 +19,8 @@ use Rattle.dk_overlay.specs.declared.change.Scheduled.{Scheduled}
 use Rattle.dk_overlay.specs.declared.change.TaskChange.{TaskChange}
 use Rattle.dk_overlay.specs.declared.change.TaskChange.TheVariants.{Added, Withdrawn, Dropped, Moved}
 use Rattle.dk_overlay.specs.Answers.{is_pending, is_pending-answer}
-use Rattle.dk_overlay.specs.Changes.{task_now, task_made, moved_to, stood, settled, removing, moving}
-use Rattle.dk_overlay.specs.Layers.{layered, newest}
+use Rattle.dk_overlay.specs.Changes.{task_now, task_made, moved_to, settled, removing}
+use Rattle.dk_overlay.specs.Layers.{newest}
 use Rattle.dk_overlay.specs.Logged.{Logged, current, changing_task, new_key, scheduling, removing_task, moving_task, passing_own, sending}
 use Rattle.dk_model.specs.Finishes.{IsNew}
 use Rattle.dk_overlay.specs.Knowing.{IsSound, MovesAlone}
@@ -33,7 +33,7 @@ use Rattle.dk_txn.specs.declared.refusal.Refusal.{Refusal}
 use Rattle.dk_txn.specs.declared.refusal.Refusal.TheVariants as refusal
 use Rattle.dk_txn.specs.declared.txn.Txn.{Txn}
 use Rattle.dk_txn.specs.Refusals.{refusal_fault}
-use Rattle.dk_txn.specs.Does.{Keeps, Does, DoesFor, Only, SameChanges, KnownTask, failure, outcome_told}
+use Rattle.dk_txn.specs.Does.{Keeps, Does, DoesFor, Only, SameChanges, KnownTask}
 use Rattle.dk_txn.proofs.Kit.{keeps_all, keeps_for}
 use Rattle.dk_txn.proofs.Reading.{same_current, keeps_changed}
 use Rattle.dk_txn.proofs.ObjectCalls.{refused_at, refused_here, done_at, le_true, le_false}

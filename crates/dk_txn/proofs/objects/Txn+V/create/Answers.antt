@@ -1,4 +1,4 @@
-use Rattle.std.proofs.Common.{◌≡◌, ◌<◌, ◌≤◌, true, false, sym, ap, ◌∙◌, arith}
+use Rattle.std.proofs.Common.{sym, ap, ◌∙◌, arith}
 use Rattle.dk_model.specs.Runs as act
 use Rattle.dk_txn.proofs.ObjectCalls.{create_reserved, create_long, create_many, create_does}
 use Rattle.dk_txn.proofs.objects.Txn+V.create.Goals as goal

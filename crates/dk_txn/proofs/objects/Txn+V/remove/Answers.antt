@@ -1,4 +1,4 @@
-use Rattle.std.proofs.Common.{Some, None, refl, sym}
+use Rattle.std.proofs.Common.{None, refl}
 use Rattle.dk_model.specs.Runs as act
 use Rattle.dk_txn.proofs.Kit.{same_error}
 use Rattle.dk_txn.proofs.ObjectCalls.{change_does, change_refused}

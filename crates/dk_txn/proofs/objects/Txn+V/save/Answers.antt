@@ -1,4 +1,4 @@
-use Rattle.std.proofs.Common.{◌≡◌, Some, None, refl, sym, ap, ◌∙◌}
+use Rattle.std.proofs.Common.{Some, sym, ap, ◌∙◌}
 use Rattle.dk_types.specs.declared.object.Object.{Object}
 use Rattle.dk_model.specs.Runs as act
 use Rattle.dk_overlay.proofs.Tests.{Some_injective}

@@ -1,5 +1,4 @@
-use Rattle.std.proofs.Common.{◌+◌, ap, arith}
-use Rattle.dk_overlay.specs.declared.change.Scheduled.{Scheduled}
+use Rattle.std.proofs.Common.{ap, arith}
 use Rattle.dk_txn.proofs.TaskCalls.{add_many, add_does, scheduled_at}
 use Rattle.dk_txn.proofs.tasks.Txn+V.add_task.Goals as goal
 
