@@ -7,9 +7,9 @@
 
 pub use channel::{Channel, create_channel, get_channel, members, record_of, recorded};
 pub use dk_refs::{ChannelRecord, Delivery};
+pub use joining::join;
 pub use leaving::{leave, leave_all};
 pub use lists::is_member;
-pub use joining::join;
 pub use sending::send;
 
 pub mod channel;

@@ -24,7 +24,10 @@ pub(crate) fn is_sender(sender: Option<&Session>, members: &[Session]) -> bool
 }
 
 /// The members with the session behind them.
-pub(crate) fn with_member(members: Listed<Session>, session: &Session) -> Result<Listed<Session>, NoMemory>
+pub(crate) fn with_member(
+    members: Listed<Session>,
+    session: &Session,
+) -> Result<Listed<Session>, NoMemory>
     ensures { IfOk result (λ all. all ≡ members ++ session.now ∷ []) }
 {
     let mut all = members.into_vec();
@@ -33,10 +36,18 @@ pub(crate) fn with_member(members: Listed<Session>, session: &Session) -> Result
 }
 
 /// The members but for the session.
-pub(crate) fn without_member(alloc: Global, members: Listed<Session>, session: &Session) -> Result<Listed<Session>, NoMemory>
+pub(crate) fn without_member(
+    alloc: Global,
+    members: Listed<Session>,
+    session: &Session,
+) -> Result<Listed<Session>, NoMemory>
     ensures { IfOk result (λ left. left ≡ members_without session.now members) }
 {
-    let left = members.into_vec().into_iter().filter(|member| session != member).collect(alloc)?;
+    let left = members
+        .into_vec()
+        .into_iter()
+        .filter(|member| session != member)
+        .collect(alloc)?;
     Ok(Listed::from_vec(left))
 }
 
@@ -50,9 +61,17 @@ pub(crate) fn with_channel(channels: Listed<Name>, name: &Name) -> Result<Listed
 }
 
 /// The channels but for this one.
-pub(crate) fn without_channel(alloc: Global, channels: Listed<Name>, name: &Name) -> Result<Listed<Name>, NoMemory>
+pub(crate) fn without_channel(
+    alloc: Global,
+    channels: Listed<Name>,
+    name: &Name,
+) -> Result<Listed<Name>, NoMemory>
     ensures { IfOk result (λ left. left ≡ channels_without name.now channels) }
 {
-    let left = channels.into_vec().into_iter().filter(|channel| name != channel).collect(alloc)?;
+    let left = channels
+        .into_vec()
+        .into_iter()
+        .filter(|channel| name != channel)
+        .collect(alloc)?;
     Ok(Listed::from_vec(left))
 }
