@@ -5,7 +5,6 @@ use Rattle.std.specs.Option.{ok_or}
 use Rattle.std.specs.Result.{IsErrAnd, IfErr}
 use Rattle.std.specs.FinMap as map
 use Rattle.dk_types.specs.declared.number.ObjectId.{ObjectId}
-use Rattle.dk_types.specs.declared.number.TaskKey.{TaskKey}
 use Rattle.dk_types.specs.declared.object.Object.{Object}
 use Rattle.dk_types.specs.declared.item.Item.{Item}
 use Rattle.dk_types.specs.declared.item.Read.{Read}
@@ -21,7 +20,7 @@ use Rattle.dk_txn.specs.declared.refusal.Refusal.{Refusal}
 use Rattle.dk_txn.specs.declared.refusal.Refusal.TheVariants as refusal
 use Rattle.dk_txn.specs.declared.txn.Txn.{Txn}
 use Rattle.dk_txn.specs.Refusals.{refusal_fault}
-use Rattle.dk_txn.specs.Does.{DoesFor, Does, Every, failure}
+use Rattle.dk_txn.specs.Does.{Does, failure}
 use Rattle.dk_txn.proofs.Kit.{keeps_all, then_does, give_does, stops}
 use Rattle.dk_txn.proofs.ObjectCalls.{refused_here}
 use Rattle.dk_refs.specs.Telling.{kind_of, TellsKind}

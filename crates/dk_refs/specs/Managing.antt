@@ -23,6 +23,7 @@ reads_again Fits spelling reading exact payload value fits is = ap (λ bytes. va
 
 -- a form that is exact reads whole payloads exactly: the law of a managed type that has a form
 pub reads_exactly : {A : Type 0} (Fits : A → Type 0) (spelling : A → List ℕ) (reading : Rest → Result (A × Rest) ℕ) → IsExact Fits spelling reading → ReadsExactly Fits spelling (value_of reading)
-reads_exactly Fits spelling reading exact payload each value =
-    (λ e. let took = whole_takes Fits spelling reading exact payload value each (ok_of (whole reading payload) value e) in (took.0, sym took.1),
-     λ is. reads_again Fits spelling reading exact payload value is.0 (sym is.1))
+reads_exactly Fits spelling reading exact payload each value = (
+  λ e. let took = whole_takes Fits spelling reading exact payload value each (ok_of (whole reading payload) value e) in (took.0, sym took.1),
+  λ is. reads_again Fits spelling reading exact payload value is.0 (sym is.1),
+)

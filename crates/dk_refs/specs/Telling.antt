@@ -4,7 +4,6 @@ use Rattle.std.specs.FinMap.{get}
 use Rattle.dk_types.specs.declared.number.ObjectId.{ObjectId}
 use Rattle.dk_types.specs.declared.object.Object.{Object}
 use Rattle.dk_model.specs.DurableWorlds.{DurableWorld, Agrees}
-use Rattle.dk_model.specs.Runs.{Run}
 use Rattle.dk_overlay.specs.Logged.{Logged, current}
 use Rattle.dk_txn.specs.declared.refusal.Refusal.{Refusal}
 use Rattle.dk_txn.specs.declared.refusal.Refusal.TheVariants as refusal

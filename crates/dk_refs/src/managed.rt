@@ -34,10 +34,7 @@ pub trait Managed: Drop {
 }
 
 /// The value that the bytes are in a form, where they are one: `decode` of a type that has a form.
-pub fn decode_as<T: Drop, F: Form<T>>(
-    alloc: Global,
-    payload: &[u8],
-) -> Result<Option<T>, NoMemory>
+pub fn decode_as<T: Drop, F: Form<T>>(alloc: Global, payload: &[u8]) -> Result<Option<T>, NoMemory>
     ensures { IfOk result (λ value. value ≡ value_of (F.reading None) payload.now) }
 {
     match decode::<T, F>(alloc, payload) {

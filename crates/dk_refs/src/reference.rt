@@ -87,11 +87,7 @@ impl<T: Managed> ManagedRef<T> {
 
     /// The object's value, which the run is to change: the object is written as it is, so that it gets a new stamp
     /// (`ManagedReference.getForUpdate`). Refuses 2, 3, 10, 6.
-    pub fn get_for_update<V: View>(
-        &self,
-        alloc: Global,
-        txn: &mut Txn<'_, V>,
-    ) -> Result<T, Refusal>
+    pub fn get_for_update<V: View>(&self, alloc: Global, txn: &mut Txn<'_, V>) -> Result<T, Refusal>
         ensures does { Does V.gave refusal_fault txn.old txn.new (get_for_update_as T.KIND T.of self.now) result }
         ensures refused { OnErr result (SameChanges txn.old.log txn.new.log) }
         ensures kind { IfErr result (TellsKind txn.new.log self.now) }

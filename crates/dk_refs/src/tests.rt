@@ -56,7 +56,10 @@ fn a_sign_is_made_read_and_taken_away(rt: HostRuntime) -> Result<(), Fail> {
     assert_eq!(rt; read.as_slice(), b"north".as_slice());
     assert_eq!(rt; sign.mark_for_update(&mut txn), Ok(()));
     assert_eq!(rt; sign.remove(&mut txn), Ok(()));
-    assert_eq!(rt; sign.get(alloc, &mut txn).err(), Some(Refusal::ObjectNotFound));
+    assert_eq!(rt;
+        sign.get(alloc, &mut txn).err(),
+        Some(Refusal::ObjectNotFound)
+    );
     Ok(())
 }
 

@@ -1,4 +1,5 @@
 pub mod Kit
+pub mod Lookups
 pub mod Reading
 pub mod ObjectCalls
 pub mod NameCalls

@@ -1,0 +1,10 @@
+use Rattle.dk_model.specs.declared.mode.Mode.TheVariants.{Platform}
+use Rattle.dk_model.specs.Platforms as platform
+use Rattle.dk_txn.proofs.Kit.{within_does}
+use Rattle.dk_channels.proofs.channel.open_channel.Goals as goal
+
+pub returns : goal.returns
+unfolding platform.create_channel
+returns g c =
+    within_does Platform c.set_mode-before.ensures.same_view c.set_mode-before.ensures.view_stays c.set_mode-before.ensures.mode c.make_channel-end.ensures
+    c.set_mode.ensures.same_view c.set_mode.ensures.view_stays (rw c.set_mode-before.ensures.old at c.set_mode.ensures.mode)

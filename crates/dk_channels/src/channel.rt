@@ -1,0 +1,177 @@
+//! Channels and their records.
+ghost use Rattle.std.specs.Prelude.{◌≡◌, Some, IfOk, MatchOption, true, false};
+ghost use Rattle.dk_model.specs.Records.{channel_name, is_name_too_long};
+ghost use Rattle.dk_model.specs.Platforms as platform;
+ghost use Rattle.dk_txn.specs.Does.{Does};
+ghost use Rattle.dk_txn.specs.Refusals.{refusal_fault, TellsLength};
+ghost use Rattle.dk_types.specs.declared.fault.AppFault.TheVariants.{Refused};
+ghost use Rattle.dk_channels.specs.Channels as acts;
+
+use dk_model::Mode;
+use dk_refs::{ChannelRecord, Delivery, ManagedRef};
+use dk_txn::{Refusal, Txn, View};
+use dk_types::{Listed, Name, NoMemory, ObjectId, Session};
+use std::alloc::Global;
+
+/// A channel, by its name (`Channel`).
+#[derive(Clone, Debug, Drop, PartialEq, Eq)]
+pub struct Channel {
+    pub name: Name,
+}
+
+/// The platform name of a channel's record; none where it would pass 255 bytes.
+fn key_of(alloc: Global, name: &Name) -> Result<Option<Name>, NoMemory>
+    ensures { IfOk result (λ key. MatchOption key (is_name_too_long (channel_name name.now) ≡ true) (λ key. (key ≡ channel_name name.now) × (is_name_too_long (channel_name name.now) ≡ false))) }
+{
+    name.with_prefix(alloc, "$c.")
+}
+
+/// The refusal of a name that is too long for a channel.
+fn name_too_long(name: &Name) -> Refusal
+    ensures told { refusal_fault result ≡ Some (Refused 4) }
+    ensures length { TellsLength (channel_name name.now) result }
+{
+    Refusal::TooLong {
+        len: 3 + name.as_slice().len() as u64,
+    }
+}
+
+/// Makes a channel without members (`ChannelManager.createChannel`). Where a game listens, what its members send goes to the
+/// game alone. Refuses 4 where `$c.` and the name pass 255 bytes, 9 where there is such a channel, 8.
+pub fn create_channel<V: View>(
+    alloc: Global,
+    txn: &mut Txn<'_, V>,
+    name: &Name,
+    listener: bool,
+    delivery: Delivery,
+) -> Result<Channel, Refusal>
+    ensures { Does V.gave refusal_fault txn.old txn.new (acts.create_channel name.now listener delivery) result }
+{
+    open_channel(alloc, txn, name, listener, delivery)?;
+    Ok(Channel {
+        name: name.clone()?,
+    })
+}
+
+fn open_channel<V: View>(
+    alloc: Global,
+    txn: &mut Txn<'_, V>,
+    name: &Name,
+    listener: bool,
+    delivery: Delivery,
+) -> Result<(), Refusal>
+    ensures { Does V.gave refusal_fault txn.old txn.new (platform.create_channel name.now listener delivery) result }
+{
+    let before = txn.set_mode(Mode::Platform);
+    let end = make_channel(alloc, txn, name, listener, delivery);
+    txn.set_mode(before);
+    end
+}
+
+fn make_channel<V: View>(
+    alloc: Global,
+    txn: &mut Txn<'_, V>,
+    name: &Name,
+    listener: bool,
+    delivery: Delivery,
+) -> Result<(), Refusal>
+    ensures { Does V.gave refusal_fault txn.old txn.new (platform.new_channel name.now listener delivery) result }
+{
+    let key = match key_of(alloc, name)? {
+        None => return Err(name_too_long(name)),
+        Some(key) => key,
+    };
+    match txn.binding(&key)? {
+        Some(_) => Err(Refusal::NameExists),
+        None => record_under(alloc, txn, &key, listener, delivery),
+    }
+}
+
+/// Makes the record of a channel without members, under a name.
+fn record_under<V: View>(
+    alloc: Global,
+    txn: &mut Txn<'_, V>,
+    key: &Name,
+    listener: bool,
+    delivery: Delivery,
+) -> Result<(), Refusal>
+    ensures { Does V.gave refusal_fault txn.old txn.new (acts.recording key.now listener delivery) result }
+{
+    let record = ChannelRecord {
+        listener,
+        delivery,
+        members: Listed::from_vec(Vec::new(alloc)),
+    };
+    let made = ManagedRef::create(alloc, txn, &record)?;
+    txn.bind(key, made.id())
+}
+
+/// The id of the record of a channel, where one is bound.
+pub fn recorded<V: View>(
+    alloc: Global,
+    txn: &mut Txn<'_, V>,
+    name: &Name,
+) -> Result<Option<ObjectId>, Refusal>
+    ensures { Does V.gave refusal_fault txn.old txn.new (acts.recorded name.now) result }
+{
+    match key_of(alloc, name)? {
+        None => Ok(None),
+        Some(key) => txn.binding(&key),
+    }
+}
+
+/// The channel of a name (`ChannelManager.getChannel`). Refuses 4, 1.
+pub fn get_channel<V: View>(
+    alloc: Global,
+    txn: &mut Txn<'_, V>,
+    name: &Name,
+) -> Result<Channel, Refusal>
+    ensures { Does V.gave refusal_fault txn.old txn.new (acts.get_channel name.now) result }
+{
+    find_channel(alloc, txn, name)?;
+    Ok(Channel {
+        name: name.clone()?,
+    })
+}
+
+fn find_channel<V: View>(alloc: Global, txn: &mut Txn<'_, V>, name: &Name) -> Result<(), Refusal>
+    ensures { Does V.gave refusal_fault txn.old txn.new (platform.get_channel name.now) result }
+{
+    match key_of(alloc, name)? {
+        None => Err(name_too_long(name)),
+        Some(key) => {
+            txn.bound(&key)?;
+            Ok(())
+        }
+    }
+}
+
+/// The channel's record, with the reference to it. Refuses 1, and 2, 3, 10 where the name does not lead to a record.
+pub fn record_of<V: View>(
+    alloc: Global,
+    txn: &mut Txn<'_, V>,
+    name: &Name,
+) -> Result<(ManagedRef<ChannelRecord>, ChannelRecord), Refusal>
+    ensures { Does V.gave refusal_fault txn.old txn.new (platform.channel_under name.now) result }
+{
+    match recorded(alloc, txn, name)? {
+        None => Err(Refusal::NameNotBound),
+        Some(id) => {
+            let reference = ManagedRef::of(id);
+            let record = reference.get(alloc, txn)?;
+            Ok((reference, record))
+        }
+    }
+}
+
+/// The members, in joining order (`Channel.getSessions`). Refuses 1.
+pub fn members<V: View>(
+    alloc: Global,
+    txn: &mut Txn<'_, V>,
+    channel: &Channel,
+) -> Result<Listed<Session>, Refusal>
+    ensures { Does V.gave refusal_fault txn.old txn.new (platform.members channel.now.name) result }
+{
+    let (_, record) = record_of(alloc, txn, &channel.name)?;
+    Ok(record.members)
+}

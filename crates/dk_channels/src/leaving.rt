@@ -1,0 +1,171 @@
+//! Leaving a channel.
+ghost use Rattle.std.specs.Prelude.{◌≡◌, [], IfOk};
+ghost use Rattle.dk_model.specs.Records.{channel_bytes, session_bytes};
+ghost use Rattle.dk_model.specs.Platforms as platform;
+ghost use Rattle.dk_model.specs.Runs as act;
+ghost use Rattle.dk_txn.specs.Does.{Does};
+ghost use Rattle.dk_txn.specs.Refusals.{refusal_fault};
+
+use crate::channel::{Channel, record_of};
+use crate::lists::{is_member, without_channel, without_member};
+use crate::saving::save_both;
+use dk_model::Mode;
+use dk_refs::{ChannelRecord, Delivery, Managed, ManagedRef, SessionRecord};
+use dk_sessions::{own_record, record_if_connected};
+use dk_txn::{Refusal, Txn, View};
+use dk_types::{Blob, Listed, Name, NoMemory, Session};
+use std::alloc::Global;
+
+/// Takes the session from the channel's members, and the channel from the session's record (`Channel.leave`). A leave of one
+/// who is no member changes nothing. Looks at the channel first, then at the session. Refuses 1.
+pub fn leave<V: View>(
+    alloc: Global,
+    txn: &mut Txn<'_, V>,
+    channel: &Channel,
+    session: &Session,
+) -> Result<(), Refusal>
+    ensures { Does V.gave refusal_fault txn.old txn.new (platform.leave channel.now.name session.now) result }
+{
+    let before = txn.set_mode(Mode::Platform);
+    let end = step_out(alloc, txn, &channel.name, session);
+    txn.set_mode(before);
+    end
+}
+
+fn step_out<V: View>(
+    alloc: Global,
+    txn: &mut Txn<'_, V>,
+    name: &Name,
+    session: &Session,
+) -> Result<(), Refusal>
+    ensures { Does V.gave refusal_fault txn.old txn.new (act.and_then (platform.channel_under name.now) (λ c. act.and_then (platform.own_record session.now) (λ r. platform.leave_records name.now session.now c r))) result }
+{
+    let channel = record_of(alloc, txn, name)?;
+    let own = own_record(alloc, txn, session)?;
+    leave_records(alloc, txn, name, session, channel, own)
+}
+
+fn leave_records<V: View>(
+    alloc: Global,
+    txn: &mut Txn<'_, V>,
+    name: &Name,
+    session: &Session,
+    channel: (ManagedRef<ChannelRecord>, ChannelRecord),
+    own: (ManagedRef<SessionRecord>, SessionRecord),
+) -> Result<(), Refusal>
+    ensures { Does V.gave refusal_fault txn.old txn.new (platform.leave_records name.now session.now channel own) result }
+{
+    if !is_member(session, channel.1.members.as_slice()) {
+        return Ok(());
+    }
+    let (channel, record) = channel;
+    let record = ChannelRecord {
+        listener: record.listener,
+        delivery: record.delivery,
+        members: without_member(alloc, record.members, session)?,
+    };
+    let (own, sessions) = own;
+    let sessions = SessionRecord {
+        conn: sessions.conn,
+        channels: without_channel(alloc, sessions.channels, name)?,
+    };
+    save_both(alloc, txn, (channel, record), (own, sessions))
+}
+
+/// Every member leaves, in joining order (`Channel.leaveAll`). A member whose session is not recorded with its number loses its
+/// place among the members alone. Refuses 1.
+pub fn leave_all<V: View>(
+    alloc: Global,
+    txn: &mut Txn<'_, V>,
+    channel: &Channel,
+) -> Result<(), Refusal>
+    ensures { Does V.gave refusal_fault txn.old txn.new (platform.leave_all channel.now.name) result }
+{
+    let before = txn.set_mode(Mode::Platform);
+    let end = empty_out(alloc, txn, &channel.name);
+    txn.set_mode(before);
+    end
+}
+
+fn empty_out<V: View>(alloc: Global, txn: &mut Txn<'_, V>, name: &Name) -> Result<(), Refusal>
+    ensures { Does V.gave refusal_fault txn.old txn.new (act.and_then (platform.channel_under name.now) (λ c. platform.leave_members name.now c c.1.members)) result }
+{
+    let channel = record_of(alloc, txn, name)?;
+    leave_members(alloc, txn, name, channel)
+}
+
+/// The bytes of a channel's record without members.
+fn emptied(alloc: Global, listener: bool, delivery: Delivery) -> Result<Blob, NoMemory>
+    ensures { IfOk result (λ payload. payload ≡ channel_bytes (record { listener = listener; delivery = delivery; members = [] })) }
+{
+    let record = ChannelRecord {
+        listener,
+        delivery,
+        members: Listed::from_vec(Vec::new(alloc)),
+    };
+    record.encode(alloc)
+}
+
+fn leave_members<V: View>(
+    alloc: Global,
+    txn: &mut Txn<'_, V>,
+    name: &Name,
+    channel: (ManagedRef<ChannelRecord>, ChannelRecord),
+) -> Result<(), Refusal>
+    ensures { Does V.gave refusal_fault txn.old txn.new (platform.leave_members name.now channel channel.1.members) result }
+{
+    let (place, record) = channel;
+    let members = record.members;
+    if members.as_slice().is_empty() {
+        return Ok(());
+    }
+    let payload = emptied(alloc, record.listener, record.delivery)?;
+    txn.save(place.id(), payload)?;
+    drop_each(alloc, txn, name, members.as_slice())
+}
+
+fn drop_each<V: View>(
+    alloc: Global,
+    txn: &mut Txn<'_, V>,
+    name: &Name,
+    members: &[Session],
+) -> Result<(), Refusal>
+    ensures { Does V.gave refusal_fault txn.old txn.new (platform.drop_each name.now members.now) result }
+{
+    for member in members {
+        drop_channel(alloc, txn, name, member)?;
+    }
+    Ok(())
+}
+
+/// Takes the channel from the record of a session that is recorded with its number.
+fn drop_channel<V: View>(
+    alloc: Global,
+    txn: &mut Txn<'_, V>,
+    name: &Name,
+    session: &Session,
+) -> Result<(), Refusal>
+    ensures { Does V.gave refusal_fault txn.old txn.new (platform.drop_channel name.now session.now) result }
+{
+    match record_if_connected(alloc, txn, session)? {
+        None => Ok(()),
+        Some(found) => drop_from(alloc, txn, name, found),
+    }
+}
+
+fn drop_from<V: View>(
+    alloc: Global,
+    txn: &mut Txn<'_, V>,
+    name: &Name,
+    own: (ManagedRef<SessionRecord>, SessionRecord),
+) -> Result<(), Refusal>
+    ensures { Does V.gave refusal_fault txn.old txn.new (act.save own.0 (session_bytes (record (own.1) { channels = platform.without_channel name.now own.1.channels }))) result }
+{
+    let (place, sessions) = own;
+    let sessions = SessionRecord {
+        conn: sessions.conn,
+        channels: without_channel(alloc, sessions.channels, name)?,
+    };
+    let payload = sessions.encode(alloc)?;
+    txn.save(place.id(), payload)
+}

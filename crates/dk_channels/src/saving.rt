@@ -1,0 +1,64 @@
+//! Saving a channel's record and a session's as one.
+ghost use Rattle.std.specs.Prelude.{◌≡◌, Some};
+ghost use Rattle.dk_types.specs.declared.fault.AppFault.TheVariants.{Refused};
+ghost use Rattle.dk_model.specs.Records.{channel_bytes, session_bytes};
+ghost use Rattle.dk_model.specs.Platforms as platform;
+ghost use Rattle.dk_model.specs.Runs as act;
+ghost use Rattle.dk_txn.specs.Does.{Does};
+ghost use Rattle.dk_txn.specs.Refusals.{refusal_fault, TellsLength};
+
+use dk_model::limits::BODY_MOST_BYTES;
+use dk_refs::{ChannelRecord, Managed, ManagedRef, SessionRecord};
+use dk_txn::{Refusal, Txn, View};
+use dk_types::{Blob, ObjectId};
+use std::alloc::Global;
+
+/// Whether bytes are too long for an object.
+pub(crate) fn is_too_long(payload: &Blob) -> bool
+    ensures { result ≡ act.is_too_long payload.now }
+{
+    payload.as_slice().len() as u64 > BODY_MOST_BYTES
+}
+
+/// The refusal of bytes that are too long.
+pub(crate) fn too_long(payload: &Blob) -> Refusal
+    ensures told { refusal_fault result ≡ Some (Refused 4) }
+    ensures length { TellsLength payload.now result }
+{
+    Refusal::TooLong {
+        len: payload.as_slice().len() as u64,
+    }
+}
+
+/// Saves both records, or neither where one would pass its length.
+pub(crate) fn save_both<V: View>(
+    alloc: Global,
+    txn: &mut Txn<'_, V>,
+    channel: (ManagedRef<ChannelRecord>, ChannelRecord),
+    session: (ManagedRef<SessionRecord>, SessionRecord),
+) -> Result<(), Refusal>
+    ensures { Does V.gave refusal_fault txn.old txn.new (platform.save_both channel.0 (channel_bytes channel.1) session.0 (session_bytes session.1)) result }
+{
+    let first = channel.1.encode(alloc)?;
+    let second = session.1.encode(alloc)?;
+    if is_too_long(&first) {
+        return Err(too_long(&first));
+    }
+    if is_too_long(&second) {
+        return Err(too_long(&second));
+    }
+    save_payloads(txn, channel.0.id(), first, session.0.id(), second)
+}
+
+fn save_payloads<V: View>(
+    txn: &mut Txn<'_, V>,
+    first: ObjectId,
+    payload: Blob,
+    second: ObjectId,
+    behind: Blob,
+) -> Result<(), Refusal>
+    ensures { Does V.gave refusal_fault txn.old txn.new (act.and_then (act.save first payload) (λ _. act.save second behind)) result }
+{
+    txn.save(first, payload)?;
+    txn.save(second, behind)
+}

@@ -1,0 +1,65 @@
+//! Sending on a channel.
+ghost use Rattle.std.specs.Prelude.{◌≡◌, false, IfOk};
+ghost use Rattle.std.specs.Option.{option_copied};
+ghost use Rattle.dk_types.specs.declared.job.Out.TheVariants as out;
+ghost use Rattle.dk_model.specs.Platforms as platform;
+ghost use Rattle.dk_model.specs.Runs as act;
+ghost use Rattle.dk_txn.specs.Does.{Does};
+ghost use Rattle.dk_txn.specs.Refusals.{refusal_fault};
+
+use crate::channel::{Channel, record_of};
+use crate::lists::is_sender;
+use crate::saving::{is_too_long, too_long};
+use dk_txn::{Refusal, Txn, View};
+use dk_types::{Blob, Name, NoMemory, Out, Session};
+use std::alloc::Global;
+
+/// A message to each member, in joining order (`Channel.send`). Nothing is sent for a sender who is no member. Refuses 1, 4, 8;
+/// refused, it sends to nobody.
+pub fn send<V: View>(
+    alloc: Global,
+    txn: &mut Txn<'_, V>,
+    channel: &Channel,
+    sender: Option<&Session>,
+    body: &Blob,
+) -> Result<(), Refusal>
+    ensures { Does V.gave refusal_fault txn.old txn.new (platform.channel_send channel.now.name (option_copied sender.entry) body.now) result }
+{
+    let (_, record) = record_of(alloc, txn, &channel.name)?;
+    if is_too_long(body) {
+        return Err(too_long(body));
+    }
+    if !is_sender(sender, record.members.as_slice()) {
+        return Ok(());
+    }
+    send_each(txn, record.members.as_slice(), &channel.name, body)
+}
+
+/// The message that a member gets.
+fn letter(channel: &Name, body: &Blob) -> Result<Out, NoMemory>
+    ensures { IfOk result (λ message. message ≡ out.Channel channel.now body.now) }
+{
+    Ok(Out::Channel {
+        channel: channel.clone()?,
+        body: body.clone()?,
+    })
+}
+
+fn send_each<V: View>(
+    txn: &mut Txn<'_, V>,
+    members: &[Session],
+    channel: &Name,
+    body: &Blob,
+) -> Result<(), Refusal>
+    requires { act.is_too_long body.now ≡ false }
+    ensures { Does V.gave refusal_fault txn.old txn.new (platform.send_each members.now (out.Channel channel.now body.now)) result }
+{
+    if !txn.has_room_for(members.len() as u64) {
+        return Err(Refusal::TooMany);
+    }
+    for member in members {
+        let message = letter(channel, body)?;
+        txn.send(member.conn, message)?;
+    }
+    Ok(())
+}
