@@ -54,12 +54,7 @@ fn enter<V: View>(alloc: Global, txn: &mut Txn<'_, V>, player: ObjectId) -> Resu
     Ok(())
 }
 
-fn log_in<V: View>(
-    alloc: Global,
-    txn: &mut Txn<'_, V>,
-    name: &Name,
-    key: &Name,
-) -> Result<(), Halt>
+fn log_in<V: View>(alloc: Global, txn: &mut Txn<'_, V>, name: &Name, key: &Name) -> Result<(), Halt>
     requires { key.now ≡ rules.player_name name.now }
     ensures { Does V.gave halt_fault txn.old txn.new (rules.log_in name.now) result }
 {
@@ -78,12 +73,7 @@ pub fn login<V: View>(alloc: Global, txn: &mut Txn<'_, V>, name: &Name) -> Resul
 }
 
 /// The room without the player, and with what it carried.
-fn room_left(
-    alloc: Global,
-    me: ObjectId,
-    player: &Player,
-    room: Room,
-) -> Result<Room, NoMemory>
+fn room_left(alloc: Global, me: ObjectId, player: &Player, room: Room) -> Result<Room, NoMemory>
     ensures { IfOk result (λ left. left ≡ rules.room_left me player.now room) }
 {
     let left = room.without_player(alloc, me)?;
