@@ -1,5 +1,5 @@
 -- What the calls that read a session's record do, from the calls that they made.
-use Rattle.std.proofs.Common.{◌≡◌, ℕ, Bool, true, false, if◌then◌else◌, nat_eq, Option, Some, None, is_some, List, Result, Ok, Err, refl, sym, ap, subst, ◌∙◌, arith}
+use Rattle.std.proofs.Common.{◌≡◌, ℕ, Bool, true, false, if◌then◌else◌, nat_eq, Option, Some, None, is_some, List, Result, Ok, Err, refl, sym, subst, arith}
 use Rattle.std.proofs.lemmas.Bool.Decides.{nat_tests}
 use Rattle.std.specs.Result.{IsErrAnd}
 use Rattle.dk_types.specs.declared.number.ObjectId.{ObjectId}
@@ -9,7 +9,7 @@ use Rattle.dk_types.specs.declared.item.Read.{Read}
 use Rattle.dk_types.specs.declared.job.Out.TheVariants as out
 use Rattle.dk_types.specs.declared.fault.AppFault.TheVariants.{Refused}
 use Rattle.dk_model.specs.declared.records.SessionRecord.{SessionRecord}
-use Rattle.dk_model.specs.Runs.{Run, Act, and_then, give, refuse, send}
+use Rattle.dk_model.specs.Runs.{Run, Act, and_then, give, send}
 use Rattle.dk_model.specs.References.{get_as}
 use Rattle.dk_model.specs.Records.{SESSION_KIND, session_of, session_name, is_name_too_long}
 use Rattle.dk_model.specs.Platforms.{platform_bound, found_as, numbered, recorded_as, session_under, own_record, record_if_connected, is_connected, find_session, session_send}

@@ -6,8 +6,8 @@
 #![tactic(auto)]
 
 pub use opening::{close_record, open_record};
-pub use records::{find, is_connected, own_record, record_if_connected};
 pub use recorded::{is_recorded, session_name};
+pub use records::{find, is_connected, own_record, record_if_connected};
 pub use sending::send;
 
 pub mod opening;

@@ -89,11 +89,7 @@ pub fn is_connected<V: View>(
 }
 
 /// The session that is recorded under a login name. Refuses 4, 1, and then 2, 3 and 10 of the record.
-pub fn find<V: View>(
-    alloc: Global,
-    txn: &mut Txn<'_, V>,
-    name: &Name,
-) -> Result<Session, Refusal>
+pub fn find<V: View>(alloc: Global, txn: &mut Txn<'_, V>, name: &Name) -> Result<Session, Refusal>
     ensures does { Does V.gave refusal_fault txn.old txn.new (platform.find_session name.now) result }
     ensures same_changes { SameChanges txn.old.log txn.new.log }
 {

@@ -69,7 +69,10 @@ fn a_session_is_found_by_its_name(rt: HostRuntime) -> Result<(), Fail> {
     assert_eq!(rt; found.conn.0, 1);
     assert!(rt; found.name == name);
     let bob = text(alloc, b"bob")?;
-    assert_eq!(rt; find(alloc, &mut txn, &bob).err(), Some(Refusal::NameNotBound));
+    assert_eq!(rt;
+        find(alloc, &mut txn, &bob).err(),
+        Some(Refusal::NameNotBound)
+    );
     Ok(())
 }
 
@@ -116,8 +119,14 @@ fn a_record_is_closed_by_its_own_session_alone(rt: HostRuntime) -> Result<(), Fa
     let mut view = recorded(alloc)?;
     let mut txn = Txn::begin(alloc, &mut view, RunNo(9), 0);
     txn.set_mode(Mode::Game);
-    assert_eq!(rt; open_record(alloc, &mut txn, &second), Err(Refusal::NameExists));
-    assert_eq!(rt; close_record(alloc, &mut txn, &second), Err(Refusal::NameNotBound));
+    assert_eq!(rt;
+        open_record(alloc, &mut txn, &second),
+        Err(Refusal::NameExists)
+    );
+    assert_eq!(rt;
+        close_record(alloc, &mut txn, &second),
+        Err(Refusal::NameNotBound)
+    );
     assert_eq!(rt; close_record(alloc, &mut txn, &first), Ok(()));
     assert_eq!(rt; is_recorded(alloc, &mut txn, &first.name), Ok(false));
     assert_eq!(rt; open_record(alloc, &mut txn, &second), Ok(()));

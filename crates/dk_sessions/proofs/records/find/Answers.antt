@@ -1,4 +1,4 @@
-use Rattle.std.proofs.Common.{◌≡◌, true, false, sym, ◌∙◌, rules}
+use Rattle.std.proofs.Common.{◌≡◌, sym, ◌∙◌, rules}
 use Rattle.dk_sessions.proofs.Lookups.{find_long, find_stops, find_does}
 use Rattle.dk_sessions.proofs.records.find.Goals as goal
 
@@ -9,6 +9,6 @@ pub returns-in_err-found-clause-does : goal.returns-in_err-found-clause-does
 returns-in_err-found-clause-does g c = find_stops c.args.name.now (sym c.is_too_long.ensures ∙ c.if-is_too_long.false) c.in_err-found.ensures.does c.from_residual.ensures.1
 
 pub returns-clause-does : goal.returns-clause-does
-returns-clause-does g c = 
+returns-clause-does g c =
     let same : c.in_ok-copy.copy ≡ c.args.name.now = search rules in
     find_does c.args.name.now (sym c.is_too_long.ensures ∙ c.if-is_too_long.false) c.in_ok-found.ensures.does same
