@@ -2,6 +2,7 @@ pub mod AfterCommit
 pub mod Claiming
 pub mod Forgotten
 pub mod Keys
+pub mod LawfulSteps
 pub mod MapFacts
 pub mod Opening
 pub mod Reading

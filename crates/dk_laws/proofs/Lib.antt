@@ -3,9 +3,9 @@ pub mod OneWorld
 pub mod Numbers
 pub mod ClaimedOnce
 pub mod EffectsMade
-pub mod StepDue
 pub mod Handed
 pub mod Stamps
+pub mod StepDues
 pub mod Entries
 pub mod Picked
 pub mod OpenClaims
