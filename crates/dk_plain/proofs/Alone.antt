@@ -1,5 +1,5 @@
 -- A run that is alone on the world: all that it reads is the world's, and it may be committed next.
-use Rattle.std.proofs.Common.{◌≡◌, ℕ, ◌+◌, ◌^◌, ◌<◌, ◌≤◌, Result, Ok, Err, IfOk, arith, length, List, [], ◌∷◌, refl, sym, ap, subst, ◌∙◌}
+use Rattle.std.proofs.Common.{◌≡◌, ℕ, Result, Ok, Err, IfOk, length, List, [], ◌∷◌, refl, sym, ap, subst, ◌∙◌}
 use Rattle.std.proofs.lemmas.List.{length-map}
 use Rattle.std.specs.List.{AllByRecursion}
 use Rattle.std.specs.FinMap as map
@@ -8,7 +8,7 @@ use Rattle.dk_types.specs.declared.item.Item.{Item}
 use Rattle.dk_types.specs.declared.item.Read.{Read}
 use Rattle.dk_types.specs.declared.job.Job.{Job}
 use Rattle.dk_types.specs.declared.job.Job.TheVariants as job
-use Rattle.dk_model.specs.DurableWorlds.{DurableWorld, Agrees}
+use Rattle.dk_model.specs.DurableWorlds.{Agrees}
 use Rattle.dk_model.specs.Validity.{IsValid}
 use Rattle.dk_model.specs.Events.{Meaning}
 use Rattle.dk_model.specs.Steps.{step}

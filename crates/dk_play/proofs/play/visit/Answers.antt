@@ -19,20 +19,20 @@ returns-in_default g c =
     subst (λ ls. VisitsAll rules d ls c.args.events.now.items d) (sym (no_length _ c.in_default.ensures.cases))
     (subst (λ es. VisitsAll rules d [] es d) (sym c.requires.start) (visits-nobody rules d c.requires.quiet))
 
-pub hand-hand-requires : goal.hand-hand-requires
-hand-hand-requires g c = omega (arith, c.in_ok-serve_all.ensures.fit.places)
+pub hand-world-requires : goal.hand-world-requires
+hand-world-requires g c = omega (arith, c.in_ok-serve_all.ensures.fit.places)
 
 pub returns : goal.returns
 returns g c =
     let rules = g.G.Rules.rules c.args.game.now in
     let d = durable_of c.args.world in
     let p = c.serve_all.new.self in
-    subst (λ (w : PlainWorld). VisitsAll rules d c.args.lines.now c.push.new.self.items (durable_of w)) (sym c.hand-hand.ensures.world)
+    subst (λ (w : PlainWorld). VisitsAll rules d c.args.lines.now c.push.new.self.items (durable_of w)) (sym c.hand-world.ensures.world)
     (visits-lines rules d (durable_of p.world) p.next c.args.lines.now c.in-Some.sends.now c.in-Some.first.now c.in-Login.name c.in_ok-visitor.visitor p.visitor c.enter.new.events.items c.serve_all.new.events.items c.push.new.self.items
     c.in-Some.ensures.cases.0 c.in-Login.is c.requires.session c.in_ok-visitor.ensures.conn c.in_ok-visitor.ensures.visitor c.in_ok-serve_all.ensures.conn
     (c.in_ok-visitor.ensures.events ∙ ap (λ es. es ++ connect_of (record { 0 = 1 }) c.in-Login.name ∷ map (post_of (record { 0 = 1 })) c.in-Some.sends.now) c.requires.start)
     c.in_ok-serve_all.ensures.serves c.in_ok-serve_all.ensures.quiet
-    (c.in_ok-push.ensures.items ∙ ap (λ (e : Event). c.serve_all.new.events.items ++ e ∷ []) c.hand-hand.ensures.hand))
+    (c.in_ok-push.ensures.items ∙ ap (λ (e : Event). c.serve_all.new.events.items ++ e ∷ []) c.hand-world.ensures.hand))
 
 pub serve_all-requires-clause-fit : goal.serve_all-requires-clause-fit
 serve_all-requires-clause-fit g c =
