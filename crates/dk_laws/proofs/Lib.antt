@@ -3,7 +3,6 @@ pub mod OneWorld
 pub mod Numbers
 pub mod ClaimedOnce
 pub mod EffectsMade
-pub mod StepDue
 pub mod Handed
 pub mod Stamps
 pub mod StepDues

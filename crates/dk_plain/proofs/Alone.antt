@@ -1,5 +1,5 @@
 -- A run that is alone on the world: all that it reads is the world's, and it may be committed next.
-use Rattle.std.proofs.Common.{◌≡◌, ℕ, ◌+◌, ◌^◌, ◌<◌, ◌≤◌, Result, Ok, Err, IfOk, arith, length, List, [], ◌∷◌, refl, sym, ap, subst, ◌∙◌}
+use Rattle.std.proofs.Common.{◌≡◌, ℕ, Result, Ok, Err, IfOk, length, List, [], ◌∷◌, refl, sym, ap, subst, ◌∙◌}
 use Rattle.std.proofs.lemmas.List.{length-map}
 use Rattle.std.specs.List.{AllByRecursion}
 use Rattle.std.specs.FinMap as map
@@ -8,15 +8,13 @@ use Rattle.dk_types.specs.declared.item.Item.{Item}
 use Rattle.dk_types.specs.declared.item.Read.{Read}
 use Rattle.dk_types.specs.declared.job.Job.{Job}
 use Rattle.dk_types.specs.declared.job.Job.TheVariants as job
-use Rattle.dk_model.specs.DurableWorlds.{DurableWorld, Agrees}
+use Rattle.dk_model.specs.DurableWorlds.{Agrees}
 use Rattle.dk_model.specs.Validity.{IsValid}
 use Rattle.dk_model.specs.Events.{Meaning}
 use Rattle.dk_model.specs.Steps.{step}
 use Rattle.dk_model.specs.Finishes.{told_step, KeepsLaw}
 use Rattle.dk_model.specs.Lawful.{AreLawful, IsJob}
-use Rattle.dk_model.proofs.StepLaws.{step_goes_on}
 use Rattle.dk_model.proofs.StepValid.{IsReady}
-use Rattle.dk_laws.proofs.StepDue.{step_due}
 use Rattle.dk_types.specs.declared.fault.NoMemory.{NoMemory}
 use Rattle.dk_overlay.specs.declared.finished.Finished.{Finished}
 use Rattle.dk_overlay.specs.Logged.{Logged, nothing_done}
@@ -28,6 +26,7 @@ use Rattle.dk_tasks.specs.Tasks.{Kept, bare, durable_tasks}
 use Rattle.dk_tasks.proofs.Durable.{entries-durable}
 use Rattle.dk_durable.specs.StampedWorlds.{Stamped, durable_of, read_now}
 use Rattle.dk_durable.specs.Commits.{StepsFrom, CommitsSteps}
+use Rattle.dk_durable.proofs.LawfulSteps.{steps_from}
 use Rattle.dk_plain.specs.Plains.{TellsStep}
 
 -- reads that a look of this world gave agree with it
@@ -68,12 +67,6 @@ job_fits (job.Login conn name) h = tt
 job_fits (job.Message conn name body) h = tt
 job_fits (job.Channel conn name channel body) h = tt
 job_fits (job.Disconnect conn name graceful) h = tt
-
--- a step of lawful rules may be committed next
-pub steps_from : (rules : Meaning) → AreLawful rules → (j : Job) (run : RunNo) (at : ℕ) (d : DurableWorld) → IsValid d → IsReady j run at d → StepsFrom d run (step rules j run at d)
-steps_from rules lawful j run at d valid ready =
-    let goes = step_goes_on rules lawful j run at d in
-    record { commits = goes.commits; last = goes.last; objects = goes.objects; names = goes.names; tasks = goes.tasks; due = step_due rules lawful j run at d valid ready }
 
 -- what is left once the run is committed
 pub commits_step : (rules : Meaning) → AreLawful rules → (j : Job) (run : RunNo) (at : ℕ) (old mid new : Stamped) (f : Finished) → IsValid (durable_of old) → IsReady j run at (durable_of old) → durable_of mid ≡ durable_of old
