@@ -1,0 +1,4 @@
+pub mod Guests
+pub mod GuestLaws
+pub mod Rules
+pub mod Lawful
