@@ -142,15 +142,15 @@ module _ (rules : Meaning) (p0 p2 : Play) (popped : List Pending) (x : Pending) 
         present = present;
         jobs = subst (λ conn. AreJobs conn (connection_of p2.visitor)) (sym conn2) (subst (AreJobs v1.conn) (sym after) (jobs-after v1.conn r.outs.items (connection_of v1) left));
       }
-      where
-        jobs-left : (v1 : Visitor) → AreJobs p0.visitor.conn (connection_of p0.visitor) → p0.visitor.queue.items ≡ x ∷ popped
-            → connection_of v1 ≡ record (connection_of p0.visitor) { queue = map waiting_of popped; turn = p0.next } → v1.conn ≡ p0.visitor.conn → AreJobs v1.conn (connection_of v1)
-        jobs-left v1 jobs queue same1 conn1 =
-            let rest : AreJobs p0.visitor.conn (record (connection_of p0.visitor) { queue = map waiting_of popped; turn = p0.next }) = record {
-              session = jobs.session;
-              inputs = (subst (λ q. AllByRecursion (λ y. IsJob (job_of p0.visitor.conn p0.visitor.name y)) (map waiting_of q)) queue jobs.inputs).1;
-            } in
-            subst (λ conn. AreJobs conn (connection_of v1)) (sym conn1) (subst (AreJobs p0.visitor.conn) (sym same1) rest)
+    where
+      jobs-left : (v1 : Visitor) → AreJobs p0.visitor.conn (connection_of p0.visitor) → p0.visitor.queue.items ≡ x ∷ popped
+          → connection_of v1 ≡ record (connection_of p0.visitor) { queue = map waiting_of popped; turn = p0.next } → v1.conn ≡ p0.visitor.conn → AreJobs v1.conn (connection_of v1)
+      jobs-left v1 jobs queue same1 conn1 =
+          let rest : AreJobs p0.visitor.conn (record (connection_of p0.visitor) { queue = map waiting_of popped; turn = p0.next }) = record {
+            session = jobs.session;
+            inputs = (subst (λ q. AllByRecursion (λ y. IsJob (job_of p0.visitor.conn p0.visitor.name y)) (map waiting_of q)) queue jobs.inputs).1;
+          } in
+          subst (λ conn. AreJobs conn (connection_of v1)) (sym conn1) (subst (AreJobs p0.visitor.conn) (sym same1) rest)
 
 -- the first run
 pub begins : (rules : Meaning) (w0 w : PlainWorld) (r : Committed) (events : List Event) → AreLawful rules → IsTerse rules → durable_of w0 ≡ empty_world

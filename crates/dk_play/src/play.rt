@@ -13,8 +13,8 @@ ghost use Rattle.std.specs.FinMap as maps;
 
 use crate::serve::{Play, push_run};
 use crate::visitor::Visitor;
-use dk_model::Line;
 use dk_game::Game;
+use dk_model::Line;
 use dk_plain::PlainWorld;
 use dk_types::{ConnNo, Event, Job, NoMemory, RunNo};
 use std::alloc::Global;
@@ -30,11 +30,7 @@ pub struct Played {
 }
 
 /// The first run, on the empty world.
-fn begin<G: Game>(
-    alloc: Global,
-    game: &G,
-    events: &mut Vec<Event>,
-) -> Result<PlainWorld, NoMemory>
+fn begin<G: Game>(alloc: Global, game: &G, events: &mut Vec<Event>) -> Result<PlainWorld, NoMemory>
     requires terse { IsTerse (G.rules game.now) }
     requires start { events.old.items ≡ [] }
     ensures { IfOk result (λ w. Begins (G.rules game.now) events.new.items (durable_of w)) }
@@ -81,11 +77,7 @@ fn visit<G: Game>(
 }
 
 /// Plays the script of one session from the empty world on. The game sends at most one message in each job, so that the session is never cut off, and schedules no task.
-pub fn play_session<G: Game>(
-    alloc: Global,
-    game: &G,
-    lines: Vec<Line>,
-) -> Result<Played, NoMemory>
+pub fn play_session<G: Game>(alloc: Global, game: &G, lines: Vec<Line>) -> Result<Played, NoMemory>
     requires terse { IsTerse (G.rules game.now) }
     requires session { IsOneSession lines.items }
     ensures played { IfOk result (λ p. IsPlayed (G.rules game.now) (fresh_world None) (lines.items ∷ []) (phases_of p.events.items p.marks.items) p.commits p.tasks) }

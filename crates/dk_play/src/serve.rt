@@ -49,7 +49,7 @@ impl Play {
         events: &mut Vec<Event>,
     ) -> Result<bool, NoMemory>
         requires terse { IsTerse (G.rules game.now) }
-            requires fit { IsFit self.old }
+        requires fit { IsFit self.old }
         ensures serves { IfOk result (λ more. ServesNext (G.rules game.now) more (world_of self.old) events.old.items events.new.items (world_of self.new)) }
         ensures fit { IfOk result (λ _. IsFit self.new) }
         ensures fewer { IfOk result (λ more. more ≡ true → length self.new.visitor.queue.items < length self.old.visitor.queue.items) }
@@ -76,7 +76,7 @@ impl Play {
         events: &mut Vec<Event>,
     ) -> Result<(), NoMemory>
         requires terse { IsTerse (G.rules game.now) }
-            requires fit { IsFit self.old }
+        requires fit { IsFit self.old }
         ensures serves { IfOk result (λ _. Serves (G.rules game.now) (world_of self.old) events.old.items events.new.items (world_of self.new)) }
         ensures quiet { IfOk result (λ _. IsQuiet (world_of self.new)) }
         ensures fit { IfOk result (λ _. IsFit self.new) }

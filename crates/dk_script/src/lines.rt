@@ -49,11 +49,7 @@ pub(crate) fn send_text<'a>(line: &'a [u8], name: &[u8]) -> Option<&'a [u8]>
     let named = line.strip_prefix(b"send ".as_slice())?;
     let spaced = named.strip_prefix(name)?;
     let text = spaced.strip_prefix(b" ".as_slice())?;
-    if is_text(text) {
-        Some(text)
-    } else {
-        None
-    }
+    if is_text(text) { Some(text) } else { None }
 }
 
 fn is_login_name(name: &[u8]) -> bool
