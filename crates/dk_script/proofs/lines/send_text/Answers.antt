@@ -1,4 +1,4 @@
-use Rattle.std.proofs.Common.{◌≡◌, ℕ, List, ◌∷◌, ◌++◌, drop, refl, ap, sym, ◌∙◌}
+use Rattle.std.proofs.Common.{◌≡◌, ℕ, List, ◌∷◌, ◌++◌, drop, refl, ap, ◌∙◌}
 use Rattle.dk_script.proofs.Prefixes.{stripped, not_stripped}
 use Rattle.dk_script.proofs.lines.send_text.Goals as goal
 
