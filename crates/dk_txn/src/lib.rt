@@ -18,5 +18,7 @@ pub mod names;
 pub mod objects;
 pub mod refusal;
 pub mod tasks;
+#[cfg(test)]
+mod tests;
 pub mod txn;
 pub mod view;
