@@ -24,3 +24,5 @@ pub mod objects;
 pub mod reads;
 pub mod sizes;
 pub mod tasks;
+#[cfg(test)]
+mod tests;
