@@ -19,10 +19,10 @@ pub mod change;
 mod finish;
 pub mod finished;
 pub mod log;
+#[cfg(test)]
+mod log_tests;
 pub mod names;
 pub mod objects;
 pub mod reads;
 pub mod sizes;
 pub mod tasks;
-#[cfg(test)]
-mod tests;

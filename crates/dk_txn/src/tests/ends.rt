@@ -3,7 +3,7 @@
 use super::steps::{Step, run};
 use super::{AT, OBJECT, RUN, TASK, bytes, made, name, scheduled, small_world};
 use crate::{Finished, ListView, Txn};
-use dk_types::{AppFault, ConnNo, Item, Job, Out, Outcome};
+use dk_types::{AppFault, Blob, ConnNo, Item, Job, Out, Outcome};
 use std::alloc::Global;
 use std::process::Abort;
 use std::test::Fail;
@@ -44,7 +44,7 @@ fn occurrence(alloc: Global, period: u64) -> Job {
         due: 50,
         period,
         kind: 1,
-        arg: dk_types::Blob::from_vec(Vec::new(alloc)),
+        arg: Blob::from_vec(Vec::new(alloc)),
     }
 }
 
@@ -173,7 +173,7 @@ fn what_comes_to_nothing_is_no_effect(rt: HostRuntime) -> Result<(), Fail> {
     Ok(())
 }
 
-/// A run whose effects are written in 16,777,155 bytes less 61,000, and in as many more as its last object has.
+/// A run that makes 255 objects of as many bytes as one may have, and a last one of so many.
 fn large(alloc: Global, last: usize) -> Result<Finished, Fail> {
     let mut view = small_world(alloc)?;
     let mut txn = Txn::begin(alloc, &mut view, RUN, AT);
