@@ -29,7 +29,7 @@ use Rattle.dk_txn.specs.Bindings.{binding}
 use Rattle.dk_txn.specs.Refusals.{refusal_fault, TellsLength}
 use Rattle.dk_txn.specs.Does.{Does, SameChanges, failure}
 use Rattle.dk_txn.proofs.Kit.{agreed}
-use Rattle.dk_refs.specs.Telling.{TellsKind, TellsKindUnder, TellsLengthIn, kind_at}
+use Rattle.dk_refs.specs.Telling.{TellsKind, TellsKindOf, TellsLengthIn, kind_at, kind_under}
 use Rattle.dk_refs.proofs.Calls.{passed}
 
 -- the act is never refused by this number
@@ -148,24 +148,24 @@ channel_short listener delivery = short_of _ (omega (arith,
     length-u8 (flag listener), length-u8 (delivery_number delivery), length-list member_bytes []))
 
 -- where no agreeing world refuses so, nothing is told of a kind
-no_kind : (t : Logged) (name : List ℕ) (e : Refusal) → (refusal_fault e ≡ Some (Refused 3) → (d : DurableWorld) → Agrees d t.reads → ⊥) → TellsKindUnder t name e
-no_kind t name (refusal.WrongKind other) h = λ d agrees. absurd (h refl d agrees)
-no_kind t name refusal.NameNotBound h = tt
-no_kind t name refusal.ObjectNotFound h = tt
-no_kind t name (refusal.TooLong len) h = tt
-no_kind t name refusal.BadDelay h = tt
-no_kind t name refusal.Reserved h = tt
-no_kind t name refusal.NoMemory h = tt
-no_kind t name refusal.TooMany h = tt
-no_kind t name refusal.NameExists h = tt
-no_kind t name refusal.BadBytes h = tt
+no_kind : (t : Logged) (kind : DurableWorld → Option ℕ) (e : Refusal) → (refusal_fault e ≡ Some (Refused 3) → (d : DurableWorld) → Agrees d t.reads → ⊥) → TellsKindOf t kind e
+no_kind t kind (refusal.WrongKind other) h = λ d agrees. absurd (h refl d agrees)
+no_kind t kind refusal.NameNotBound h = tt
+no_kind t kind refusal.ObjectNotFound h = tt
+no_kind t kind (refusal.TooLong len) h = tt
+no_kind t kind refusal.BadDelay h = tt
+no_kind t kind refusal.Reserved h = tt
+no_kind t kind refusal.NoMemory h = tt
+no_kind t kind refusal.TooMany h = tt
+no_kind t kind refusal.NameExists h = tt
+no_kind t kind refusal.BadBytes h = tt
 
 -- nor, where it is not refused by 4, of a length
 no_length : (bytes : List ℕ) (e : Refusal) → (refusal_fault e ≡ Some (Refused 4) → ⊥) → TellsLength bytes e
 no_length bytes (refusal.TooLong len) h = absurd (h refl)
 no_length bytes refusal.NameNotBound h = tt
 no_length bytes refusal.ObjectNotFound h = tt
-no_length bytes (refusal.WrongKind kind) h = tt
+no_length bytes (refusal.WrongKind other) h = tt
 no_length bytes refusal.BadDelay h = tt
 no_length bytes refusal.Reserved h = tt
 no_length bytes refusal.NoMemory h = tt
@@ -174,15 +174,15 @@ no_length bytes refusal.NameExists h = tt
 no_length bytes refusal.BadBytes h = tt
 
 -- a refusal over a length is none over a kind
-pub long_tells : (t : Logged) (name : List ℕ) (e : Refusal) → refusal_fault e ≡ Some (Refused 4) → TellsKindUnder t name e
-long_tells t name e is = no_kind t name e (λ three d agrees. let same : Some (Refused 4) ≡ Some (Refused 3) = sym is ∙ three in cc)
+pub long_tells : (t : Logged) (kind : DurableWorld → Option ℕ) (e : Refusal) → refusal_fault e ≡ Some (Refused 4) → TellsKindOf t kind e
+long_tells t kind e is = no_kind t kind e (λ three d agrees. let same : Some (Refused 4) ≡ Some (Refused 3) = sym is ∙ three in cc)
 
 ok_some : {A : Type 0} (o : Option A) (x : A) → ◌≡◌ {A = Result (Option A) AppFault} (Ok o) (Ok (Some x)) → o ≡ Some x
 ok_some o x e = cc
 
 -- an object that a platform name leads to has the kind that is told
-leads_kind : (t : Logged) (name : List ℕ) (id : ObjectId) (e : Refusal) → ((d : DurableWorld) → Agrees d t.reads → platform_bound (current t d) name ≡ Some id) → TellsKind t id e → TellsKindUnder t name e
-leads_kind t name id (refusal.WrongKind kind) at told = λ d agrees. ap (λ o. kind_at o (current t d).world) (at d agrees) ∙ told d agrees
+leads_kind : (t : Logged) (name : List ℕ) (id : ObjectId) (e : Refusal) → ((d : DurableWorld) → Agrees d t.reads → platform_bound (current t d) name ≡ Some id) → TellsKind t id e → TellsKindOf t (kind_under name) e
+leads_kind t name id (refusal.WrongKind other) at told = λ d agrees. ap (λ o. kind_at o (current t d).world) (at d agrees) ∙ told d agrees
 leads_kind t name id refusal.NameNotBound at told = tt
 leads_kind t name id refusal.ObjectNotFound at told = tt
 leads_kind t name id (refusal.TooLong len) at told = tt
@@ -194,21 +194,21 @@ leads_kind t name id refusal.NameExists at told = tt
 leads_kind t name id refusal.BadBytes at told = tt
 
 -- the mode has no part in it
-moded : (t : Logged) (mode : Mode) (name : List ℕ) (e : Refusal) → TellsKindUnder t name e → TellsKindUnder (record t { mode = mode }) name e
-moded t mode name (refusal.WrongKind kind) told = told
-moded t mode name refusal.NameNotBound told = tt
-moded t mode name refusal.ObjectNotFound told = tt
-moded t mode name (refusal.TooLong len) told = tt
-moded t mode name refusal.BadDelay told = tt
-moded t mode name refusal.Reserved told = tt
-moded t mode name refusal.NoMemory told = tt
-moded t mode name refusal.TooMany told = tt
-moded t mode name refusal.NameExists told = tt
-moded t mode name refusal.BadBytes told = tt
+moded : (t : Logged) (mode : Mode) (kind : DurableWorld → Option ℕ) (e : Refusal) → TellsKindOf t kind e → TellsKindOf (record t { mode = mode }) kind e
+moded t mode kind (refusal.WrongKind other) told = told
+moded t mode kind refusal.NameNotBound told = tt
+moded t mode kind refusal.ObjectNotFound told = tt
+moded t mode kind (refusal.TooLong len) told = tt
+moded t mode kind refusal.BadDelay told = tt
+moded t mode kind refusal.Reserved told = tt
+moded t mode kind refusal.NoMemory told = tt
+moded t mode kind refusal.TooMany told = tt
+moded t mode kind refusal.NameExists told = tt
+moded t mode kind refusal.BadBytes told = tt
 
-pub kind_moded : {A : Type 0} (r : Result A Refusal) (t u : Logged) (mode : Mode) (name : List ℕ) → u ≡ record t { mode = mode } → IfErr r (TellsKindUnder t name) → IfErr r (TellsKindUnder u name)
-kind_moded (Ok x) t u mode name is told = tt
-kind_moded (Err e) t u mode name is told = rw is (moded t mode name e told)
+pub kind_moded : {A : Type 0} (r : Result A Refusal) (t u : Logged) (mode : Mode) (kind : DurableWorld → Option ℕ) → u ≡ record t { mode = mode } → IfErr r (TellsKindOf t kind) → IfErr r (TellsKindOf u kind)
+kind_moded (Ok x) t u mode kind is told = tt
+kind_moded (Err e) t u mode kind is told = rw is (moded t mode kind e told)
 
 pub length_moded : {A : Type 0} (r : Result A Refusal) (t u : Logged) (mode : Mode) (bytes : List ℕ) → u ≡ record t { mode = mode } → IfErr r (TellsLengthIn t bytes) → IfErr r (TellsLengthIn u bytes)
 length_moded (Ok x) t u mode bytes is told = tt
@@ -220,24 +220,24 @@ current_same a b d same = ap (λ (t : Logged). current t d) same
 
 module _ {S : Type 0} {gave : S → Item → Read → Type 0} {a b : Txn S Logged} {A : Type 0} {f : Act A} {e : Refusal} (p : Does gave refusal_fault a b f (Err e)) where
   -- a refusal that is passed on tells what it told
-  pub kind_passes : {B : Type 0} (r : Result B Refusal) (name : List ℕ) → TellsKindUnder b.log name e → IsErrAnd r (λ h. h ≡ e) → IfErr r (TellsKindUnder b.log name)
-  kind_passes r name told is = passed (TellsKindUnder b.log name) e r is told
+  pub kind_passes : {B : Type 0} (r : Result B Refusal) (kind : DurableWorld → Option ℕ) → TellsKindOf b.log kind e → IsErrAnd r (λ h. h ≡ e) → IfErr r (TellsKindOf b.log kind)
+  kind_passes r kind told is = passed (TellsKindOf b.log kind) e r is told
 
   pub length_passes : {B : Type 0} (r : Result B Refusal) (bytes : List ℕ) → TellsLengthIn b.log bytes e → IsErrAnd r (λ h. h ≡ e) → IfErr r (TellsLengthIn b.log bytes)
   length_passes r bytes told is = passed (TellsLengthIn b.log bytes) e r is told
 
   -- one that is none over a kind, or none over a length
-  pub kind_never : (name : List ℕ) → Avoids 3 f → TellsKindUnder b.log name e
-  kind_never name never = no_kind b.log name e (λ is d agrees. never (current a.log d) (current b.log d) (p.does (Err (Refused 3)) (ap failure is) d agrees))
+  pub kind_never : (kind : DurableWorld → Option ℕ) → Avoids 3 f → TellsKindOf b.log kind e
+  kind_never kind never = no_kind b.log kind e (λ is d agrees. never (current a.log d) (current b.log d) (p.does (Err (Refused 3)) (ap failure is) d agrees))
 
   pub length_never : (bytes : List ℕ) → Avoids 4 f → TellsLengthIn b.log bytes e
   length_never bytes never = λ d agrees. no_length bytes e (λ is. never (current a.log d) (current b.log d) (p.does (Err (Refused 4)) (ap failure is) d agrees))
 
 module _ {S : Type 0} {gave : S → Item → Read → Type 0} where
   -- the last call, which may have been answered
-  pub kind_never_last : {a b : Txn S Logged} {A : Type 0} {f : Act A} {r : Result A Refusal} (name : List ℕ) → Avoids 3 f → Does gave refusal_fault a b f r → IfErr r (TellsKindUnder b.log name)
-  kind_never_last {r = Ok x} name never p = tt
-  kind_never_last {r = Err e} name never p = kind_never p name never
+  pub kind_never_last : {a b : Txn S Logged} {A : Type 0} {f : Act A} {r : Result A Refusal} (kind : DurableWorld → Option ℕ) → Avoids 3 f → Does gave refusal_fault a b f r → IfErr r (TellsKindOf b.log kind)
+  kind_never_last {r = Ok x} kind never p = tt
+  kind_never_last {r = Err e} kind never p = kind_never p kind never
 
   pub length_never_last : {a b : Txn S Logged} {A : Type 0} {f : Act A} {r : Result A Refusal} (bytes : List ℕ) → Avoids 4 f → Does gave refusal_fault a b f r → IfErr r (TellsLengthIn b.log bytes)
   length_never_last {r = Ok x} bytes never p = tt
@@ -245,8 +245,8 @@ module _ {S : Type 0} {gave : S → Item → Read → Type 0} where
 
   -- a name was looked up, and the object that it leads to was read, and is of another kind
   pub kind_found : {a b c : Txn S Logged} {id : ObjectId} {A B : Type 0} {f : Act A} {e : Refusal} (r : Result B Refusal) (name : List ℕ) → Does gave refusal_fault a b (λ s. (Ok (platform_bound s name), s)) (Ok (Some id))
-      → Does gave refusal_fault b c f (Err e) → SameChanges b.log c.log → TellsKind c.log id e → IsErrAnd r (λ h. h ≡ e) → IfErr r (TellsKindUnder c.log name)
-  kind_found {a = a} {b = b} {c = c} {id = id} {e = e} r name p q same told is = passed (TellsKindUnder c.log name) e r is (leads_kind c.log name id e by told)
+      → Does gave refusal_fault b c f (Err e) → SameChanges b.log c.log → TellsKind c.log id e → IsErrAnd r (λ h. h ≡ e) → IfErr r (TellsKindOf c.log (kind_under name))
+  kind_found {a = a} {b = b} {c = c} {id = id} {e = e} r name p q same told is = passed (TellsKindOf c.log (kind_under name)) e r is (leads_kind c.log name id e by told)
     where
       by : (d : DurableWorld) → Agrees d c.log.reads → platform_bound (current c.log d) name ≡ Some id
       by d agrees =

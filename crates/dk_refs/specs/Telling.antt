@@ -1,11 +1,10 @@
 -- What a refusal tells of an object.
-use Rattle.std.specs.Prelude.{◌≡◌, ℕ, Option, Some, None, List}
+use Rattle.std.specs.Prelude.{◌≡◌, ℕ, Option, Some, None, List, if◌then◌else◌}
 use Rattle.std.specs.FinMap.{get}
 use Rattle.dk_types.specs.declared.number.ObjectId.{ObjectId}
 use Rattle.dk_types.specs.declared.object.Object.{Object}
 use Rattle.dk_model.specs.DurableWorlds.{DurableWorld, Agrees}
-use Rattle.dk_model.specs.Runs.{Run}
-use Rattle.dk_model.specs.Platforms.{platform_bound}
+use Rattle.dk_model.specs.Records.{is_name_too_long}
 use Rattle.dk_overlay.specs.Logged.{Logged, current}
 use Rattle.dk_txn.specs.declared.refusal.Refusal.{Refusal}
 use Rattle.dk_txn.specs.declared.refusal.Refusal.TheVariants as refusal
@@ -35,21 +34,21 @@ kind_at None world = None
 kind_at (Some id) world = kind_of (get world.objects id)
 
 -- the kind of the object that a platform name leads to, if there is one
-abbrev pub kind_under : List ℕ → Run → Option ℕ
-kind_under name s = kind_at (platform_bound s name) s.world
+abbrev pub kind_under : List ℕ → DurableWorld → Option ℕ
+kind_under name world = kind_at (if is_name_too_long name then None else get world.names name) world
 
--- a refusal over a kind tells that of the object under a platform name, in every agreeing world
-abbrev pub TellsKindUnder : Logged → List ℕ → Refusal → Type 0
-TellsKindUnder t name (refusal.WrongKind found) = (d : DurableWorld) → Agrees d t.reads → kind_under name (current t d) ≡ Some found
-TellsKindUnder t name refusal.NameNotBound = Unit {0}
-TellsKindUnder t name refusal.ObjectNotFound = Unit {0}
-TellsKindUnder t name (refusal.TooLong len) = Unit {0}
-TellsKindUnder t name refusal.BadDelay = Unit {0}
-TellsKindUnder t name refusal.Reserved = Unit {0}
-TellsKindUnder t name refusal.NoMemory = Unit {0}
-TellsKindUnder t name refusal.TooMany = Unit {0}
-TellsKindUnder t name refusal.NameExists = Unit {0}
-TellsKindUnder t name refusal.BadBytes = Unit {0}
+-- a refusal over a kind tells the one that is so found in the world, in every agreeing one
+abbrev pub TellsKindOf : Logged → (DurableWorld → Option ℕ) → Refusal → Type 0
+TellsKindOf t kind (refusal.WrongKind found) = (d : DurableWorld) → Agrees d t.reads → kind (current t d).world ≡ Some found
+TellsKindOf t kind refusal.NameNotBound = Unit {0}
+TellsKindOf t kind refusal.ObjectNotFound = Unit {0}
+TellsKindOf t kind (refusal.TooLong len) = Unit {0}
+TellsKindOf t kind refusal.BadDelay = Unit {0}
+TellsKindOf t kind refusal.Reserved = Unit {0}
+TellsKindOf t kind refusal.NoMemory = Unit {0}
+TellsKindOf t kind refusal.TooMany = Unit {0}
+TellsKindOf t kind refusal.NameExists = Unit {0}
+TellsKindOf t kind refusal.BadBytes = Unit {0}
 
 -- a refusal over a length tells that of these bytes, in every agreeing world
 abbrev pub TellsLengthIn : Logged → List ℕ → Refusal → Type 0

@@ -19,7 +19,7 @@ use Rattle.dk_txn.specs.declared.refusal.Refusal.{Refusal}
 use Rattle.dk_txn.specs.declared.txn.Txn.{Txn}
 use Rattle.dk_txn.specs.Refusals.{refusal_fault}
 use Rattle.dk_txn.specs.Does.{Does, SameChanges}
-use Rattle.dk_refs.specs.Telling.{TellsKind, TellsKindUnder}
+use Rattle.dk_refs.specs.Telling.{TellsKind, TellsKindOf, kind_under}
 use Rattle.dk_refs.proofs.Tellings.{Avoids, answers, refuses, give_avoids, then_avoids, get_as_avoids, found_as_avoids, change_avoids, kind_found}
 use Rattle.dk_sessions.specs.Lookups.{recorded}
 
@@ -51,6 +51,6 @@ send_avoids to message s t e = by _ (act.is_too_long (act.body_of message)) (nat
 module _ {S : Type 0} {gave : S → Item → Read → Type 0} where
   -- the record is of another kind
   pub record_kind : {a b c : Txn S Logged} {id : ObjectId} {A B : Type 0} {f : Act A} {e : Refusal} (r : Result B Refusal) (name : List ℕ) → Does gave refusal_fault a b (recorded name) (Ok (Some id))
-      → Does gave refusal_fault b c f (Err e) → SameChanges b.log c.log → TellsKind c.log id e → IsErrAnd r (λ h. h ≡ e) → IfErr r (TellsKindUnder c.log (session_name name))
+      → Does gave refusal_fault b c f (Err e) → SameChanges b.log c.log → TellsKind c.log id e → IsErrAnd r (λ h. h ≡ e) → IfErr r (TellsKindOf c.log (kind_under (session_name name)))
   unfolding recorded
   record_kind r name p q same told is = kind_found r (session_name name) p q same told is

@@ -4,7 +4,7 @@ ghost use Rattle.dk_model.specs.Records.{session_name as named};
 ghost use Rattle.dk_model.specs.Platforms as platform;
 ghost use Rattle.dk_txn.specs.Does.{Does};
 ghost use Rattle.dk_txn.specs.Refusals.{refusal_fault};
-ghost use Rattle.dk_refs.specs.Telling.{TellsKindUnder, TellsLengthIn};
+ghost use Rattle.dk_refs.specs.Telling.{TellsKindOf, TellsLengthIn, kind_under};
 ghost use Rattle.dk_sessions.specs.Openings as opening;
 
 use crate::recorded::{session_name, too_long};
@@ -37,7 +37,7 @@ pub fn close_record<V: View>(
     session: &Session,
 ) -> Result<(), Refusal>
     ensures does { Does V.gave refusal_fault txn.old txn.new (platform.close_record session.now) result }
-    ensures kind { IfErr result (TellsKindUnder txn.new.log (named session.now.name)) }
+    ensures kind { IfErr result (TellsKindOf txn.new.log (kind_under (named session.now.name))) }
 {
     let before = txn.set_mode(Mode::Platform);
     let end = take_record(alloc, txn, session);
@@ -87,7 +87,7 @@ fn take_record<V: View>(
     session: &Session,
 ) -> Result<(), Refusal>
     ensures does { Does V.gave refusal_fault txn.old txn.new (opening.taking session.now) result }
-    ensures kind { IfErr result (TellsKindUnder txn.new.log (named session.now.name)) }
+    ensures kind { IfErr result (TellsKindOf txn.new.log (kind_under (named session.now.name))) }
 {
     let found = own_record(alloc, txn, session)?;
     match session_name(alloc, &session.name)? {

@@ -2,6 +2,7 @@ use Rattle.dk_model.specs.declared.mode.Mode.TheVariants.{Platform}
 use Rattle.dk_model.specs.Platforms as platform
 use Rattle.dk_txn.proofs.Kit.{within_does}
 use Rattle.dk_model.specs.Records.{session_name}
+use Rattle.dk_refs.specs.Telling.{kind_under}
 use Rattle.dk_refs.proofs.Tellings.{kind_moded}
 use Rattle.dk_sessions.proofs.opening.close_record.Goals as goal
 
@@ -12,4 +13,4 @@ returns-clause-does g c =
     c.set_mode.ensures.same_view c.set_mode.ensures.view_stays (rw c.set_mode-before.ensures.old at c.set_mode.ensures.mode)
 
 pub returns-clause-kind : goal.returns-clause-kind
-returns-clause-kind g c = kind_moded _ c.take_record-end.new.txn.log c.set_mode.new.self.log _ (session_name c.args.session.now.name) c.set_mode.ensures.mode c.take_record-end.ensures.kind
+returns-clause-kind g c = kind_moded _ c.take_record-end.new.txn.log c.set_mode.new.self.log _ (kind_under (session_name c.args.session.now.name)) c.set_mode.ensures.mode c.take_record-end.ensures.kind

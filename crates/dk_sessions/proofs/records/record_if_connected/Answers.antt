@@ -1,5 +1,6 @@
 use Rattle.dk_sessions.proofs.Lookups.{own_stops, own_none, own_halts, own_same, own_other}
 use Rattle.dk_model.specs.Records.{session_name}
+use Rattle.dk_refs.specs.Telling.{kind_under}
 use Rattle.dk_refs.proofs.Tellings.{kind_passes, kind_never}
 use Rattle.dk_sessions.proofs.Tellings.{recorded_avoids, record_kind}
 use Rattle.dk_sessions.proofs.records.record_if_connected.Goals as goal
@@ -21,7 +22,7 @@ returns-else-found-session-clause-does g c = own_other c.args.session.now (rw c.
 
 pub returns-in_err-recorded-clause-kind : goal.returns-in_err-recorded-clause-kind
 returns-in_err-recorded-clause-kind g c =
-    let at = session_name c.args.session.now.name in
+    let at = kind_under (session_name c.args.session.now.name) in
     kind_passes c.in_err-recorded.ensures.does _ at (kind_never c.in_err-recorded.ensures.does at (recorded_avoids c.args.session.now.name 3)) c.from_residual.ensures.1
 
 pub returns-in_err-found-in-Some-clause-kind : goal.returns-in_err-found-in-Some-clause-kind

@@ -1,5 +1,6 @@
 use Rattle.dk_sessions.proofs.Lookups.{under_stops, under_none, under_halts, under_finds}
 use Rattle.dk_model.specs.Records.{session_name}
+use Rattle.dk_refs.specs.Telling.{kind_under}
 use Rattle.dk_refs.proofs.Tellings.{kind_passes, kind_never}
 use Rattle.dk_sessions.proofs.Tellings.{recorded_avoids, record_kind}
 use Rattle.dk_sessions.proofs.records.session_under.Goals as goal
@@ -18,7 +19,7 @@ returns-in_ok-session-in-Some-clause-does g c = rw c.of-reference.ensures (under
 
 pub returns-in_err-recorded-clause-kind : goal.returns-in_err-recorded-clause-kind
 returns-in_err-recorded-clause-kind g c =
-    let at = session_name c.args.name.now in
+    let at = kind_under (session_name c.args.name.now) in
     kind_passes c.in_err-recorded.ensures.does _ at (kind_never c.in_err-recorded.ensures.does at (recorded_avoids c.args.name.now 3)) c.from_residual.ensures.1
 
 pub returns-in_err-session-in-Some-clause-kind : goal.returns-in_err-session-in-Some-clause-kind
