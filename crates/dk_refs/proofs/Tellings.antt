@@ -29,7 +29,7 @@ use Rattle.dk_txn.specs.Bindings.{binding}
 use Rattle.dk_txn.specs.Refusals.{refusal_fault, TellsLength}
 use Rattle.dk_txn.specs.Does.{Does, SameChanges, failure}
 use Rattle.dk_txn.proofs.Kit.{agreed}
-use Rattle.dk_refs.specs.Telling.{TellsKind, TellsKindOf, TellsLengthIn, kind_at, kind_under}
+use Rattle.dk_refs.specs.Telling.{TellsKind, TellsKindOf, TellsLengthIn, TellsLengthOf, kind_at, kind_under}
 use Rattle.dk_refs.proofs.Calls.{passed}
 
 -- the act is never refused by this number
@@ -110,6 +110,10 @@ pub binding_avoids : (name : List ℕ) (n : ℕ) → Avoids n (binding name)
 unfolding binding
 binding_avoids name n s t e = answers (map.get s.world.names name) n s t e
 
+pub bound_avoids : (name : List ℕ) (n : ℕ) → (1 ≡ n → ⊥) → Avoids n (act.bound name)
+unfolding act.bound
+bound_avoids name n one s t e = found_avoids 1 n (map.get s.world.names name) s t one e
+
 pub bind_avoids : (name : List ℕ) (id : ObjectId) (n : ℕ) → (6 ≡ n → ⊥) → Avoids n (act.bind name id)
 unfolding act.bind
 bind_avoids name id n six s t e = by _ (act.is_reserved_name s.mode name) e
@@ -133,6 +137,19 @@ unbind_avoids name n one six s t e = by (act.is_reserved_name s.mode name) e
 pub remove_avoids : (id : ObjectId) (n : ℕ) → (2 ≡ n → ⊥) → (6 ≡ n → ⊥) → Avoids n (act.remove id)
 unfolding act.remove
 remove_avoids id n two six s t e = change_avoids (map.get s.world.objects id) id (λ object. None) n two six s t e
+
+-- what is saved is not refused over a kind, and what is short not over a length
+pub save_avoids : (id : ObjectId) (bytes : List ℕ) → Avoids 3 (act.save id bytes)
+unfolding act.save
+save_avoids id bytes s t e = by (act.is_too_long bytes) e
+  where
+    by : (b : Bool) → (if b then act.refuse 4 s else act.change_object id (λ object. Some (record { kind = object.kind; bytes = bytes })) s) ≡ (Err (Refused 3), t) → ⊥
+    by true e = refuses 4 3 s t (λ e. cc) e
+    by false e = change_avoids (map.get s.world.objects id) id (λ object. Some (record { kind = object.kind; bytes = bytes })) 3 (λ e. cc) (λ e. cc) s t e
+
+pub save_short_avoids : (id : ObjectId) (bytes : List ℕ) → act.is_too_long bytes ≡ false → Avoids 4 (act.save id bytes)
+unfolding act.save
+save_short_avoids id bytes short s t e = change_avoids (map.get s.world.objects id) id (λ object. Some (record { kind = object.kind; bytes = bytes })) 4 (λ e. cc) (λ e. cc) s t (rw short at e)
 
 -- a new record is short
 short_of : (bytes : List ℕ) → length bytes < 100 → act.is_too_long bytes ≡ false
@@ -214,8 +231,12 @@ pub length_moded : {A : Type 0} (r : Result A Refusal) (t u : Logged) (mode : Mo
 length_moded (Ok x) t u mode bytes is told = tt
 length_moded (Err e) t u mode bytes is told = rw is told
 
+pub length_of_moded : {A : Type 0} (r : Result A Refusal) (t b c u : Logged) (first last : Mode) (bytes : DurableWorld → List ℕ) → b ≡ record t { mode = first } → u ≡ record c { mode = last } → IfErr r (TellsLengthOf b c bytes) → IfErr r (TellsLengthOf t u bytes)
+length_of_moded (Ok x) t b c u first last bytes is was told = tt
+length_of_moded (Err e) t b c u first last bytes is was told = rw was (λ d agrees. subst (λ (l : Logged). TellsLength (bytes (current l d).world) e) is (told d agrees))
+
 -- the changes are all that a run in its midst is made of
-current_same : (a b : Logged) (d : DurableWorld) → SameChanges a b → current b d ≡ current a d
+pub current_same : (a b : Logged) (d : DurableWorld) → SameChanges a b → current b d ≡ current a d
 current_same a b d same = ap (λ (t : Logged). current t d) same
 
 module _ {S : Type 0} {gave : S → Item → Read → Type 0} {a b : Txn S Logged} {A : Type 0} {f : Act A} {e : Refusal} (p : Does gave refusal_fault a b f (Err e)) where
@@ -232,6 +253,10 @@ module _ {S : Type 0} {gave : S → Item → Read → Type 0} {a b : Txn S Logge
 
   pub length_never : (bytes : List ℕ) → Avoids 4 f → TellsLengthIn b.log bytes e
   length_never bytes never = λ d agrees. no_length bytes e (λ is. never (current a.log d) (current b.log d) (p.does (Err (Refused 4)) (ap failure is) d agrees))
+
+  pub length_of_never : {B : Type 0} (r : Result B Refusal) (before : Logged) (bytes : DurableWorld → List ℕ) → Avoids 4 f → IsErrAnd r (λ h. h ≡ e) → IfErr r (TellsLengthOf before b.log bytes)
+  length_of_never r before bytes never is =
+      passed (TellsLengthOf before b.log bytes) e r is (λ d agrees. no_length (bytes (current before d).world) e (λ four. never (current a.log d) (current b.log d) (p.does (Err (Refused 4)) (ap failure four) d agrees)))
 
 module _ {S : Type 0} {gave : S → Item → Read → Type 0} where
   -- the last call, which may have been answered

@@ -33,9 +33,27 @@ abbrev pub kind_at : Option ObjectId → DurableWorld → Option ℕ
 kind_at None world = None
 kind_at (Some id) world = kind_of (get world.objects id)
 
+-- what a platform name is bound to in a world; one that would pass 255 bytes is bound to nothing
+abbrev pub bound_to : List ℕ → DurableWorld → Option ObjectId
+bound_to name world = if is_name_too_long name then None else get world.names name
+
 -- the kind of the object that a platform name leads to, if there is one
 abbrev pub kind_under : List ℕ → DurableWorld → Option ℕ
-kind_under name world = kind_at (if is_name_too_long name then None else get world.names name) world
+kind_under name world = kind_at (bound_to name world) world
+
+-- the value that an object's bytes are, where they are one
+abbrev pub value_of_bytes : {A : Type 0} → (List ℕ → Option A) → Option Object → Option A
+value_of_bytes read None = None
+value_of_bytes read (Some object) = read object.bytes
+
+-- the value of the object that an id names in a world, where there is one
+abbrev pub value_at : {A : Type 0} → (List ℕ → Option A) → Option ObjectId → DurableWorld → Option A
+value_at read None world = None
+value_at read (Some id) world = value_of_bytes read (get world.objects id)
+
+-- the value of the object that a platform name leads to, where there is one
+abbrev pub value_under : {A : Type 0} → (List ℕ → Option A) → List ℕ → DurableWorld → Option A
+value_under read name world = value_at read (bound_to name world) world
 
 -- a refusal over a kind tells the one that is so found in the world, in every agreeing one
 abbrev pub TellsKindOf : Logged → (DurableWorld → Option ℕ) → Refusal → Type 0
@@ -53,3 +71,7 @@ TellsKindOf t kind refusal.BadBytes = Unit {0}
 -- a refusal over a length tells that of these bytes, in every agreeing world
 abbrev pub TellsLengthIn : Logged → List ℕ → Refusal → Type 0
 TellsLengthIn t bytes e = (d : DurableWorld) → Agrees d t.reads → TellsLength bytes e
+
+-- a refusal over a length tells that of the bytes that are so found in the world as it was before, in every agreeing one
+abbrev pub TellsLengthOf : Logged → Logged → (DurableWorld → List ℕ) → Refusal → Type 0
+TellsLengthOf before after bytes e = (d : DurableWorld) → Agrees d after.reads → TellsLength (bytes (current before d).world) e

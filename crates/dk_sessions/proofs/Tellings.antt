@@ -11,8 +11,7 @@ use Rattle.dk_types.specs.declared.fault.AppFault.{AppFault}
 use Rattle.dk_types.specs.declared.fault.AppFault.TheVariants.{Refused}
 use Rattle.dk_model.specs.Runs as act
 use Rattle.dk_model.specs.Runs.{Run, Act}
-use Rattle.dk_model.specs.References.{get_as}
-use Rattle.dk_model.specs.Records.{SESSION_KIND, session_of, session_bytes, session_name}
+use Rattle.dk_model.specs.Records.{SESSION_KIND, session_of, session_name}
 use Rattle.dk_model.specs.Platforms.{platform_bound, numbered, session_under, is_connected}
 use Rattle.dk_overlay.specs.Logged.{Logged}
 use Rattle.dk_txn.specs.declared.refusal.Refusal.{Refusal}
@@ -20,7 +19,7 @@ use Rattle.dk_txn.specs.declared.txn.Txn.{Txn}
 use Rattle.dk_txn.specs.Refusals.{refusal_fault}
 use Rattle.dk_txn.specs.Does.{Does, SameChanges}
 use Rattle.dk_refs.specs.Telling.{TellsKind, TellsKindOf, kind_under}
-use Rattle.dk_refs.proofs.Tellings.{Avoids, answers, refuses, give_avoids, then_avoids, get_as_avoids, found_as_avoids, change_avoids, kind_found}
+use Rattle.dk_refs.proofs.Tellings.{Avoids, answers, refuses, give_avoids, then_avoids, get_as_avoids, found_as_avoids, kind_found}
 use Rattle.dk_sessions.specs.Lookups.{recorded}
 
 pub recorded_avoids : (name : List ℕ) (n : ℕ) → Avoids n (recorded name)
