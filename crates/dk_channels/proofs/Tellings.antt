@@ -60,7 +60,7 @@ join_avoids name session c r = if_avoids (platform.is_member session c.1.members
     (both_avoids c.0 r.0 (channel_bytes (record (c.1) { members = c.1.members ++ session ∷ [] })) (session_bytes (record (r.1) { channels = r.1.channels ++ name ∷ [] })))
 
 pub leave_avoids : (name : List ℕ) (session : Session) (c : ObjectId × ChannelRecord) (r : ObjectId × SessionRecord) → Avoids 3 (platform.leave_records name session c r)
-leave_avoids name session c r = if_avoids (platform.is_member session c.1.members) 
+leave_avoids name session c r = if_avoids (platform.is_member session c.1.members)
     (both_avoids c.0 r.0 (channel_bytes (record (c.1) { members = platform.without_member session c.1.members })) (session_bytes (record (r.1) { channels = platform.without_channel name r.1.channels })))
     (give_avoids 3 tt)
 
