@@ -19,16 +19,16 @@ abbrev pub kind_of_records : List ℕ → Session → DurableWorld → Option �
 kind_of_records name session world = other_kind (kind_under (channel_name name) world) (kind_under (session_name session.name) world)
 
 -- the bytes of the one where they are too long, and else those of the other
-abbrev pub longer : List ℕ → List ℕ → List ℕ
-longer first second = if is_too_long first then first else second
+abbrev pub too_long_of : List ℕ → List ℕ → List ℕ
+too_long_of first second = if is_too_long first then first else second
 
 -- the bytes of the two records as a join would leave them
 abbrev pub joined : List ℕ → Session → ChannelRecord → SessionRecord → List ℕ
-joined name session c r = longer (channel_bytes (record c { members = c.members ++ session ∷ [] })) (session_bytes (record r { channels = r.channels ++ name ∷ [] }))
+joined name session c r = too_long_of (channel_bytes (record c { members = c.members ++ session ∷ [] })) (session_bytes (record r { channels = r.channels ++ name ∷ [] }))
 
 -- the same of a leave
 abbrev pub left : List ℕ → Session → ChannelRecord → SessionRecord → List ℕ
-left name session c r = longer (channel_bytes (record c { members = without_member session c.members })) (session_bytes (record r { channels = without_channel name r.channels }))
+left name session c r = too_long_of (channel_bytes (record c { members = without_member session c.members })) (session_bytes (record r { channels = without_channel name r.channels }))
 
 -- where both records are there
 abbrev pub of_both : (ChannelRecord → SessionRecord → List ℕ) → Option ChannelRecord → Option SessionRecord → List ℕ

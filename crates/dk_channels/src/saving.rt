@@ -7,7 +7,7 @@ ghost use Rattle.dk_model.specs.Runs as act;
 ghost use Rattle.dk_txn.specs.Does.{Does};
 ghost use Rattle.dk_txn.specs.Refusals.{refusal_fault, TellsLength};
 ghost use Rattle.dk_refs.specs.Telling.{TellsLengthIn};
-ghost use Rattle.dk_channels.specs.BothRecords.{longer};
+ghost use Rattle.dk_channels.specs.BothRecords.{too_long_of};
 
 use dk_model::limits::BODY_MOST_BYTES;
 use dk_refs::{ChannelRecord, Managed, ManagedRef, SessionRecord};
@@ -40,7 +40,7 @@ pub(crate) fn save_both<V: View>(
     session: (ManagedRef<SessionRecord>, SessionRecord),
 ) -> Result<(), Refusal>
     ensures does { Does V.gave refusal_fault txn.old txn.new (platform.save_both channel.0 (channel_bytes channel.1) session.0 (session_bytes session.1)) result }
-    ensures length { IfErr result (TellsLengthIn txn.new.log (longer (channel_bytes channel.1) (session_bytes session.1))) }
+    ensures length { IfErr result (TellsLengthIn txn.new.log (too_long_of (channel_bytes channel.1) (session_bytes session.1))) }
 {
     let first = channel.1.encode(alloc)?;
     let second = session.1.encode(alloc)?;
