@@ -72,6 +72,7 @@ module _ {A : Type 0} (kind : ℕ) (read : List ℕ → Option A) (id : ObjectId
       at : (v : Option A) → carry_on {B = ObjectId × A} (found 10 v) (λ y. give (Ok (id, y))) s ≡ (Err (Refused 3), t) → ⊥
       at None e = no_other 10 3 s t (λ e. cc) e
       at (Some y) e = no_refusal (Refused 3) (id, y) s t e
+
       by : (b : Bool) → (object.kind == kind) ≡ b → tested object b ≡ (Err (Refused 3), t) → IsOther kind (Some object.kind) s t
       by true is e = absurd (at (read object.bytes) e)
       by false is e = record { same = sym (ap (λ q. q.1) e); other = other_kind object.kind kind is }

@@ -130,6 +130,7 @@ unbind_avoids name n one six s t e = by (act.is_reserved_name s.mode name) e
     at : (o : Option ObjectId) → act.unbind_found o name s ≡ (Err (Refused n), t) → ⊥
     at None e = refuses 1 n s t one e
     at (Some id) e = answers tt n (act.with_name s name None) t e
+
     by : (b : Bool) → ◌≡◌ {A = Result (Unit {0}) AppFault × Run} (if b then act.refuse 6 s else act.unbind_found (map.get s.world.names name) name s) (Err (Refused n), t) → ⊥
     by true e = refuses 6 n s t six e
     by false e = at (map.get s.world.names name) e
@@ -159,10 +160,14 @@ pub session_short : (conn : ConnNo) → act.is_too_long (session_bytes (record {
 session_short conn = short_of _ (omega (arith, length-append (u64_spelling conn.0) (list_spelling name_spelling []), length-u64 conn.0, length-list name_spelling []))
 
 pub channel_short : (listener : Bool) (delivery : Delivery) → act.is_too_long (channel_bytes (record { listener = listener; delivery = delivery; members = [] })) ≡ false
-channel_short listener delivery = short_of _ (omega (arith,
-    length-append (u8_spelling (flag listener)) (u8_spelling (delivery_number delivery) ++ list_spelling member_bytes []),
-    length-append (u8_spelling (delivery_number delivery)) (list_spelling member_bytes []),
-    length-u8 (flag listener), length-u8 (delivery_number delivery), length-list member_bytes []))
+channel_short listener delivery = short_of _ (omega (
+  arith,
+  length-append (u8_spelling (flag listener)) (u8_spelling (delivery_number delivery) ++ list_spelling member_bytes []),
+  length-append (u8_spelling (delivery_number delivery)) (list_spelling member_bytes []),
+  length-u8 (flag listener),
+  length-u8 (delivery_number delivery),
+  length-list member_bytes [],
+))
 
 -- where no agreeing world refuses so, nothing is told of a kind
 no_kind : (t : Logged) (kind : DurableWorld → Option ℕ) (e : Refusal) → (refusal_fault e ≡ Some (Refused 3) → (d : DurableWorld) → Agrees d t.reads → ⊥) → TellsKindOf t kind e
