@@ -1,3 +1,4 @@
 pub mod Lookups
 pub mod Drops
 pub mod Sendings
+pub mod Tellings

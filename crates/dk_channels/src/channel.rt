@@ -1,10 +1,11 @@
 //! Channels and their records.
-ghost use Rattle.std.specs.Prelude.{◌≡◌, Some, IfOk, MatchOption, true, false};
+ghost use Rattle.std.specs.Prelude.{◌≡◌, ℕ, List, Some, IfOk, IfErr, MatchOption, true, false};
 ghost use Rattle.dk_model.specs.Records.{channel_name, is_name_too_long};
 ghost use Rattle.dk_model.specs.Platforms as platform;
 ghost use Rattle.dk_txn.specs.Does.{Does};
 ghost use Rattle.dk_txn.specs.Refusals.{refusal_fault, TellsLength};
 ghost use Rattle.dk_types.specs.declared.fault.AppFault.TheVariants.{Refused};
+ghost use Rattle.dk_refs.specs.Telling.{TellsKindOf, TellsLengthIn, kind_under};
 ghost use Rattle.dk_channels.specs.Channels as acts;
 
 use dk_model::Mode;
@@ -45,7 +46,8 @@ pub fn create_channel<V: View>(
     listener: bool,
     delivery: Delivery,
 ) -> Result<Channel, Refusal>
-    ensures { Does V.gave refusal_fault txn.old txn.new (acts.create_channel name.now listener delivery) result }
+    ensures does { Does V.gave refusal_fault txn.old txn.new (acts.create_channel name.now listener delivery) result }
+    ensures length { IfErr result (TellsLengthIn txn.new.log (channel_name name.now)) }
 {
     open_channel(alloc, txn, name, listener, delivery)?;
     Ok(Channel {
@@ -60,7 +62,8 @@ fn open_channel<V: View>(
     listener: bool,
     delivery: Delivery,
 ) -> Result<(), Refusal>
-    ensures { Does V.gave refusal_fault txn.old txn.new (platform.create_channel name.now listener delivery) result }
+    ensures does { Does V.gave refusal_fault txn.old txn.new (platform.create_channel name.now listener delivery) result }
+    ensures length { IfErr result (TellsLengthIn txn.new.log (channel_name name.now)) }
 {
     let before = txn.set_mode(Mode::Platform);
     let end = make_channel(alloc, txn, name, listener, delivery);
@@ -75,7 +78,8 @@ fn make_channel<V: View>(
     listener: bool,
     delivery: Delivery,
 ) -> Result<(), Refusal>
-    ensures { Does V.gave refusal_fault txn.old txn.new (platform.new_channel name.now listener delivery) result }
+    ensures does { Does V.gave refusal_fault txn.old txn.new (platform.new_channel name.now listener delivery) result }
+    ensures length { IfErr result (TellsLengthIn txn.new.log (channel_name name.now)) }
 {
     let key = match key_of(alloc, name)? {
         None => return Err(name_too_long(name)),
@@ -95,7 +99,8 @@ fn record_under<V: View>(
     listener: bool,
     delivery: Delivery,
 ) -> Result<(), Refusal>
-    ensures { Does V.gave refusal_fault txn.old txn.new (acts.recording key.now listener delivery) result }
+    ensures does { Does V.gave refusal_fault txn.old txn.new (acts.recording key.now listener delivery) result }
+    ensures length { (bytes : List ℕ) → IfErr result (TellsLengthIn txn.new.log bytes) }
 {
     let record = ChannelRecord {
         listener,
@@ -126,7 +131,8 @@ pub fn get_channel<V: View>(
     txn: &mut Txn<'_, V>,
     name: &Name,
 ) -> Result<Channel, Refusal>
-    ensures { Does V.gave refusal_fault txn.old txn.new (acts.get_channel name.now) result }
+    ensures does { Does V.gave refusal_fault txn.old txn.new (acts.get_channel name.now) result }
+    ensures length { IfErr result (TellsLengthIn txn.new.log (channel_name name.now)) }
 {
     find_channel(alloc, txn, name)?;
     Ok(Channel {
@@ -135,7 +141,8 @@ pub fn get_channel<V: View>(
 }
 
 fn find_channel<V: View>(alloc: Global, txn: &mut Txn<'_, V>, name: &Name) -> Result<(), Refusal>
-    ensures { Does V.gave refusal_fault txn.old txn.new (platform.get_channel name.now) result }
+    ensures does { Does V.gave refusal_fault txn.old txn.new (platform.get_channel name.now) result }
+    ensures length { IfErr result (TellsLengthIn txn.new.log (channel_name name.now)) }
 {
     match key_of(alloc, name)? {
         None => Err(name_too_long(name)),
@@ -152,7 +159,8 @@ pub fn record_of<V: View>(
     txn: &mut Txn<'_, V>,
     name: &Name,
 ) -> Result<(ManagedRef<ChannelRecord>, ChannelRecord), Refusal>
-    ensures { Does V.gave refusal_fault txn.old txn.new (platform.channel_under name.now) result }
+    ensures does { Does V.gave refusal_fault txn.old txn.new (platform.channel_under name.now) result }
+    ensures kind { IfErr result (TellsKindOf txn.new.log (kind_under (channel_name name.now))) }
 {
     match recorded(alloc, txn, name)? {
         None => Err(Refusal::NameNotBound),
@@ -170,7 +178,8 @@ pub fn members<V: View>(
     txn: &mut Txn<'_, V>,
     channel: &Channel,
 ) -> Result<Listed<Session>, Refusal>
-    ensures { Does V.gave refusal_fault txn.old txn.new (platform.members channel.now.name) result }
+    ensures does { Does V.gave refusal_fault txn.old txn.new (platform.members channel.now.name) result }
+    ensures kind { IfErr result (TellsKindOf txn.new.log (kind_under (channel_name channel.now.name))) }
 {
     let (_, record) = record_of(alloc, txn, &channel.name)?;
     Ok(record.members)

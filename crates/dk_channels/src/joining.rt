@@ -1,9 +1,11 @@
 //! Joining a channel.
-ghost use Rattle.std.specs.Prelude.{◌≡◌};
+ghost use Rattle.std.specs.Prelude.{◌≡◌, IfErr};
 ghost use Rattle.dk_model.specs.Platforms as platform;
 ghost use Rattle.dk_model.specs.Runs as act;
 ghost use Rattle.dk_txn.specs.Does.{Does};
 ghost use Rattle.dk_txn.specs.Refusals.{refusal_fault};
+ghost use Rattle.dk_refs.specs.Telling.{TellsKindOf, TellsLengthIn, TellsLengthOf};
+ghost use Rattle.dk_channels.specs.BothRecords.{kind_of_records, records_after, joined};
 
 use crate::channel::{Channel, record_of};
 use crate::lists::{is_member, with_channel, with_member};
@@ -23,7 +25,9 @@ pub fn join<V: View>(
     channel: &Channel,
     session: &Session,
 ) -> Result<(), Refusal>
-    ensures { Does V.gave refusal_fault txn.old txn.new (platform.join channel.now.name session.now) result }
+    ensures does { Does V.gave refusal_fault txn.old txn.new (platform.join channel.now.name session.now) result }
+    ensures kind { IfErr result (TellsKindOf txn.new.log (kind_of_records channel.now.name session.now)) }
+    ensures length { IfErr result (TellsLengthOf txn.old.log txn.new.log (records_after joined channel.now.name session.now)) }
 {
     let before = txn.set_mode(Mode::Platform);
     let end = enter(alloc, txn, &channel.name, session);
@@ -37,7 +41,9 @@ fn enter<V: View>(
     name: &Name,
     session: &Session,
 ) -> Result<(), Refusal>
-    ensures { Does V.gave refusal_fault txn.old txn.new (act.and_then (platform.channel_under name.now) (λ c. act.and_then (platform.own_record session.now) (λ r. platform.join_records name.now session.now c r))) result }
+    ensures does { Does V.gave refusal_fault txn.old txn.new (act.and_then (platform.channel_under name.now) (λ c. act.and_then (platform.own_record session.now) (λ r. platform.join_records name.now session.now c r))) result }
+    ensures kind { IfErr result (TellsKindOf txn.new.log (kind_of_records name.now session.now)) }
+    ensures length { IfErr result (TellsLengthOf txn.old.log txn.new.log (records_after joined name.now session.now)) }
 {
     let channel = record_of(alloc, txn, name)?;
     let own = own_record(alloc, txn, session)?;
@@ -52,7 +58,8 @@ fn join_records<V: View>(
     channel: (ManagedRef<ChannelRecord>, ChannelRecord),
     own: (ManagedRef<SessionRecord>, SessionRecord),
 ) -> Result<(), Refusal>
-    ensures { Does V.gave refusal_fault txn.old txn.new (platform.join_records name.now session.now channel own) result }
+    ensures does { Does V.gave refusal_fault txn.old txn.new (platform.join_records name.now session.now channel own) result }
+    ensures length { IfErr result (TellsLengthIn txn.new.log (joined name.now session.now channel.1 own.1)) }
 {
     if is_member(session, channel.1.members.as_slice()) {
         return Ok(());

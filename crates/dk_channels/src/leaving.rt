@@ -1,10 +1,12 @@
 //! Leaving a channel.
-ghost use Rattle.std.specs.Prelude.{◌≡◌, [], IfOk};
+ghost use Rattle.std.specs.Prelude.{◌≡◌, [], IfOk, IfErr};
 ghost use Rattle.dk_model.specs.Records.{channel_bytes, session_bytes};
 ghost use Rattle.dk_model.specs.Platforms as platform;
 ghost use Rattle.dk_model.specs.Runs as act;
 ghost use Rattle.dk_txn.specs.Does.{Does};
 ghost use Rattle.dk_txn.specs.Refusals.{refusal_fault};
+ghost use Rattle.dk_refs.specs.Telling.{TellsKindOf, TellsLengthIn, TellsLengthOf};
+ghost use Rattle.dk_channels.specs.BothRecords.{kind_of_records, records_after, left};
 
 use crate::channel::{Channel, record_of};
 use crate::lists::{is_member, without_channel, without_member};
@@ -24,7 +26,9 @@ pub fn leave<V: View>(
     channel: &Channel,
     session: &Session,
 ) -> Result<(), Refusal>
-    ensures { Does V.gave refusal_fault txn.old txn.new (platform.leave channel.now.name session.now) result }
+    ensures does { Does V.gave refusal_fault txn.old txn.new (platform.leave channel.now.name session.now) result }
+    ensures kind { IfErr result (TellsKindOf txn.new.log (kind_of_records channel.now.name session.now)) }
+    ensures length { IfErr result (TellsLengthOf txn.old.log txn.new.log (records_after left channel.now.name session.now)) }
 {
     let before = txn.set_mode(Mode::Platform);
     let end = step_out(alloc, txn, &channel.name, session);
@@ -38,7 +42,9 @@ fn step_out<V: View>(
     name: &Name,
     session: &Session,
 ) -> Result<(), Refusal>
-    ensures { Does V.gave refusal_fault txn.old txn.new (act.and_then (platform.channel_under name.now) (λ c. act.and_then (platform.own_record session.now) (λ r. platform.leave_records name.now session.now c r))) result }
+    ensures does { Does V.gave refusal_fault txn.old txn.new (act.and_then (platform.channel_under name.now) (λ c. act.and_then (platform.own_record session.now) (λ r. platform.leave_records name.now session.now c r))) result }
+    ensures kind { IfErr result (TellsKindOf txn.new.log (kind_of_records name.now session.now)) }
+    ensures length { IfErr result (TellsLengthOf txn.old.log txn.new.log (records_after left name.now session.now)) }
 {
     let channel = record_of(alloc, txn, name)?;
     let own = own_record(alloc, txn, session)?;
@@ -53,7 +59,8 @@ fn leave_records<V: View>(
     channel: (ManagedRef<ChannelRecord>, ChannelRecord),
     own: (ManagedRef<SessionRecord>, SessionRecord),
 ) -> Result<(), Refusal>
-    ensures { Does V.gave refusal_fault txn.old txn.new (platform.leave_records name.now session.now channel own) result }
+    ensures does { Does V.gave refusal_fault txn.old txn.new (platform.leave_records name.now session.now channel own) result }
+    ensures length { IfErr result (TellsLengthIn txn.new.log (left name.now session.now channel.1 own.1)) }
 {
     if !is_member(session, channel.1.members.as_slice()) {
         return Ok(());

@@ -18,3 +18,5 @@ pub mod leaving;
 pub mod lists;
 mod saving;
 pub mod sending;
+#[cfg(test)]
+mod tests;

@@ -1,11 +1,13 @@
 //! Saving a channel's record and a session's as one.
-ghost use Rattle.std.specs.Prelude.{◌≡◌, Some};
+ghost use Rattle.std.specs.Prelude.{◌≡◌, ℕ, List, Some, false, IfErr};
 ghost use Rattle.dk_types.specs.declared.fault.AppFault.TheVariants.{Refused};
 ghost use Rattle.dk_model.specs.Records.{channel_bytes, session_bytes};
 ghost use Rattle.dk_model.specs.Platforms as platform;
 ghost use Rattle.dk_model.specs.Runs as act;
 ghost use Rattle.dk_txn.specs.Does.{Does};
 ghost use Rattle.dk_txn.specs.Refusals.{refusal_fault, TellsLength};
+ghost use Rattle.dk_refs.specs.Telling.{TellsLengthIn};
+ghost use Rattle.dk_channels.specs.BothRecords.{too_long_of};
 
 use dk_model::limits::BODY_MOST_BYTES;
 use dk_refs::{ChannelRecord, Managed, ManagedRef, SessionRecord};
@@ -37,7 +39,8 @@ pub(crate) fn save_both<V: View>(
     channel: (ManagedRef<ChannelRecord>, ChannelRecord),
     session: (ManagedRef<SessionRecord>, SessionRecord),
 ) -> Result<(), Refusal>
-    ensures { Does V.gave refusal_fault txn.old txn.new (platform.save_both channel.0 (channel_bytes channel.1) session.0 (session_bytes session.1)) result }
+    ensures does { Does V.gave refusal_fault txn.old txn.new (platform.save_both channel.0 (channel_bytes channel.1) session.0 (session_bytes session.1)) result }
+    ensures length { IfErr result (TellsLengthIn txn.new.log (too_long_of (channel_bytes channel.1) (session_bytes session.1))) }
 {
     let first = channel.1.encode(alloc)?;
     let second = session.1.encode(alloc)?;
@@ -57,7 +60,8 @@ fn save_payloads<V: View>(
     second: ObjectId,
     behind: Blob,
 ) -> Result<(), Refusal>
-    ensures { Does V.gave refusal_fault txn.old txn.new (act.and_then (act.save first payload) (λ _. act.save second behind)) result }
+    ensures does { Does V.gave refusal_fault txn.old txn.new (act.and_then (act.save first payload) (λ _. act.save second behind)) result }
+    ensures length { (bytes : List ℕ) → act.is_too_long payload ≡ false → act.is_too_long behind ≡ false → IfErr result (TellsLengthIn txn.new.log bytes) }
 {
     txn.save(first, payload)?;
     txn.save(second, behind)

@@ -1,11 +1,13 @@
 //! Sending on a channel.
-ghost use Rattle.std.specs.Prelude.{◌≡◌, false, IfOk};
+ghost use Rattle.std.specs.Prelude.{◌≡◌, false, IfOk, IfErr};
 ghost use Rattle.std.specs.Option.{option_copied};
 ghost use Rattle.dk_types.specs.declared.job.Out.TheVariants as out;
+ghost use Rattle.dk_model.specs.Records.{channel_name};
 ghost use Rattle.dk_model.specs.Platforms as platform;
 ghost use Rattle.dk_model.specs.Runs as act;
 ghost use Rattle.dk_txn.specs.Does.{Does};
 ghost use Rattle.dk_txn.specs.Refusals.{refusal_fault};
+ghost use Rattle.dk_refs.specs.Telling.{TellsKindOf, TellsLengthIn, kind_under};
 
 use crate::channel::{Channel, record_of};
 use crate::lists::is_sender;
@@ -23,7 +25,9 @@ pub fn send<V: View>(
     sender: Option<&Session>,
     body: &Blob,
 ) -> Result<(), Refusal>
-    ensures { Does V.gave refusal_fault txn.old txn.new (platform.channel_send channel.now.name (option_copied sender.entry) body.now) result }
+    ensures does { Does V.gave refusal_fault txn.old txn.new (platform.channel_send channel.now.name (option_copied sender.entry) body.now) result }
+    ensures kind { IfErr result (TellsKindOf txn.new.log (kind_under (channel_name channel.now.name))) }
+    ensures length { IfErr result (TellsLengthIn txn.new.log body.now) }
 {
     let (_, record) = record_of(alloc, txn, &channel.name)?;
     if is_too_long(body) {

@@ -1,7 +1,10 @@
 //! Records that begin and end, on the platform's behalf.
+ghost use Rattle.std.specs.Prelude.{ℕ, List, IfErr};
+ghost use Rattle.dk_model.specs.Records.{session_name as named};
 ghost use Rattle.dk_model.specs.Platforms as platform;
 ghost use Rattle.dk_txn.specs.Does.{Does};
 ghost use Rattle.dk_txn.specs.Refusals.{refusal_fault};
+ghost use Rattle.dk_refs.specs.Telling.{TellsKindOf, TellsLengthIn, kind_under};
 ghost use Rattle.dk_sessions.specs.Openings as opening;
 
 use crate::recorded::{session_name, too_long};
@@ -17,7 +20,8 @@ pub fn open_record<V: View>(
     txn: &mut Txn<'_, V>,
     session: &Session,
 ) -> Result<(), Refusal>
-    ensures { Does V.gave refusal_fault txn.old txn.new (platform.open_record session.now) result }
+    ensures does { Does V.gave refusal_fault txn.old txn.new (platform.open_record session.now) result }
+    ensures length { IfErr result (TellsLengthIn txn.new.log (named session.now.name)) }
 {
     let before = txn.set_mode(Mode::Platform);
     let end = new_record(alloc, txn, session);
@@ -32,7 +36,8 @@ pub fn close_record<V: View>(
     txn: &mut Txn<'_, V>,
     session: &Session,
 ) -> Result<(), Refusal>
-    ensures { Does V.gave refusal_fault txn.old txn.new (platform.close_record session.now) result }
+    ensures does { Does V.gave refusal_fault txn.old txn.new (platform.close_record session.now) result }
+    ensures kind { IfErr result (TellsKindOf txn.new.log (kind_under (named session.now.name))) }
 {
     let before = txn.set_mode(Mode::Platform);
     let end = take_record(alloc, txn, session);
@@ -45,7 +50,8 @@ fn new_record<V: View>(
     txn: &mut Txn<'_, V>,
     session: &Session,
 ) -> Result<(), Refusal>
-    ensures { Does V.gave refusal_fault txn.old txn.new (platform.new_record session.now) result }
+    ensures does { Does V.gave refusal_fault txn.old txn.new (platform.new_record session.now) result }
+    ensures length { IfErr result (TellsLengthIn txn.new.log (named session.now.name)) }
 {
     let key = match session_name(alloc, &session.name)? {
         None => return Err(too_long(&session.name)),
@@ -64,7 +70,8 @@ fn record_under<V: View>(
     key: &Name,
     conn: ConnNo,
 ) -> Result<(), Refusal>
-    ensures { Does V.gave refusal_fault txn.old txn.new (opening.recording key.now conn) result }
+    ensures does { Does V.gave refusal_fault txn.old txn.new (opening.recording key.now conn) result }
+    ensures length { (bytes : List ℕ) → IfErr result (TellsLengthIn txn.new.log bytes) }
 {
     let session = SessionRecord {
         conn,
@@ -79,7 +86,8 @@ fn take_record<V: View>(
     txn: &mut Txn<'_, V>,
     session: &Session,
 ) -> Result<(), Refusal>
-    ensures { Does V.gave refusal_fault txn.old txn.new (opening.taking session.now) result }
+    ensures does { Does V.gave refusal_fault txn.old txn.new (opening.taking session.now) result }
+    ensures kind { IfErr result (TellsKindOf txn.new.log (kind_under (named session.now.name))) }
 {
     let found = own_record(alloc, txn, session)?;
     match session_name(alloc, &session.name)? {

@@ -1,8 +1,10 @@
 //! The calls that read a session's record.
-ghost use Rattle.std.specs.Prelude.{◌≡◌};
+ghost use Rattle.std.specs.Prelude.{◌≡◌, IfErr};
+ghost use Rattle.dk_model.specs.Records.{session_name};
 ghost use Rattle.dk_model.specs.Platforms as platform;
 ghost use Rattle.dk_txn.specs.Does.{Does, SameChanges};
 ghost use Rattle.dk_txn.specs.Refusals.{refusal_fault};
+ghost use Rattle.dk_refs.specs.Telling.{TellsKindOf, TellsLengthIn, kind_under};
 
 use crate::recorded::{is_too_long, recorded, too_long};
 use dk_refs::{ManagedRef, SessionRecord};
@@ -18,6 +20,7 @@ fn session_under<V: View>(
 ) -> Result<(ManagedRef<SessionRecord>, SessionRecord), Refusal>
     ensures does { Does V.gave refusal_fault txn.old txn.new (platform.session_under name.now) result }
     ensures same_changes { SameChanges txn.old.log txn.new.log }
+    ensures kind { IfErr result (TellsKindOf txn.new.log (kind_under (session_name name.now))) }
 {
     match recorded(alloc, txn, name)? {
         None => Err(Refusal::NameNotBound),
@@ -38,6 +41,7 @@ pub fn own_record<V: View>(
 ) -> Result<(ManagedRef<SessionRecord>, SessionRecord), Refusal>
     ensures does { Does V.gave refusal_fault txn.old txn.new (platform.own_record session.now) result }
     ensures same_changes { SameChanges txn.old.log txn.new.log }
+    ensures kind { IfErr result (TellsKindOf txn.new.log (kind_under (session_name session.now.name))) }
 {
     let found = session_under(alloc, txn, &session.name)?;
     if found.1.conn.0 != session.conn.0 {
@@ -55,6 +59,7 @@ pub fn record_if_connected<V: View>(
 ) -> Result<Option<(ManagedRef<SessionRecord>, SessionRecord)>, Refusal>
     ensures does { Does V.gave refusal_fault txn.old txn.new (platform.record_if_connected session.now) result }
     ensures same_changes { SameChanges txn.old.log txn.new.log }
+    ensures kind { IfErr result (TellsKindOf txn.new.log (kind_under (session_name session.now.name))) }
 {
     match recorded(alloc, txn, &session.name)? {
         None => Ok(None),
@@ -78,6 +83,7 @@ pub fn is_connected<V: View>(
 ) -> Result<bool, Refusal>
     ensures does { Does V.gave refusal_fault txn.old txn.new (platform.is_connected session.now) result }
     ensures same_changes { SameChanges txn.old.log txn.new.log }
+    ensures kind { IfErr result (TellsKindOf txn.new.log (kind_under (session_name session.now.name))) }
 {
     match recorded(alloc, txn, &session.name)? {
         None => Ok(false),
@@ -92,6 +98,8 @@ pub fn is_connected<V: View>(
 pub fn find<V: View>(alloc: Global, txn: &mut Txn<'_, V>, name: &Name) -> Result<Session, Refusal>
     ensures does { Does V.gave refusal_fault txn.old txn.new (platform.find_session name.now) result }
     ensures same_changes { SameChanges txn.old.log txn.new.log }
+    ensures kind { IfErr result (TellsKindOf txn.new.log (kind_under (session_name name.now))) }
+    ensures length { IfErr result (TellsLengthIn txn.new.log (session_name name.now)) }
 {
     if is_too_long(name) {
         return Err(too_long(name));

@@ -1,8 +1,10 @@
 //! Messages to sessions.
-ghost use Rattle.std.specs.Prelude.{◌≡◌, OnErr};
+ghost use Rattle.std.specs.Prelude.{◌≡◌, OnErr, IfErr};
+ghost use Rattle.dk_model.specs.Records.{session_name};
 ghost use Rattle.dk_model.specs.Platforms as platform;
 ghost use Rattle.dk_txn.specs.Does.{Does, SameChanges};
 ghost use Rattle.dk_txn.specs.Refusals.{refusal_fault};
+ghost use Rattle.dk_refs.specs.Telling.{TellsKindOf, TellsLengthIn, kind_under};
 
 use crate::records::is_connected;
 use dk_txn::{Refusal, Txn, View};
@@ -19,6 +21,8 @@ pub fn send<V: View>(
 ) -> Result<(), Refusal>
     ensures does { Does V.gave refusal_fault txn.old txn.new (platform.session_send session.now body.now) result }
     ensures refused { OnErr result (SameChanges txn.old.log txn.new.log) }
+    ensures kind { IfErr result (TellsKindOf txn.new.log (kind_under (session_name session.now.name))) }
+    ensures length { IfErr result (TellsLengthIn txn.new.log body.now) }
 {
     let connected = is_connected(alloc, txn, session)?;
     if !connected {

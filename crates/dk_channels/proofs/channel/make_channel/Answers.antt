@@ -1,20 +1,30 @@
 use Rattle.dk_channels.proofs.Lookups.{new_long, new_stops, new_exists, new_made}
+use Rattle.dk_model.specs.Records.{channel_name}
+use Rattle.dk_refs.proofs.Tellings.{length_passes, length_never, binding_avoids}
 use Rattle.dk_channels.proofs.channel.make_channel.Goals as goal
 
-pub returns-in-None : goal.returns-in-None
-returns-in-None g c = new_long c.args.name.now c.name_too_long.ensures.told (rw c.in-None.is at c.in_ok-key_of.ensures) c.args.listener c.args.delivery
+pub returns-in-None-clause-does : goal.returns-in-None-clause-does
+returns-in-None-clause-does g c = new_long c.args.name.now c.name_too_long.ensures.told (rw c.in-None.is at c.in_ok-key_of.ensures) c.args.listener c.args.delivery
 
-pub returns-in_err-binding : goal.returns-in_err-binding
-returns-in_err-binding g c =
+pub returns-in_err-binding-clause-does : goal.returns-in_err-binding-clause-does
+returns-in_err-binding-clause-does g c =
     let key = rw c.in-Some.is at c.in_ok-key_of.ensures in
     new_stops c.args.name.now c.in-Some.key key.0 key.1 c.args.listener c.args.delivery c.in_err-binding.ensures.does c.from_residual-in_err-binding.ensures.1
 
-pub returns-in-Some-2 : goal.returns-in-Some-2
-returns-in-Some-2 g c =
+pub returns-in-Some-2-clause-does : goal.returns-in-Some-2-clause-does
+returns-in-Some-2-clause-does g c =
     let key = rw c.in-Some.is at c.in_ok-key_of.ensures in
     new_exists c.args.name.now c.in-Some.key key.0 key.1 c.args.listener c.args.delivery (rw c.in-Some-2.is at c.in_ok-binding.ensures.does)
 
-pub returns : goal.returns
-returns g c =
+pub returns-clause-does : goal.returns-clause-does
+returns-clause-does g c =
     let key = rw c.in-Some.is at c.in_ok-key_of.ensures in
-    new_made c.args.name.now c.in-Some.key key.0 key.1 c.args.listener c.args.delivery (rw c.in-None-2.is at c.in_ok-binding.ensures.does) c.record_under.ensures
+    new_made c.args.name.now c.in-Some.key key.0 key.1 c.args.listener c.args.delivery (rw c.in-None-2.is at c.in_ok-binding.ensures.does) c.record_under.ensures.does
+
+pub returns-in_err-binding-clause-length : goal.returns-in_err-binding-clause-length
+returns-in_err-binding-clause-length g c =
+    let at = channel_name c.args.name.now in
+    length_passes c.in_err-binding.ensures.does _ at (length_never c.in_err-binding.ensures.does at (binding_avoids c.in-Some.key 4)) c.from_residual-in_err-binding.ensures.1
+
+pub returns-clause-length : goal.returns-clause-length
+returns-clause-length g c = c.record_under.ensures.length (channel_name c.args.name.now)

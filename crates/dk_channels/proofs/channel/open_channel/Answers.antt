@@ -1,10 +1,15 @@
 use Rattle.dk_model.specs.declared.mode.Mode.TheVariants.{Platform}
 use Rattle.dk_model.specs.Platforms as platform
 use Rattle.dk_txn.proofs.Kit.{within_does}
+use Rattle.dk_model.specs.Records.{channel_name}
+use Rattle.dk_refs.proofs.Tellings.{length_moded}
 use Rattle.dk_channels.proofs.channel.open_channel.Goals as goal
 
-pub returns : goal.returns
+pub returns-clause-does : goal.returns-clause-does
 unfolding platform.create_channel
-returns g c =
-    within_does Platform c.set_mode-before.ensures.same_view c.set_mode-before.ensures.view_stays c.set_mode-before.ensures.mode c.make_channel-end.ensures
+returns-clause-does g c =
+    within_does Platform c.set_mode-before.ensures.same_view c.set_mode-before.ensures.view_stays c.set_mode-before.ensures.mode c.make_channel-end.ensures.does
     c.set_mode.ensures.same_view c.set_mode.ensures.view_stays (rw c.set_mode-before.ensures.old at c.set_mode.ensures.mode)
+
+pub returns-clause-length : goal.returns-clause-length
+returns-clause-length g c = length_moded _ c.make_channel-end.new.txn.log c.set_mode.new.self.log _ (channel_name c.args.name.now) c.set_mode.ensures.mode c.make_channel-end.ensures.length

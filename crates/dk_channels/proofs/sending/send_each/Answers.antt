@@ -1,4 +1,4 @@
-use Rattle.std.proofs.Common.{◌≡◌, ◌+◌, nat_lt, length, true, false, rules, sym, ◌∙◌}
+use Rattle.std.proofs.Common.{◌≡◌, ◌+◌, nat_lt, length, false, rules}
 use Rattle.dk_types.specs.declared.job.Out.TheVariants as out
 use Rattle.dk_types.specs.declared.limits.TheConstants.{MESSAGES_MOST_COUNT}
 use Rattle.dk_channels.proofs.Sendings.{sent_more, each_stops}

@@ -5,19 +5,19 @@ use Rattle.dk_game.proofs.ChannelJobs.{channel_does, channel_none, channel_halts
 use Rattle.dk_game.proofs.channel_jobs.on_channel.Goals as goal
 
 pub returns-then-not-is_member : goal.returns-then-not-is_member
-returns-then-not-is_member g c = channel_does _ _ _ _ c.in-Ok.ensures (if_false_does _ (ap (is_member c.args.session.now) (sym c.as_slice.ensures) ∙ sym c.is_member.ensures ∙ c.if-not-is_member.true) give_does)
+returns-then-not-is_member g c = channel_does _ _ _ _ c.in-Ok.ensures.does (if_false_does _ (ap (is_member c.args.session.now) (sym c.as_slice.ensures) ∙ sym c.is_member.ensures ∙ c.if-not-is_member.true) give_does)
 
 pub returns-then-record : goal.returns-then-record
-returns-then-record g c = channel_does _ _ _ _ c.in-Ok.ensures (if_true_does _ (ap (is_member c.args.session.now) (sym c.as_slice.ensures) ∙ sym c.is_member.ensures ∙ c.if-not-is_member.false) (if_true_does _ c.if-record.true c.game_part.ensures))
+returns-then-record g c = channel_does _ _ _ _ c.in-Ok.ensures.does (if_true_does _ (ap (is_member c.args.session.now) (sym c.as_slice.ensures) ∙ sym c.is_member.ensures ∙ c.if-not-is_member.false) (if_true_does _ c.if-record.true c.game_part.ensures))
 
 pub returns-in_err-send-in-Ok : goal.returns-in_err-send-in-Ok
-returns-in_err-send-in-Ok g c = channel_does _ _ _ _ c.in-Ok.ensures (if_true_does _ (ap (is_member c.args.session.now) (sym c.as_slice.ensures) ∙ sym c.is_member.ensures ∙ c.if-not-is_member.false) (if_false_does _ c.if-record.false (halts_last (rw c.in_ok-clone-in-Ok.ensures.cases at c.in_err-send-in-Ok.ensures) c.from_residual-in_err-send-in-Ok.ensures.1)))
+returns-in_err-send-in-Ok g c = channel_does _ _ _ _ c.in-Ok.ensures.does (if_true_does _ (ap (is_member c.args.session.now) (sym c.as_slice.ensures) ∙ sym c.is_member.ensures ∙ c.if-not-is_member.false) (if_false_does _ c.if-record.false (halts_last (rw c.in_ok-clone-in-Ok.ensures.cases at c.in_err-send-in-Ok.ensures.does) c.from_residual-in_err-send-in-Ok.ensures.1)))
 
 pub returns-in-Ok : goal.returns-in-Ok
-returns-in-Ok g c = channel_does _ _ _ _ c.in-Ok.ensures (if_true_does _ (ap (is_member c.args.session.now) (sym c.as_slice.ensures) ∙ sym c.is_member.ensures ∙ c.if-not-is_member.false) (if_false_does _ c.if-record.false (then_last (rw c.in_ok-clone-in-Ok.ensures.cases at c.in_ok-send-in-Ok.ensures))))
+returns-in-Ok g c = channel_does _ _ _ _ c.in-Ok.ensures.does (if_true_does _ (ap (is_member c.args.session.now) (sym c.as_slice.ensures) ∙ sym c.is_member.ensures ∙ c.if-not-is_member.false) (if_false_does _ c.if-record.false (then_last (rw c.in_ok-clone-in-Ok.ensures.cases at c.in_ok-send-in-Ok.ensures.does))))
 
 pub returns-in-NameNotBound : goal.returns-in-NameNotBound
-returns-in-NameNotBound g c = channel_none _ _ _ _ (rw c.in-NameNotBound.is at c.in-Err.ensures)
+returns-in-NameNotBound g c = channel_none _ _ _ _ (rw c.in-NameNotBound.is at c.in-Err.ensures.does)
 
 pub returns : goal.returns
-returns g c = channel_halts _ _ _ _ c.in-Err.ensures c.in_default.not-NameNotBound c.from.ensures
+returns g c = channel_halts _ _ _ _ c.in-Err.ensures.does c.in_default.not-NameNotBound c.from.ensures

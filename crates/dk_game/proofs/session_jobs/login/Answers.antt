@@ -15,10 +15,10 @@ pub returns-then-branch : goal.returns-then-branch
 returns-then-branch g c = login_does _ _ (then_does _ c.in_ok-is_recorded.ensures.does (if_true_does _ c.if-branch.true (then_does _ c.in_ok-send.ensures.does (then_last c.in_ok-send-2.ensures.does))))
 
 pub returns-in_err-open_record : goal.returns-in_err-open_record
-returns-in_err-open_record g c = login_does _ _ (then_does _ c.in_ok-is_recorded.ensures.does (if_false_does _ c.if-branch.false (halts _ c.in_err-open_record.ensures c.from_residual-in_err-open_record.ensures.1)))
+returns-in_err-open_record g c = login_does _ _ (then_does _ c.in_ok-is_recorded.ensures.does (if_false_does _ c.if-branch.false (halts _ c.in_err-open_record.ensures.does c.from_residual-in_err-open_record.ensures.1)))
 
 pub returns-in_err-send-3 : goal.returns-in_err-send-3
-returns-in_err-send-3 g c = login_does _ _ (then_does _ c.in_ok-is_recorded.ensures.does (if_false_does _ c.if-branch.false (then_does _ c.in_ok-open_record.ensures (halts _ c.in_err-send-3.ensures.does c.from_residual-in_err-send-3.ensures.1))))
+returns-in_err-send-3 g c = login_does _ _ (then_does _ c.in_ok-is_recorded.ensures.does (if_false_does _ c.if-branch.false (then_does _ c.in_ok-open_record.ensures.does (halts _ c.in_err-send-3.ensures.does c.from_residual-in_err-send-3.ensures.1))))
 
 pub returns : goal.returns
-returns g c = login_does _ _ (then_does _ c.in_ok-is_recorded.ensures.does (if_false_does _ c.if-branch.false (then_does _ c.in_ok-open_record.ensures (then_does _ c.in_ok-send-3.ensures.does c.game_part.ensures))))
+returns g c = login_does _ _ (then_does _ c.in_ok-is_recorded.ensures.does (if_false_does _ c.if-branch.false (then_does _ c.in_ok-open_record.ensures.does (then_does _ c.in_ok-send-3.ensures.does c.game_part.ensures))))

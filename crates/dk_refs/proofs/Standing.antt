@@ -1,0 +1,95 @@
+-- What stands under a platform name where its record was read, or was refused.
+use Rattle.std.proofs.Common.{◌≡◌, ℕ, ◌==◌, Bool, true, false, if◌then◌else◌, Option, Some, None, List, Result, Ok, Err, refl, sym, ap, arith}
+use Rattle.std.proofs.lemmas.Bool.Decides.{nat_tests}
+use Rattle.std.specs.FinMap as map
+use Rattle.dk_types.specs.declared.number.ObjectId.{ObjectId}
+use Rattle.dk_types.specs.declared.object.Object.{Object}
+use Rattle.dk_types.specs.declared.fault.AppFault.{AppFault}
+use Rattle.dk_types.specs.declared.fault.AppFault.TheVariants.{Refused}
+use Rattle.dk_model.specs.Runs as act
+use Rattle.dk_model.specs.Runs.{Run, Act, give, and_then, carry_on, found, refuse}
+use Rattle.dk_model.specs.References.{get_as}
+use Rattle.dk_model.specs.Platforms.{platform_bound, found_as, record_under}
+use Rattle.dk_refs.specs.Telling.{kind_of, kind_at, kind_under, value_of_bytes, value_at, value_under}
+
+-- a record was read: its kind and its value are so, and nothing was done
+pub record Stands {A : Type 0} (kind : ℕ) (found_kind : Option ℕ) (found_value : Option A) (x : ObjectId × A) (s t : Run) : Type 0 where
+  pub same : t ≡ s
+  pub has_kind : found_kind ≡ Some kind
+  pub has_value : found_value ≡ Some x.1
+
+-- a record was refused over its kind, which is another, and nothing was done
+pub record IsOther (kind : ℕ) (found_kind : Option ℕ) (s t : Run) : Type 0 where
+  pub same : t ≡ s
+  pub other : found_kind ≡ Some kind → ⊥
+
+no_answer : {A P : Type 0} (fault : AppFault) (x : A) (s t : Run) → ◌≡◌ {A = Result A AppFault × Run} (Err fault, s) (Ok x, t) → P
+no_answer {A = A} fault x s t e = let same : ◌≡◌ {A = Result A AppFault} (Err fault) (Ok x) = ap (λ q. q.0) e in absurd cc
+
+no_refusal : {A P : Type 0} (fault : AppFault) (x : A) (s t : Run) → ◌≡◌ {A = Result A AppFault × Run} (Ok x, s) (Err fault, t) → P
+no_refusal {A = A} fault x s t e = let same : ◌≡◌ {A = Result A AppFault} (Ok x) (Err fault) = ap (λ q. q.0) e in absurd cc
+
+no_other : {A P : Type 0} (m n : ℕ) (s t : Run) → (m ≡ n → ⊥) → ◌≡◌ {A = Result A AppFault × Run} (Err (Refused m), s) (Err (Refused n), t) → P
+no_other {A = A} m n s t other e =
+    let told : ◌≡◌ {A = Result A AppFault} (Err (Refused m)) (Err (Refused n)) = ap (λ q. q.0) e in
+    let same : m ≡ n = cc in absurd (other same)
+
+same_kind : (a b : ℕ) → (a == b) ≡ true → a ≡ b
+same_kind a b h = grind (arith, nat_tests)
+
+other_kind : (a b : ℕ) → (a == b) ≡ false → Some a ≡ Some b → ⊥
+other_kind a b h e = let same : a ≡ b = cc in absurd (grind (arith, nat_tests, same, h))
+
+module _ {A : Type 0} (kind : ℕ) (read : List ℕ → Option A) (id : ObjectId) (s : Run) where
+  -- what is done with the object
+  abbrev reading : Option Object → Result (ObjectId × A) AppFault × Run
+  reading o = let p : Result A AppFault × Run = carry_on (found 2 o) (λ object t. if object.kind == kind then (found 10 (read object.bytes), t) else refuse 3 t) s in carry_on p.0 (λ x. give (Ok (id, x))) p.1
+
+  abbrev tested : Object → Bool → Result (ObjectId × A) AppFault × Run
+  tested object b = let p : Result A AppFault × Run = if b then (found 10 (read object.bytes), s) else refuse 3 s in carry_on p.0 (λ y. give (Ok (id, y))) p.1
+
+  stands_value : (v : Option A) (x : ObjectId × A) (t : Run) → carry_on (found 10 v) (λ y. give (Ok (id, y))) s ≡ (Ok x, t) → (t ≡ s) × (v ≡ Some x.1)
+  unfolding give
+  stands_value None x t e = no_answer (Refused 10) x s t e
+  stands_value (Some y) x t e =
+      let told : ◌≡◌ {A = Result (ObjectId × A) AppFault} (Ok (id, y)) (Ok x) = ap (λ q. q.0) e in
+      let is : (id, y) ≡ x = cc in (sym (ap (λ q. q.1) e), ap (λ (q : ObjectId × A). Some q.1) is)
+
+  stands_object : (o : Option Object) (x : ObjectId × A) (t : Run) → reading o ≡ (Ok x, t) → Stands kind (kind_of o) (value_of_bytes read o) x s t
+  unfolding give
+  stands_object None x t e = no_answer (Refused 2) x s t e
+  stands_object (Some object) x t e = by (object.kind == kind) refl e
+    where
+      by : (b : Bool) → (object.kind == kind) ≡ b → tested object b ≡ (Ok x, t) → Stands kind (Some object.kind) (read object.bytes) x s t
+      by true is e = let h = stands_value (read object.bytes) x t e in record { same = h.0; has_kind = ap (λ k. Some k) (same_kind object.kind kind is); has_value = h.1 }
+      by false is e = no_answer (Refused 3) x s t e
+
+  other_object : (o : Option Object) (t : Run) → reading o ≡ (Err (Refused 3), t) → IsOther kind (kind_of o) s t
+  unfolding give
+  other_object None t e = no_other 2 3 s t (λ e. cc) e
+  other_object (Some object) t e = by (object.kind == kind) refl e
+    where
+      at : (v : Option A) → carry_on {B = ObjectId × A} (found 10 v) (λ y. give (Ok (id, y))) s ≡ (Err (Refused 3), t) → ⊥
+      at None e = no_other 10 3 s t (λ e. cc) e
+      at (Some y) e = no_refusal (Refused 3) (id, y) s t e
+
+      by : (b : Bool) → (object.kind == kind) ≡ b → tested object b ≡ (Err (Refused 3), t) → IsOther kind (Some object.kind) s t
+      by true is e = absurd (at (read object.bytes) e)
+      by false is e = record { same = sym (ap (λ q. q.1) e); other = other_kind object.kind kind is }
+
+module _ {A : Type 0} (kind : ℕ) (read : List ℕ → Option A) (s t : Run) where
+  stands_at : (o : Option ObjectId) (x : ObjectId × A) → found_as o kind read s ≡ (Ok x, t) → Stands kind (kind_at o s.world) (value_at read o s.world) x s t
+  unfolding and_then get_as act.get
+  stands_at None x e = no_answer (Refused 1) x s t e
+  stands_at (Some id) x e = stands_object kind read id s (map.get s.world.objects id) x t e
+
+  other_at : (o : Option ObjectId) → found_as o kind read s ≡ (Err (Refused 3), t) → IsOther kind (kind_at o s.world) s t
+  unfolding and_then get_as act.get
+  other_at None e = no_other 1 3 s t (λ e. cc) e
+  other_at (Some id) e = other_object kind read id s (map.get s.world.objects id) t e
+
+  pub stands : (name : List ℕ) (x : ObjectId × A) → record_under name kind read s ≡ (Ok x, t) → Stands kind (kind_under name s.world) (value_under read name s.world) x s t
+  stands name x e = stands_at (platform_bound s name) x e
+
+  pub is_other : (name : List ℕ) → record_under name kind read s ≡ (Err (Refused 3), t) → IsOther kind (kind_under name s.world) s t
+  is_other name e = other_at (platform_bound s name) e
