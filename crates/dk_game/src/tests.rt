@@ -7,11 +7,11 @@ use dk_model::Rules;
 use dk_refs::{ChannelRecord, Delivery, Managed, SessionRecord};
 use dk_txn::{Finished, ListView, Txn, View};
 use dk_types::{
-    Answer, AppFault, Blob, ConnNo, GameId, Item, Job, Listed, Name, Object, ObjectId, Out,
-    Outcome, Read, RunNo, Seen, Session, TaskKey,
+    Answer, AppFault, Blob, ConnNo, GameId, Item, Job, Listed, Name, NoMemory, Object, ObjectId,
+    Out, Outcome, Read, RunNo, Seen, Session, TaskKey,
 };
 use std::alloc::Global;
-use std::test::*;
+use std::test::Fail;
 
 /// A game that in every job makes an object and tells the bystander, and then gives up where it is to.
 #[derive(Drop)]
@@ -64,49 +64,170 @@ const BOB: ConnNo = ConnNo(3);
 
 const CAROL: ConnNo = ConnNo(4);
 
-// Alice's record, bob's, and the channels', which the first run made.
-const ALICE_RECORD: ObjectId = ObjectId {
-    run: RunNo(0),
-    k: 0,
-};
-
-const BOB_RECORD: ObjectId = ObjectId {
-    run: RunNo(0),
-    k: 1,
-};
-
-const HALL: ObjectId = ObjectId {
-    run: RunNo(0),
-    k: 2,
-};
-
-const YARD: ObjectId = ObjectId {
-    run: RunNo(0),
-    k: 3,
-};
-
-const TASK: TaskKey = TaskKey {
-    run: RunNo(0),
-    k: 0,
-};
-
-/// An object that run 9 makes.
-fn made(k: u32) -> ObjectId {
-    ObjectId { run: RunNo(9), k }
+/// The kind of a message.
+#[derive(Clone, Copy, Debug, PartialEq, Eq)]
+enum Kind {
+    Accepted,
+    Refused,
+    Message,
+    Channel,
+    Close,
 }
 
-fn text(alloc: Global, bytes: &[u8]) -> Result<Name, Fail> {
-    Ok(Name::new(alloc, bytes).ok().ok_or("a name")?)
+/// What a run came to: how it ended, how many messages it sent and the first two of them, and how much it changed.
+#[derive(Clone, Copy, Debug, PartialEq, Eq)]
+struct Summary {
+    outcome: Outcome,
+    sent: usize,
+    first: Option<(ConnNo, Kind)>,
+    second: Option<(ConnNo, Kind)>,
+    written: usize,
+    removed: usize,
+    bound: usize,
+    unbound: usize,
+    dropped: usize,
+    requeued: usize,
 }
 
-fn cry(alloc: Global) -> Out {
-    Out::Message(Blob::from_vec(Vec::new(alloc)))
+const NOTHING: Summary = Summary {
+    outcome: Outcome::Ok,
+    sent: 0,
+    first: None,
+    second: None,
+    written: 0,
+    removed: 0,
+    bound: 0,
+    unbound: 0,
+    dropped: 0,
+    requeued: 0,
+};
+
+/// A login is refused, and nothing is changed.
+const REFUSED: Summary = Summary {
+    sent: 2,
+    first: Some((CAROL, Kind::Refused)),
+    second: Some((CAROL, Kind::Close)),
+    ..NOTHING
+};
+
+/// The game's part alone.
+const HEARD: Summary = Summary {
+    sent: 1,
+    first: Some((BYSTANDER, Kind::Message)),
+    written: 1,
+    ..NOTHING
+};
+
+const GAVE_UP: Outcome = Outcome::Fail(AppFault::Game(5));
+
+fn kind_of(sent: &(ConnNo, Out)) -> (ConnNo, Kind) {
+    let kind = match &sent.1 {
+        Out::Accepted => Kind::Accepted,
+        Out::Refused => Kind::Refused,
+        Out::Message(_) => Kind::Message,
+        Out::Channel { .. } => Kind::Channel,
+        Out::Close => Kind::Close,
+    };
+    (sent.0, kind)
 }
 
-fn session(alloc: Global, name: &[u8], conn: ConnNo) -> Result<Session, Fail> {
-    Ok(Session {
-        name: text(alloc, name)?,
-        conn,
+fn summary_of(finished: &Finished) -> Summary {
+    let outs = finished.outs();
+    let effects = finished.effects();
+    Summary {
+        outcome: *finished.outcome(),
+        sent: outs.len(),
+        first: outs.get(0).map(kind_of),
+        second: outs.get(1).map(kind_of),
+        written: effects.written.as_slice().len(),
+        removed: effects.removed.as_slice().len(),
+        bound: effects.bound.as_slice().len(),
+        unbound: effects.unbound.as_slice().len(),
+        dropped: effects.dropped.as_slice().len(),
+        requeued: effects.requeued.as_slice().len(),
+    }
+}
+
+fn id(k: u32) -> ObjectId {
+    ObjectId { run: RunNo(0), k }
+}
+
+fn task(k: u32) -> TaskKey {
+    TaskKey { run: RunNo(0), k }
+}
+
+fn alice(alloc: Global) -> Result<Session, NoMemory> {
+    let name = Name::from_text(alloc, "alice")?;
+    Ok(Session { name, conn: ALICE })
+}
+
+fn bob(alloc: Global) -> Result<Session, NoMemory> {
+    let name = Name::from_text(alloc, "bob")?;
+    Ok(Session { name, conn: BOB })
+}
+
+fn only_bob(alloc: Global) -> Result<Vec<Session>, NoMemory> {
+    let mut members = Vec::new(alloc);
+    members.push(bob(alloc)?)?;
+    Ok(members)
+}
+
+fn only_alice(alloc: Global) -> Result<Vec<Session>, NoMemory> {
+    let mut members = Vec::new(alloc);
+    members.push(alice(alloc)?)?;
+    Ok(members)
+}
+
+fn alice_and_bob(alloc: Global) -> Result<Vec<Session>, NoMemory> {
+    let mut members = only_alice(alloc)?;
+    members.push(bob(alloc)?)?;
+    Ok(members)
+}
+
+/// A channel with these members.
+fn channel(alloc: Global, listener: bool, members: Vec<Session>) -> Result<Object, NoMemory> {
+    let record = ChannelRecord {
+        listener,
+        delivery: Delivery::Reliable,
+        members: Listed::from_vec(members),
+    };
+    let bytes = record.encode(alloc)?;
+    Ok(Object {
+        kind: 0xFF02,
+        bytes,
+    })
+}
+
+fn hall_and_yard(alloc: Global) -> Result<Vec<Name>, NoMemory> {
+    let mut names = Vec::new(alloc);
+    names.push(Name::from_text(alloc, "hall")?)?;
+    names.push(Name::from_text(alloc, "yard")?)?;
+    Ok(names)
+}
+
+/// Alice's session, which is on both channels.
+fn alice_record(alloc: Global) -> Result<Object, NoMemory> {
+    let record = SessionRecord {
+        conn: ALICE,
+        channels: Listed::from_vec(hall_and_yard(alloc)?),
+    };
+    let bytes = record.encode(alloc)?;
+    Ok(Object {
+        kind: 0xFF01,
+        bytes,
+    })
+}
+
+/// Bob's session, of which no job here reads the channels.
+fn bob_record(alloc: Global) -> Result<Object, NoMemory> {
+    let record = SessionRecord {
+        conn: BOB,
+        channels: Listed::from_vec(Vec::new(alloc)),
+    };
+    let bytes = record.encode(alloc)?;
+    Ok(Object {
+        kind: 0xFF01,
+        bytes,
     })
 }
 
@@ -117,206 +238,187 @@ fn at_first(answer: Answer) -> Read {
     }
 }
 
-/// The object that a value is.
-fn object_of<M: Managed>(alloc: Global, value: &M) -> Result<Object, Fail> {
-    Ok(Object {
-        kind: M::KIND,
-        bytes: value.encode(alloc)?,
-    })
-}
-
-/// A session that is on these channels.
-fn record(alloc: Global, conn: ConnNo, channels: Vec<Name>) -> Result<Object, Fail> {
-    let record = SessionRecord {
-        conn,
-        channels: Listed::from_vec(channels),
-    };
-    object_of(alloc, &record)
-}
-
-/// A channel with these members.
-fn channel(alloc: Global, listener: bool, members: Vec<Session>) -> Result<Object, Fail> {
-    let record = ChannelRecord {
-        listener,
-        delivery: Delivery::Reliable,
-        members: Listed::from_vec(members),
-    };
-    object_of(alloc, &record)
-}
-
-fn alice(alloc: Global) -> Result<Session, Fail> {
-    session(alloc, b"alice", ALICE)
-}
-
-fn bob(alloc: Global) -> Result<Session, Fail> {
-    session(alloc, b"bob", BOB)
-}
-
-type Reads = Vec<(Item, Read)>;
-
 /// Adds that the name leads to the object, and what the object is.
-fn add(reads: &mut Reads, name: Name, id: ObjectId, object: Object) -> Result<(), Fail> {
-    reads.push((Item::Bound(name), at_first(Answer::Named(id))))?;
-    reads.push((Item::Object(id), at_first(Answer::Object(object))))?;
+fn add(
+    alloc: Global,
+    reads: &mut Vec<(Item, Read)>,
+    name: &[u8],
+    k: u32,
+    object: Object,
+) -> Result<(), Fail> {
+    let name = Name::new(alloc, name).ok().ok_or("a name")?;
+    reads.push((Item::Bound(name), at_first(Answer::Named(id(k)))))?;
+    reads.push((Item::Object(id(k)), at_first(Answer::Object(object))))?;
     Ok(())
 }
 
-fn add_sessions(alloc: Global, reads: &mut Reads) -> Result<(), Fail> {
-    let hall = text(alloc, b"hall")?;
-    let yard = text(alloc, b"yard")?;
-    let both = record(alloc, ALICE, vec![in alloc; hall, yard]?)?;
-    add(reads, text(alloc, b"$s.alice")?, ALICE_RECORD, both)?;
-    let one = record(alloc, BOB, vec![in alloc; text(alloc, b"hall")?]?)?;
-    add(reads, text(alloc, b"$s.bob")?, BOB_RECORD, one)
+fn add_sessions(alloc: Global, reads: &mut Vec<(Item, Read)>) -> Result<(), Fail> {
+    add(alloc, reads, b"$s.alice", 0, alice_record(alloc)?)?;
+    add(alloc, reads, b"$s.bob", 1, bob_record(alloc)?)
 }
 
-fn add_channels(alloc: Global, reads: &mut Reads) -> Result<(), Fail> {
-    let two = vec![in alloc; alice(alloc)?, bob(alloc)?]?;
-    let hall = channel(alloc, false, two)?;
-    add(reads, text(alloc, b"$c.hall")?, HALL, hall)?;
-    let yard = channel(alloc, true, vec![in alloc; alice(alloc)?]?)?;
-    add(reads, text(alloc, b"$c.yard")?, YARD, yard)
+/// Alice and bob are in the hall, to which no game listens, and alice is in the yard, to which one does.
+fn add_channels(alloc: Global, reads: &mut Vec<(Item, Read)>) -> Result<(), Fail> {
+    let hall = channel(alloc, false, alice_and_bob(alloc)?)?;
+    add(alloc, reads, b"$c.hall", 2, hall)?;
+    let yard = channel(alloc, true, only_alice(alloc)?)?;
+    add(alloc, reads, b"$c.yard", 3, yard)
 }
 
-/// Alice is on both channels and bob is in the hall, to which no game listens; a task is pending.
 fn world(alloc: Global) -> Result<ListView, Fail> {
     let mut reads = Vec::new(alloc);
     add_sessions(alloc, &mut reads)?;
     add_channels(alloc, &mut reads)?;
-    reads.push((Item::Task(TASK), at_first(Answer::Task)))?;
+    reads.push((Item::Task(task(0)), at_first(Answer::Task)))?;
     Ok(ListView::new(reads))
 }
 
-/// Run 9 of the job, at 50 ms.
-fn run(alloc: Global, gives_up: bool, job: &Job) -> Result<Finished, Fail>
+/// Run 9 of the job over the view, at 50 ms.
+fn run_over<V: View>(
+    alloc: Global,
+    gives_up: bool,
+    job: &Job,
+    view: &mut V,
+) -> Result<Finished, NoMemory>
     requires { JobFits job.now }
 {
-    let mut view = world(alloc)?;
-    let mut txn = Txn::begin(alloc, &mut view, RunNo(9), 50);
+    let mut txn = Txn::begin(alloc, view, RunNo(9), 50);
     let crier = Crier {
         gives_up,
         bystander: BYSTANDER,
     };
-    Ok(run_job(alloc, &crier, job, &mut txn)?)
+    run_job(alloc, &crier, job, &mut txn)
 }
 
-fn is_unchanged(finished: &Finished) -> bool {
-    let effects = finished.effects();
-    effects.written.as_slice().is_empty()
-        && effects.removed.as_slice().is_empty()
-        && effects.bound.as_slice().is_empty()
-        && effects.unbound.as_slice().is_empty()
-        && effects.dropped.as_slice().is_empty()
+fn run(alloc: Global, gives_up: bool, job: &Job) -> Result<Finished, Fail>
+    requires { JobFits job.now }
+{
+    let mut view = world(alloc)?;
+    Ok(run_over(alloc, gives_up, job, &mut view)?)
 }
 
-const GAVE_UP: Outcome = Outcome::Fail(AppFault::Game(5));
+fn login(alloc: Global, name: &[u8], gives_up: bool) -> Result<Summary, Fail> {
+    let name = Name::new(alloc, name).ok().ok_or("a name")?;
+    let finished = run(alloc, gives_up, &Job::Login { conn: CAROL, name })?;
+    Ok(summary_of(&finished))
+}
 
 #[test]
 fn a_login_is_accepted_before_the_game_speaks(rt: HostRuntime) -> Result<(), Fail> {
-    let alloc = rt.alloc();
-    let login = Job::Login {
-        conn: CAROL,
-        name: text(alloc, b"carol")?,
+    let accepted = Summary {
+        sent: 2,
+        first: Some((CAROL, Kind::Accepted)),
+        second: Some((BYSTANDER, Kind::Message)),
+        written: 2,
+        bound: 1,
+        ..NOTHING
     };
-    let accepted = run(alloc, false, &login)?;
-    let told = [(CAROL, Out::Accepted), (BYSTANDER, cry(alloc))];
-    assert_eq!(rt; accepted.outs(), told.as_slice());
-    assert_eq!(rt; *accepted.outcome(), Outcome::Ok);
-    let bound = [(text(alloc, b"$s.carol")?, made(0))];
-    assert_eq!(rt; accepted.effects().bound.as_slice(), bound.as_slice());
-    let failed = run(alloc, true, &login)?;
-    let told = [(CAROL, Out::Refused), (CAROL, Out::Close)];
-    assert_eq!(rt; failed.outs(), told.as_slice());
-    assert_eq!(rt; *failed.outcome(), GAVE_UP);
-    assert!(rt; is_unchanged(&failed));
+    assert_eq!(rt; login(rt.alloc(), b"carol", false)?, accepted);
+    Ok(())
+}
+
+#[test]
+fn a_failed_login_is_refused_and_leaves_no_record(rt: HostRuntime) -> Result<(), Fail> {
+    let refused = Summary {
+        outcome: GAVE_UP,
+        ..REFUSED
+    };
+    assert_eq!(rt; login(rt.alloc(), b"carol", true)?, refused);
     Ok(())
 }
 
 #[test]
 fn a_login_of_a_recorded_name_is_refused(rt: HostRuntime) -> Result<(), Fail> {
-    let alloc = rt.alloc();
-    let login = Job::Login {
-        conn: CAROL,
-        name: text(alloc, b"alice")?,
-    };
-    let refused = run(alloc, false, &login)?;
-    let told = [(CAROL, Out::Refused), (CAROL, Out::Close)];
-    assert_eq!(rt; refused.outs(), told.as_slice());
-    assert_eq!(rt; *refused.outcome(), Outcome::Ok);
-    assert!(rt; is_unchanged(&refused));
+    assert_eq!(rt; login(rt.alloc(), b"alice", false)?, REFUSED);
     Ok(())
+}
+
+fn message(alloc: Global, conn: ConnNo, gives_up: bool) -> Result<Summary, Fail> {
+    let name = Name::from_text(alloc, "alice")?;
+    let body = Blob::from_vec(Vec::new(alloc));
+    let finished = run(alloc, gives_up, &Job::Message { conn, name, body })?;
+    Ok(summary_of(&finished))
 }
 
 #[test]
 fn a_message_of_a_session_that_stands_is_the_games(rt: HostRuntime) -> Result<(), Fail> {
     let alloc = rt.alloc();
-    for (conn, gives_up, messages) in [(ALICE, false, 1), (ALICE, true, 0), (CAROL, false, 0)] {
-        let message = Job::Message {
-            conn,
-            name: text(alloc, b"alice")?,
-            body: Blob::from_vec(Vec::new(alloc)),
-        };
-        let finished = run(alloc, gives_up, &message)?;
-        assert_eq!(rt; finished.outs().len(), messages);
-        assert_eq!(rt; is_unchanged(&finished), messages == 0);
-        assert_eq!(rt; *finished.outcome() == GAVE_UP, gives_up);
-    }
-    assert_eq!(rt; run(alloc, false, &Job::Initialize)?.outs().len(), 1);
+    let failed = Summary {
+        outcome: GAVE_UP,
+        ..NOTHING
+    };
+    assert_eq!(rt; message(alloc, ALICE, false)?, HEARD);
+    assert_eq!(rt; message(alloc, ALICE, true)?, failed);
+    assert_eq!(rt; message(alloc, CAROL, false)?, NOTHING);
     Ok(())
 }
 
-/// What bob or alice says on a channel.
-fn said(alloc: Global, from: Session, channel: &[u8]) -> Result<Finished, Fail> {
+fn said(alloc: Global, from: Session, channel: &[u8]) -> Result<Summary, Fail> {
+    let Session { name, conn } = from;
+    let channel = Name::new(alloc, channel).ok().ok_or("a name")?;
+    let body = Blob::from_vec(Vec::new(alloc));
     let job = Job::Channel {
-        conn: from.conn,
-        name: from.name,
-        channel: text(alloc, channel)?,
-        body: Blob::copy_of(alloc, b"hello")?,
+        conn,
+        name,
+        channel,
+        body,
+    };
+    let finished = run(alloc, false, &job)?;
+    Ok(summary_of(&finished))
+}
+
+#[test]
+fn a_channel_message_goes_to_the_members_or_to_the_game(rt: HostRuntime) -> Result<(), Fail> {
+    let alloc = rt.alloc();
+    let spread = Summary {
+        sent: 2,
+        first: Some((ALICE, Kind::Channel)),
+        second: Some((BOB, Kind::Channel)),
+        ..NOTHING
+    };
+    assert_eq!(rt; said(alloc, bob(alloc)?, b"hall")?, spread);
+    assert_eq!(rt; said(alloc, alice(alloc)?, b"yard")?, HEARD);
+    // Bob is not in the yard, and there is no attic.
+    assert_eq!(rt; said(alloc, bob(alloc)?, b"yard")?, NOTHING);
+    assert_eq!(rt; said(alloc, alice(alloc)?, b"attic")?, NOTHING);
+    Ok(())
+}
+
+/// Whether the run leaves the object so.
+fn leaves(finished: &Finished, id: ObjectId, object: &Object) -> bool {
+    for (written, left) in finished.effects().written.as_slice() {
+        if *written == id {
+            return left == object;
+        }
+    }
+    false
+}
+
+fn end(alloc: Global) -> Result<Finished, Fail> {
+    let name = Name::from_text(alloc, "alice")?;
+    let job = Job::Disconnect {
+        conn: ALICE,
+        name,
+        graceful: false,
     };
     run(alloc, false, &job)
 }
 
 #[test]
-fn a_channel_message_goes_to_its_members_or_to_the_game(rt: HostRuntime) -> Result<(), Fail> {
-    let alloc = rt.alloc();
-    let hello = Out::Channel {
-        channel: text(alloc, b"hall")?,
-        body: Blob::copy_of(alloc, b"hello")?,
-    };
-    let told = [(ALICE, hello.clone()?), (BOB, hello)];
-    let spread = said(alloc, bob(alloc)?, b"hall")?;
-    assert_eq!(rt; spread.outs(), told.as_slice());
-    assert!(rt; is_unchanged(&spread));
-    let heard = said(alloc, alice(alloc)?, b"yard")?;
-    assert_eq!(rt; heard.outs(), [(BYSTANDER, cry(alloc))].as_slice());
-    // Bob is not in the yard, and there is no attic.
-    assert_eq!(rt; said(alloc, bob(alloc)?, b"yard")?.outs().len(), 0);
-    assert_eq!(rt; said(alloc, bob(alloc)?, b"attic")?.outs().len(), 0);
-    Ok(())
-}
-
-#[test]
 fn an_end_leaves_every_channel(rt: HostRuntime) -> Result<(), Fail> {
     let alloc = rt.alloc();
-    let end = Job::Disconnect {
-        conn: ALICE,
-        name: text(alloc, b"alice")?,
-        graceful: false,
+    let left = Summary {
+        written: 3,
+        removed: 1,
+        unbound: 1,
+        ..HEARD
     };
-    let ended = run(alloc, false, &end)?;
-    let effects = ended.effects();
-    let hall = channel(alloc, false, vec![in alloc; bob(alloc)?]?)?;
+    let ended = end(alloc)?;
+    assert_eq!(rt; summary_of(&ended), left);
+    let hall = channel(alloc, false, only_bob(alloc)?)?;
+    assert!(rt; leaves(&ended, id(2), &hall));
     let yard = channel(alloc, true, Vec::new(alloc))?;
-    let cried = Object {
-        kind: 7,
-        bytes: Blob::from_vec(Vec::new(alloc)),
-    };
-    let written = [(HALL, hall), (YARD, yard), (made(0), cried)];
-    assert_eq!(rt; effects.written.as_slice(), written.as_slice());
-    assert_eq!(rt; effects.removed.as_slice(), [ALICE_RECORD].as_slice());
-    let unbound = [text(alloc, b"$s.alice")?];
-    assert_eq!(rt; effects.unbound.as_slice(), unbound.as_slice());
-    assert_eq!(rt; ended.outs(), [(BYSTANDER, cry(alloc))].as_slice());
+    assert!(rt; leaves(&ended, id(3), &yard));
     Ok(())
 }
 
@@ -333,27 +435,31 @@ fn occurrence(alloc: Global, key: TaskKey, period: u64) -> Result<Finished, Fail
     run(alloc, true, &job)
 }
 
+/// The first moment for which the run makes a task due again, in ms.
+fn due_again(finished: &Finished) -> Option<u64> {
+    let (_, due) = finished.effects().requeued.as_slice().get(0)?;
+    Some(*due)
+}
+
 #[test]
 fn a_failed_task_is_taken_away_or_due_again(rt: HostRuntime) -> Result<(), Fail> {
     let alloc = rt.alloc();
-    let once = occurrence(alloc, TASK, 0)?;
-    assert_eq!(rt; *once.outcome(), GAVE_UP);
-    assert_eq!(rt; once.outs().len(), 0);
-    assert_eq!(rt; once.effects().dropped.as_slice(), [TASK].as_slice());
-    assert_eq!(rt; once.effects().written.as_slice().len(), 0);
-    // Due at 40 ms and every 4 ms: the first moment above 50 ms is 52 ms.
-    let again = occurrence(alloc, TASK, 4)?;
-    assert_eq!(rt;
-        again.effects().requeued.as_slice(),
-        [(TASK, 52)].as_slice()
-    );
-    // A task that is no longer pending is nothing, and the game is not asked.
-    let gone = TaskKey {
-        run: RunNo(0),
-        k: 1,
+    let dropped = Summary {
+        outcome: GAVE_UP,
+        dropped: 1,
+        ..NOTHING
     };
-    let nothing = occurrence(alloc, gone, 0)?;
-    assert_eq!(rt; *nothing.outcome(), Outcome::Ok);
-    assert!(rt; is_unchanged(&nothing));
+    assert_eq!(rt; summary_of(&occurrence(alloc, task(0), 0)?), dropped);
+    // Due at 40 ms and every 4 ms: the first moment above 50 ms is 52 ms.
+    assert_eq!(rt; due_again(&occurrence(alloc, task(0), 4)?), Some(52));
+    // A task that is no longer pending is nothing, and the game is not asked.
+    assert_eq!(rt; summary_of(&occurrence(alloc, task(1), 0)?), NOTHING);
+    Ok(())
+}
+
+#[test]
+fn a_first_run_is_the_games(rt: HostRuntime) -> Result<(), Fail> {
+    let finished = run(rt.alloc(), false, &Job::Initialize)?;
+    assert_eq!(rt; summary_of(&finished), HEARD);
     Ok(())
 }
