@@ -16,3 +16,5 @@ mod jobs;
 mod parts;
 pub mod run;
 mod session_jobs;
+#[cfg(test)]
+mod tests;

@@ -9,3 +9,5 @@ pub use guest::Guest;
 
 pub mod greeter;
 pub mod guest;
+#[cfg(test)]
+mod tests;
