@@ -82,6 +82,14 @@ impl StampedWorld {
         Ok(world)
     }
 
+    /// All bound names in their order, each with its id and stamp. Only the list itself takes memory.
+    pub fn bound_names(&self, alloc: Global) -> Result<Vec<(&Name, &(ObjectId, u64))>, NoMemory>
+        ensures { IfOk result (λ list. list_map (λ e. (e.0.now, e.1.now.0)) list.items ≡ entries_of (ids_of self.now.names)) }
+    {
+        let names = self.names.entries(alloc)?;
+        Ok(names)
+    }
+
     /// A copy of the world as a list.
     pub fn durable(&self, alloc: Global) -> Result<Durable, NoMemory>
         ensures { IfOk result (λ durable. durable ≡ listed (durable_of self.now)) }

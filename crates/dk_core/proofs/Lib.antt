@@ -1,0 +1,3 @@
+pub mod Having
+pub mod Tracked
+pub mod Marked
