@@ -1,5 +1,5 @@
 -- The marks that a claim sets, and that are taken off when its run has ended or is given back.
-use Rattle.std.proofs.Common.{◌≡◌, ℕ, Bool, true, false, cond, ◌||◌, ◌&&◌, not, nat_eq, Option, Some, None, refl, sym, ap, subst, ◌∙◌, inl, inr, is_eq, eqb-true, eq-eqb}
+use Rattle.std.proofs.Common.{◌≡◌, ℕ, Bool, true, false, cond, ◌||◌, ◌&&◌, not, nat_eq, List, Option, Some, None, refl, sym, ap, subst, ◌∙◌, inl, inr, is_eq, eqb-true, eq-eqb}
 use Rattle.std.specs.Cmp.{tied_itself}
 use Rattle.std.specs.Option.{option_map}
 use Rattle.std.specs.Ordering.{eq_by_cmp}

@@ -1,5 +1,5 @@
 -- The marks tell which connections and tasks claimed runs have, after each event.
-use Rattle.std.proofs.Common.{◌≡◌, ℕ, ◌+◌, ◌<◌, Bool, true, false, cond, ◌||◌, ◌&&◌, not, nat_eq, Option, Some, None, refl, sym, ap, subst, ◌∙◌, arith, inl, inr, is_eq, eqb-true, eq-eqb}
+use Rattle.std.proofs.Common.{◌≡◌, ℕ, ◌+◌, ◌<◌, Bool, true, false, cond, ◌||◌, ◌&&◌, not, nat_eq, List, Option, Some, None, refl, sym, ap, subst, ◌∙◌, arith, inl, inr, is_eq, eqb-true, eq-eqb}
 use Rattle.std.specs.Option.{option_map}
 use Rattle.std.specs.Ordering.{eq_by_cmp}
 use Rattle.std.specs.FinMap.{FinMap, get, insert, remove}
@@ -19,6 +19,9 @@ use Rattle.dk_tasks.specs.Tasks.{Kept}
 use Rattle.dk_connections.specs.Linked.{Linked, unclaimed, IsSwept, KeepsMarks, KeepsMarksBut, MarksBy}
 use Rattle.dk_core.specs.Cores.{IsTracked}
 use Rattle.dk_core.proofs.Having.{has, Has, never, has_which, has_there, has_insert, has_remove}
+
+same_conn : (a b c : ConnNo) → nat_eq c.0 a.0 ≡ true → nat_eq c.0 b.0 ≡ true → a ≡ b
+same_conn a b c e f = let same : a.0 ≡ b.0 = sym (eqb-true c.0 a.0 e) ∙ eqb-true c.0 b.0 f in λ i. record { 0 = same i }
 
 -- the test for a connection passes at one number alone
 pub of_one : (a b : ConnNo) (j : Job) → is_of a j ≡ true → is_of b j ≡ true → a ≡ b

@@ -1,5 +1,5 @@
 -- What the claims are seen as: the claimed runs by their numbers, the next number, and the budget.
-use Rattle.std.specs.Prelude.{◌≡◌, ℕ, ◌+◌, ◌^◌, ◌<◌, ◌≤◌, refl, Option, None, Some}
+use Rattle.std.specs.Prelude.{◌≡◌, ℕ, ◌+◌, ◌-◌, ◌≤◌, refl, Option, None, Some}
 use Rattle.std.specs.Coded.{Coded, code_by, coded×, coded_ℕ, coded_option}
 use Rattle.std.specs.FinMap.{FinMap, code, get, insert, remove, len}
 use Rattle.dk_types.specs.declared.number.RunNo.{RunNo}
@@ -30,16 +30,21 @@ claiming_code job =
     code_by (FinMap run_cmp Claim × (ℕ × Option Budget)) (coded× (code run_code (claim_code job)) (coded× coded_ℕ (coded_option budget_code)))
     (λ c. (c.claims, (c.next, c.budget))) (λ p. record { claims = p.0; next = p.1.0; budget = p.1.1 }) (λ _. refl)
 
--- the budget counts each claim, and its numbers fit their type
-abbrev pub IsBudgeted : ℕ → Option Budget → Type 0
-IsBudgeted claims None = Unit {0}
-IsBudgeted claims (Some b) = (claims ≤ b.granted) × (b.granted + b.left < 2 ^ 64)
+-- the budget of so many claims, of which some are granted
+abbrev pub budget_in : ℕ → Option ℕ → Option Budget
+budget_in granted None = None
+budget_in granted (Some most) = Some (record { granted = granted; left = most - granted })
+
+-- the budget counts each claim, and has granted no more than it has
+abbrev pub IsBudgeted : ℕ → ℕ → Option ℕ → Type 0
+IsBudgeted claims granted None = Unit {0}
+IsBudgeted claims granted (Some most) = (claims ≤ granted) × (granted ≤ most)
 
 -- the number of each claim was drawn, and the budget counts it
-pub record IsCounted (c : Claiming) : Type 0 where
-  pub below : (run : RunNo) → c.next ≤ run.0 → get c.claims run ≡ None
-  pub most : c.next ≤ NUMBERS_END
-  pub budgeted : IsBudgeted (len c.claims) c.budget
+pub record IsCounted (claims : FinMap run_cmp Claim) (next granted : ℕ) (most : Option ℕ) : Type 0 where
+  pub below : (run : RunNo) → next ≤ run.0 → get claims run ≡ None
+  pub drawn : next ≤ NUMBERS_END
+  pub budgeted : IsBudgeted (len claims) granted most
 
 -- one claim more
 abbrev pub with_grant : Claim → Claiming → Claiming

@@ -37,10 +37,10 @@ world_of c = record {
 
 -- the marks on connections and tasks tell which of them claimed runs have, and each input has one run at most; no connection is over with nothing
 -- left to hand
-pub record IsTracked (w : World) (all : FinMap conn_cmp Linked) (tasks : FinMap key_cmp Kept) : Type 0 where
+pub record IsTracked (w : World) (all : FinMap conn_cmp Linked) (kept : FinMap key_cmp Kept) : Type 0 where
   pub swept : IsSwept all
   pub inputs : (conn : ConnNo) (l : Linked) → get all conn ≡ Some l → is_claimed (is_of conn) w ≡ l.claimed
-  pub tasks : (key : TaskKey) (t : Kept) → get tasks key ≡ Some t → is_claimed (is_task_of key) w ≡ t.claimed
+  pub tasks : (key : TaskKey) (t : Kept) → get kept key ≡ Some t → is_claimed (is_task_of key) w ≡ t.claimed
   -- before the first commit the first run alone is claimed
   pub first : w.durable.commits ≡ 0 → (run : RunNo) (claim : Claim) → get w.claims run ≡ Some claim → claim.job ≡ job.Initialize
   pub alone : (conn : ConnNo) (run other : RunNo) (a b : Claim) → get w.claims run ≡ Some a → get w.claims other ≡ Some b → is_of conn a.job ≡ true → is_of conn b.job ≡ true → run ≡ other

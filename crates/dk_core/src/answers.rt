@@ -2,7 +2,6 @@
 
 use dk_durable::Changed;
 use dk_types::NoMemory;
-use std::alloc::AllocError;
 
 /// Why a connection was not made. The first cause in this order is told.
 #[derive(Clone, Copy, Debug, PartialEq, Eq)]
@@ -60,28 +59,6 @@ impl From<NoMemory> for PrepareRefused {
     ghost from_gives = { λ _ e. e ≡ refused.NoMemory };
 
     fn from(_: NoMemory) -> PrepareRefused {
-        PrepareRefused::NoMemory
-    }
-}
-
-impl From<AllocError> for ClaimRefused {
-    ghost use Rattle.std.specs.Prelude.{◌≡◌};
-    ghost use Rattle.dk_core.specs.declared.answers.ClaimRefused.TheVariants as refused;
-
-    ghost from_gives = { λ _ e. e ≡ refused.NoMemory };
-
-    fn from(_: AllocError) -> ClaimRefused {
-        ClaimRefused::NoMemory
-    }
-}
-
-impl From<AllocError> for PrepareRefused {
-    ghost use Rattle.std.specs.Prelude.{◌≡◌};
-    ghost use Rattle.dk_core.specs.declared.answers.PrepareRefused.TheVariants as refused;
-
-    ghost from_gives = { λ _ e. e ≡ refused.NoMemory };
-
-    fn from(_: AllocError) -> PrepareRefused {
         PrepareRefused::NoMemory
     }
 }

@@ -1,11 +1,10 @@
 // The claimed runs, the numbers that runs and connections draw, and the budget of claims.
-ghost use Rattle.std.specs.Prelude.{◌≡◌, ◌==◌, ◌+◌, ◌<◌, ◌≤◌, true, IfOk, OnOk, OnErr};
-ghost use Rattle.std.specs.Option.{option_copied};
+ghost use Rattle.std.specs.Prelude.{◌≡◌, ℕ, ◌==◌, ◌+◌, ◌-◌, ◌<◌, ◌≤◌, true, Some, IfOk, OnOk, OnErr};
 ghost use Rattle.std.specs.FinMap as map;
 ghost use Rattle.dk_types.specs.declared.limits.TheConstants.{NUMBERS_END};
 ghost use Rattle.dk_model.specs.Events.{granted_of, has_left as is_left};
 ghost use Rattle.dk_model.specs.Openings.{budget_of};
-ghost use Rattle.dk_core.specs.Claiming.{with_grant, without_grant, without_run, IsCounted};
+ghost use Rattle.dk_core.specs.Claiming.{budget_in, with_grant, without_grant, without_run};
 
 use dk_map::OrderedMap;
 use dk_types::{Job, NoMemory, RunNo};
@@ -21,13 +20,13 @@ pub(crate) struct Held {
 }
 
 impl Model for Held {
-    ghost use Rattle.dk_types.specs.contracts.job.Job as job;
+    ghost use Rattle.dk_types.specs.contracts.job.Job as jobs;
     ghost use Rattle.dk_model.specs.Worlds.{Claim};
     ghost use Rattle.dk_core.specs.Claiming.{claim_code};
 
     ghost Value = { Claim };
 
-    ghost coded = { claim_code job.the_row.coded };
+    ghost coded = { claim_code jobs.the_row.coded };
 
     ghost view = { λ h. record { pass = h.pass; job = h.job; at = h.at } };
 }
@@ -42,31 +41,50 @@ impl Held {
     }
 }
 
-/// The claimed runs by their numbers, the next number, and how many claims were granted and may be granted still.
+/// How many claims are granted after one more, where a budget counts them.
+fn one_more(granted: u64, most: Option<u64>) -> u64
+    requires { is_left (budget_in granted most) ≡ true }
+    ensures { (n : ℕ) → most ≡ Some n → result ≡ granted + 1 }
+{
+    match most {
+        None => granted,
+        Some(most) => most.min(granted + 1),
+    }
+}
+
+/// And after one less.
+fn one_less(granted: u64, most: Option<u64>) -> u64
+    ensures { (n : ℕ) → most ≡ Some n → result ≡ granted - 1 }
+{
+    match most {
+        None => granted,
+        Some(_) => granted.saturating_sub(1),
+    }
+}
+
+/// The claimed runs by their numbers, the next number, and how many claims the budget has, of which some are granted.
 #[derive(Drop)]
 pub(crate) struct Claims {
     held: OrderedMap<RunNo, Held>,
     next: u64,
     granted: u64,
-    left: Option<u64>,
+    most: Option<u64>,
 }
 
 impl Model for Claims {
-    ghost use Rattle.std.specs.Prelude.{◌≡◌, List};
-    ghost use Rattle.std.specs.Option.{option_map};
-    ghost use Rattle.dk_types.specs.contracts.job.Job as job;
+    ghost use Rattle.dk_types.specs.contracts.job.Job as jobs;
     ghost use Rattle.dk_map.specs.AsMap.{map_of};
     ghost use Rattle.dk_map.specs.Entries.{IsOrdered};
     ghost use Rattle.dk_model.specs.Keys.{run_cmp};
-    ghost use Rattle.dk_core.specs.Claiming.{Claiming, claiming_code, IsCounted};
+    ghost use Rattle.dk_core.specs.Claiming.{Claiming, claiming_code, budget_in, IsCounted};
 
     ghost Value = { Claiming };
 
-    ghost coded = { claiming_code job.the_row.coded };
+    ghost coded = { claiming_code jobs.the_row.coded };
 
-    ghost view = { λ a. record { claims = map_of run_cmp a.held.entries; next = a.next; budget = option_map (λ left. record { granted = a.granted; left = left }) a.left } };
+    ghost view = { λ a. record { claims = map_of run_cmp a.held.entries; next = a.next; budget = budget_in a.granted a.most } };
 
-    ghost invariant = { λ a. IsOrdered run_cmp a.held.entries × IsCounted (record { claims = map_of run_cmp a.held.entries; next = a.next; budget = option_map (λ left. record { granted = a.granted; left = left }) a.left }) };
+    ghost invariant = { λ a. IsOrdered run_cmp a.held.entries × IsCounted (map_of run_cmp a.held.entries) a.next a.granted a.most };
 }
 
 impl Claims {
@@ -79,14 +97,13 @@ impl Claims {
             held: OrderedMap::new(alloc),
             next,
             granted: 0,
-            left: most,
+            most,
         }
     }
 
     /// The number that is drawn next.
     pub(crate) fn next(&self) -> u64
-        ensures next { result ≡ self.now.next }
-        ensures counted { IsCounted self.now }
+        ensures { result ≡ self.now.next }
     {
         self.next
     }
@@ -94,16 +111,16 @@ impl Claims {
     pub(crate) fn is_empty(&self) -> bool
         ensures { result ≡ (map.len self.now.claims == 0) }
     {
-        self.held.is_empty()
+        self.held.len() == 0
     }
 
     /// Whether the budget allows one claim more.
     pub(crate) fn has_left(&self) -> bool
         ensures { result ≡ is_left self.now.budget }
     {
-        match self.left {
+        match self.most {
             None => true,
-            Some(left) => 0 < left,
+            Some(most) => self.granted < most,
         }
     }
 
@@ -111,21 +128,18 @@ impl Claims {
     pub(crate) fn granted(&self) -> u64
         ensures { result ≡ granted_of self.now.budget }
     {
-        match self.left {
+        match self.most {
             None => 0,
             Some(_) => self.granted,
         }
     }
 
     /// Draws a number for a connection.
-    pub(crate) fn draw(&mut self) -> u64
+    pub(crate) fn draw(&mut self)
         requires number { self.old.next < NUMBERS_END }
-        ensures number { result ≡ self.old.next }
-        ensures drawn { self.new ≡ record (self.old) { next = self.old.next + 1 } }
+        ensures { self.new ≡ record (self.old) { next = self.old.next + 1 } }
     {
-        let number = self.next;
         self.next += 1;
-        number
     }
 
     /// Grants a claim, whose run draws its number. Refused, it changes nothing.
@@ -137,12 +151,9 @@ impl Claims {
         ensures refused { OnErr result (self.new ≡ self.old) }
     {
         self.held.reserve(1)?;
-        if let Some(left) = self.left {
-            self.left = Some(left - 1);
-            self.granted += 1;
-        }
         let run = RunNo(self.next);
         self.next += 1;
+        self.granted = one_more(self.granted, self.most);
         self.held.insert(run, held);
         Ok(run)
     }
@@ -153,10 +164,7 @@ impl Claims {
         ensures { self.new ≡ without_grant run self.old }
     {
         self.held.remove(&run);
-        if let Some(left) = self.left {
-            self.left = Some(left + 1);
-            self.granted -= 1;
-        }
+        self.granted = one_less(self.granted, self.most);
     }
 
     /// A claim is gone: its run is committed. It takes no memory.

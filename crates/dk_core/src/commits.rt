@@ -1,5 +1,6 @@
 // Commits.
 ghost use Rattle.std.specs.Prelude.{◌≡◌, ◌+◌, IfOk};
+ghost use Rattle.dk_durable.specs.StampedWorlds.{with_room};
 ghost use Rattle.dk_core.specs.Answers.{Commits, CommitsOrTells, IsPrepared, Prepares};
 ghost use Rattle.dk_core.specs.Cores.{IsGranted, IsStanding, Stays};
 
@@ -9,7 +10,13 @@ use crate::world::Core;
 use crate::prepared::Prepared;
 use dk_connections::Deliveries;
 use dk_txn::Finished;
-use dk_types::Entry;
+use dk_types::{Effects, Entry, NoMemory};
+
+fn copy_effects(effects: &Effects) -> Result<Effects, NoMemory>
+    ensures { IfOk result (λ copy. copy ≡ effects.now) }
+{
+    Ok(effects.clone()?)
+}
 
 impl Core {
     /// Looks whether all reads of a finished run stand, and makes what its commit needs. Nothing is entered.
@@ -20,6 +27,7 @@ impl Core {
     ) -> Result<Prepared, PrepareRefused>
         requires granted { IsGranted self.old claimed.now }
         requires standing { IsStanding self.old }
+        ensures same { self.new ≡ record (self.old) { world = with_room self.new.world.room self.old.world } }
         ensures prepares { Prepares self.old self.new claimed.now finished.now result }
         ensures granted { IsGranted self.new claimed.now }
         ensures stays { Stays self.old self.new }
@@ -30,7 +38,7 @@ impl Core {
         let entry = Entry {
             seq: self.world.commits() + 1,
             run: claimed.run,
-            effects: finished.effects().clone()?,
+            effects: copy_effects(finished.effects())?,
         };
         let deliveries = Deliveries::new(self.alloc, finished.outs())?;
         self.world.reserve_for(finished)?;

@@ -3,7 +3,7 @@ ghost use Rattle.std.specs.Prelude.{◌≡◌, ℕ};
 ghost use Rattle.dk_types.specs.declared.event.Event.TheVariants as event;
 ghost use Rattle.dk_model.specs.Lawful.{IsInput};
 ghost use Rattle.dk_core.specs.Answers.{Connected, Posted, Hands};
-ghost use Rattle.dk_core.specs.Cores.{Enters};
+ghost use Rattle.dk_core.specs.Cores.{Enters, IsStanding};
 
 use crate::answers::ConnectRefused;
 use crate::world::Core;
@@ -14,8 +14,11 @@ use dk_types::{ConnNo, Input, Name, NoMemory};
 impl Core {
     /// Makes a connection, whose login waits.
     pub fn connect(&mut self, name: &Name) -> Result<ConnNo, ConnectRefused>
+        requires standing { IsStanding self.old }
         ensures { Connected self.old self.new name.now result }
     {
+        // What holds of every name is seen where its bytes are.
+        let _bytes = name.as_slice();
         let next = self.claims.next();
         if NUMBERS_END <= next {
             return Err(ConnectRefused::Exhausted { next });

@@ -3,7 +3,7 @@ ghost use Rattle.std.specs.Prelude.{◌≡◌, Some, IfOk, IfSome};
 ghost use Rattle.dk_types.specs.declared.event.Event.TheVariants as event;
 ghost use Rattle.dk_core.specs.Answers.{Claims};
 ghost use Rattle.dk_core.specs.Cores.{Enters, IsGranted};
-ghost use Rattle.dk_core.specs.Picking.{job_of, IsPick, IsThere};
+ghost use Rattle.dk_core.specs.Picking.{job_of, IsDueTask, IsFirstRun, IsPick, IsReadyInput, IsThere};
 ghost use Rattle.dk_core.specs.Marking.{IsMarked, IsFreed, IsTaskFreed};
 ghost use Rattle.dk_core.specs.declared.choice.Choice.TheVariants as choose;
 
@@ -14,6 +14,12 @@ use crate::claims::Held;
 use crate::world::Core;
 use dk_types::limits::NUMBERS_END;
 use dk_types::{Job, NoMemory, TaskKey};
+
+fn copy_job(job: &Job) -> Result<Job, NoMemory>
+    ensures { IfOk result (λ copy. copy ≡ job.now) }
+{
+    Ok(job.clone()?)
+}
 
 impl Core {
     /// Claims the job that is to be run next, for a pass: the first run; else a task or an input by turns. None where
@@ -35,9 +41,8 @@ impl Core {
         }
         let at = self.moment;
         let job = self.job(choice)?;
-        let run = self
-            .claims
-            .grant(Held::new(pass, job.clone()?, at))?;
+        let held = Held::new(pass, copy_job(&job)?, at);
+        let run = self.claims.grant(held)?;
         self.mark(choice, next);
         Ok(Some(Claimed { run, pass, at, job }))
     }
@@ -56,21 +61,55 @@ impl Core {
     fn pick(&self) -> Option<Choice>
         ensures pick { IsPick self.now result }
         ensures there { IfSome result (IsThere self.now) }
+        ensures first { self.now.world.commits ≡ 0 → IfSome result (λ choice. choice ≡ choose.First) }
     {
         if self.world.commits() == 0 {
-            return if self.claims.is_empty() {
-                Some(Choice::First)
-            } else {
-                None
-            };
+            return self.first_run();
         }
-        let task = self.world.least_due(self.moment).map(Choice::Task);
-        let input = self.connections.least_ready().map(Choice::Input);
+        let task = self.due_task();
+        let input = self.ready_input();
         if self.after_task {
             input.or(task)
         } else {
             task.or(input)
         }
+    }
+
+    /// The first run, unless it is claimed.
+    fn first_run(&self) -> Option<Choice>
+        ensures pick { IsFirstRun self.now result }
+        ensures first { IfSome result (λ choice. choice ≡ choose.First) }
+    {
+        if self.claims.is_empty() {
+            Some(Choice::First)
+        } else {
+            None
+        }
+    }
+
+    /// The soonest of the due tasks that no claimed run has.
+    fn due_task(&self) -> Option<Choice>
+        ensures pick { IsDueTask self.now result }
+        ensures there { IfSome result (IsThere self.now) }
+    {
+        let Some(key) = self.world.least_due(self.moment) else {
+            return None;
+        };
+        if self.world.task(key).is_none() {
+            return None;
+        }
+        Some(Choice::Task(key))
+    }
+
+    /// The first input of the connection of the least turn, of those that no claimed run has an input of.
+    fn ready_input(&self) -> Option<Choice>
+        ensures pick { IsReadyInput self.now result }
+        ensures there { IfSome result (IsThere self.now) }
+    {
+        let Some(conn) = self.connections.least_ready() else {
+            return None;
+        };
+        Some(Choice::Input(conn))
     }
 
     /// The job of a choice, copied.

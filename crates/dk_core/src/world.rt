@@ -1,11 +1,12 @@
 //! The core, and what can be read of it.
-ghost use Rattle.std.specs.Prelude.{◌≡◌, ℕ, [], List, IfOk, option_read};
+ghost use Rattle.std.specs.Prelude.{◌≡◌, ℕ, ◌≤◌, [], List, Option, IfOk};
 ghost use Rattle.dk_types.specs.declared.event.Event.{Event};
 ghost use Rattle.dk_model.specs.DurableWorlds.{DurableWorld};
 ghost use Rattle.dk_model.specs.Events.{Meaning};
 ghost use Rattle.dk_model.specs.Openings.{opening};
 ghost use Rattle.dk_model.specs.Sights.{IsReadAt};
-ghost use Rattle.dk_model.specs.Validity.{IsValid};
+ghost use Rattle.dk_model.specs.Validity.{IsValid, next_of};
+ghost use Rattle.dk_types.specs.declared.limits.TheConstants.{NUMBERS_END};
 ghost use Rattle.dk_durable.specs.Listings.{world_of as world_in, listed};
 ghost use Rattle.dk_durable.specs.StampedWorlds.{durable_of, read_now};
 ghost use Rattle.dk_core.specs.Cores.{world_of, StandsFor};
@@ -14,7 +15,7 @@ use crate::claims::Claims;
 use crate::opening::open_connections;
 use dk_connections::Connections;
 use dk_durable::{StampedWorld, WorldLook};
-use dk_types::{Durable, Item, NoMemory, Read};
+use dk_types::{Durable, Item, NoMemory, Read, RunNo};
 use std::alloc::Global;
 
 /// The world on one thread.
@@ -28,6 +29,17 @@ pub struct Core {
     pub(crate) alloc: Global,
 }
 
+/// The number that is drawn first: one more than the largest committed run, or 0 where none is committed.
+fn next_number(last: Option<RunNo>) -> u64
+    requires { next_of last ≤ NUMBERS_END }
+    ensures { result ≡ next_of last }
+{
+    match last {
+        None => 0,
+        Some(last) => last.0 + 1,
+    }
+}
+
 impl Core {
     /// The world that a durable world opens to, with a budget of claims or without: each recorded session is told of its
     /// end.
@@ -35,12 +47,9 @@ impl Core {
         requires valid { IsValid (world_in durable) }
         ensures stands { IfOk result (λ core. (rules : Meaning) → StandsFor rules (world_in durable) budget [] core) }
     {
+        let next = next_number(durable.last);
         let world = StampedWorld::open(alloc, durable)?;
         let connections = open_connections(alloc, &world)?;
-        let next = match world.last() {
-            None => 0,
-            Some(last) => last.0 + 1,
-        };
         Ok(Core {
             world,
             connections,
@@ -56,7 +65,8 @@ impl Core {
         ensures now { IfOk result (λ read. read ≡ read_now self.now.world item.now) }
         ensures at { IfOk result (λ read. (rules : Meaning) (d : DurableWorld) (budget : Option ℕ) (events : List Event) → StandsFor rules d budget events self.now → IsReadAt rules (opening d budget) events item.now read) }
     {
-        self.world.read(item)
+        let read = self.world.read(item)?;
+        Ok(read)
     }
 
     /// The world as a run reads it.

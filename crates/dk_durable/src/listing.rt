@@ -1,10 +1,11 @@
 //! The world from a list of what it holds, and back.
-ghost use Rattle.std.specs.Prelude.{◌≡◌, IfOk, map as list_map};
-ghost use Rattle.std.specs.FinMap.{entries as entries_of};
+ghost use Rattle.std.specs.Prelude.{◌≡◌, false, Some, IfOk, map as list_map};
+ghost use Rattle.std.specs.FinMap.{entries as entries_of, get as get_of};
+ghost use Rattle.dk_types.specs.declared.number.TaskKey.{TaskKey as Key};
 ghost use Rattle.dk_model.specs.Effects.{pending_of};
 ghost use Rattle.dk_objects.specs.StampedObjects.{objects_of};
 ghost use Rattle.dk_names.specs.Bindings.{ids_of};
-ghost use Rattle.dk_tasks.specs.Tasks.{durable_tasks};
+ghost use Rattle.dk_tasks.specs.Tasks.{Kept, durable_tasks};
 ghost use Rattle.dk_durable.specs.StampedWorlds.{durable_of, HasStamps};
 ghost use Rattle.dk_durable.specs.Listings.{world_of, listed};
 
@@ -67,6 +68,7 @@ impl StampedWorld {
     pub fn open(alloc: Global, durable: Durable) -> Result<StampedWorld, NoMemory>
         ensures world { IfOk result (λ w. durable_of w ≡ world_of durable) }
         ensures stamps { IfOk result (HasStamps (λ _. durable.commits)) }
+        ensures unclaimed { IfOk result (λ w. (key : Key) (t : Kept) → get_of w.tasks key ≡ Some t → t.claimed ≡ false) }
     {
         let mut world = StampedWorld::new(alloc);
         world
