@@ -22,5 +22,5 @@ pub(crate) fn open_connections(
     ensures unclaimed { IfOk result (λ c. (conn : ConnNumber) (l : Linked) → map.get c.connections conn ≡ Some l → l.claimed ≡ false) }
     ensures swept { IfOk result (λ c. IsSwept c.connections) }
 {
-    Ok(Connections::new(alloc))
+    dk_opening::open_connections(alloc, world)
 }
