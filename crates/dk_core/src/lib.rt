@@ -21,6 +21,5 @@ mod commits;
 
 mod events;
 mod granting;
-mod opening;
 pub mod prepared;
 pub mod world;

@@ -12,9 +12,9 @@ ghost use Rattle.dk_durable.specs.StampedWorlds.{durable_of, read_now};
 ghost use Rattle.dk_core.specs.Cores.{world_of, StandsFor};
 
 use crate::claims::Claims;
-use crate::opening::open_connections;
 use dk_connections::Connections;
 use dk_durable::{StampedWorld, WorldLook};
+use dk_opening::open_connections;
 use dk_types::{Durable, Item, NoMemory, Read, RunNo};
 use std::alloc::Global;
 

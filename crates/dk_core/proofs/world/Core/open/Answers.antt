@@ -1,14 +1,10 @@
-use Rattle.std.proofs.Common.{refl, sym, ap, subst, ◌∙◌}
-use Rattle.dk_model.specs.Validity.{IsValid}
+use Rattle.std.proofs.Common.{refl, ◌∙◌}
 use Rattle.dk_core.proofs.Opened.{opened}
 use Rattle.dk_core.proofs.world.Core.open.Goals as goal
 
 pub next_number-next-requires : goal.next_number-next-requires
 next_number-next-requires c = c.requires.valid.last
 
-pub open_connections-requires : goal.open_connections-requires
-open_connections-requires c = record { valid = subst IsValid (sym c.in_ok-world.ensures.world) c.requires.valid }
-
 pub returns : goal.returns
-returns c rules = opened rules _ c.args.budget _ c.requires.valid c.in_ok-world.ensures.world c.in_ok-world.ensures.stamps c.in_ok-world.ensures.unclaimed
+returns c = λ rules. opened rules _ c.args.budget _ c.requires.valid c.in_ok-world.ensures.world c.in_ok-world.ensures.stamps c.in_ok-world.ensures.unclaimed
     c.in_ok-connections.ensures.world c.in_ok-connections.ensures.unclaimed c.in_ok-connections.ensures.swept (c.new-claims.ensures ∙ (λ i. record { claims = _; next = c.next_number-next.ensures i; budget = _ })) refl refl
