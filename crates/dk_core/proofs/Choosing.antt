@@ -1,5 +1,5 @@
 -- What is picked by the indexes is what the definitions pick.
-use Rattle.std.proofs.Common.{◌≡◌, ℕ, ◌==◌, Bool, true, false, if◌then◌else◌, List, [], ◌∷◌, Bor, Option, Some, None, IfSome, is_some, length, refl, sym, ap, subst, ◌∙◌, arith, eqb-true}
+use Rattle.std.proofs.Common.{◌≡◌, ℕ, ◌==◌, true, false, if◌then◌else◌, List, [], ◌∷◌, Bor, Option, Some, None, IfSome, is_some, length, refl, sym, ap, ◌∙◌, arith, eqb-true}
 use Rattle.std.specs.List.{AllByRecursion}
 use Rattle.std.specs.Option.{option_or, option_map, option_copied}
 use Rattle.std.specs.FinMap.{get, len, entries, len-entries}
@@ -10,7 +10,7 @@ use Rattle.dk_types.specs.declared.job.Job.{Job}
 use Rattle.dk_types.specs.declared.job.Job.TheVariants as job
 use Rattle.dk_types.specs.declared.durable.Pending.{Pending}
 use Rattle.dk_model.specs.Worlds.{Claim}
-use Rattle.dk_model.specs.Picks.{mapped, task_job, or_else, first_of_list, first_runs, is_initialize, is_claimed, pick, pick_task, pick_input}
+use Rattle.dk_model.specs.Picks.{mapped, task_job, or_else, first_of_list, first_runs, is_initialize, is_claimed, pick_task, pick_input}
 use Rattle.dk_model.proofs.Maps.{runs_total}
 use Rattle.dk_laws.proofs.Entries.{all_entries}
 use Rattle.dk_laws.proofs.OpenClaims.{TheClaims}
@@ -22,7 +22,7 @@ use Rattle.dk_core.specs.declared.choice.Choice.{Choice}
 use Rattle.dk_core.specs.declared.choice.Choice.TheVariants as choose
 use Rattle.dk_core.specs.declared.world.Core.{Core}
 use Rattle.dk_core.specs.Cores.{world_of}
-use Rattle.dk_core.specs.Picking.{job_of, AreMarks, IsThere, IsPick, IsFirstRun, IsDueTask, IsReadyInput}
+use Rattle.dk_core.specs.Picking.{job_of, IsThere, IsPick, IsFirstRun, IsDueTask, IsReadyInput}
 use Rattle.dk_core.proofs.Having.{never, has_there, has_which}
 use Rattle.dk_core.proofs.Counted.{some_there}
 
@@ -38,9 +38,9 @@ task_there key (Some t) e = (task_job (key, t.task), refl)
 input_there : (conn : ConnNo) (o : Option Linked) → IsReadyAt o → (j : Job) × (first_at conn o ≡ Some j)
 input_there conn None r = absurd r
 input_there conn (Some l) r = elim (first_at conn (Some l)) as (λ o. first_at conn (Some l) ≡ o → (j : Job) × (first_at conn (Some l) ≡ Some j)) [
-    | None ↦ λ e. absurd (first_there conn l r.1 e)
-    | Some j ↦ λ e. (j, e)
-  ] refl
+  | None ↦ λ e. absurd (first_there conn l r.1 e)
+  | Some j ↦ λ e. (j, e)
+] refl
 
 pub job_there : (c : Core) (x : Choice) → IsThere c x → IsOne c x
 job_there c choose.First t = record { job = job.Initialize; is = refl }

@@ -1,19 +1,17 @@
 -- A commit leads to the world that the definitions say.
-use Rattle.std.proofs.Common.{◌≡◌, ℕ, ◌+◌, Bool, true, false, ◌&&◌, not, is_some, List, [], ◌∷◌, ◌++◌, Option, Some, None, refl, sym, ap, subst, ◌∙◌, arith}
+use Rattle.std.proofs.Common.{◌≡◌, ℕ, ◌+◌, false, ◌&&◌, not, List, [], ◌∷◌, ◌++◌, Option, Some, None, refl, sym, ap, subst, ◌∙◌, arith}
 use Rattle.std.specs.List.{AllByRecursion}
 use Rattle.std.specs.Option.{option_map}
-use Rattle.std.specs.FinMap.{FinMap, get, remove}
+use Rattle.std.specs.FinMap.{get}
 use Rattle.dk_types.specs.declared.number.RunNo.{RunNo}
 use Rattle.dk_types.specs.declared.number.ConnNo.{ConnNo}
 use Rattle.dk_types.specs.declared.number.TaskKey.{TaskKey}
 use Rattle.dk_types.specs.declared.item.Item.{Item}
 use Rattle.dk_types.specs.declared.item.Item.TheVariants as ask
 use Rattle.dk_types.specs.declared.item.Read.{Read}
-use Rattle.dk_types.specs.declared.job.Job.{Job}
 use Rattle.dk_types.specs.declared.job.Out.{Out}
 use Rattle.dk_types.specs.declared.event.Event.{Event}
 use Rattle.dk_types.specs.declared.event.Event.TheVariants as event
-use Rattle.dk_model.specs.Keys.{key_cmp}
 use Rattle.dk_model.specs.DurableWorlds.{DurableWorld, Agrees, answer}
 use Rattle.dk_model.specs.Worlds.{World, Claim}
 use Rattle.dk_model.specs.Deliveries.{delivered, without_done}
@@ -24,18 +22,18 @@ use Rattle.dk_model.specs.Openings.{opening}
 use Rattle.dk_model.specs.Picks.{is_task_of, is_claimed}
 use Rattle.dk_model.specs.Sights.{stamp, seen, seen_in, stamped_by, IsHonestRead}
 use Rattle.dk_model.specs.Steps.{Stepped}
-use Rattle.dk_model.specs.Successors.{after_events, step_by, stepped_at}
+use Rattle.dk_model.specs.Successors.{after_events, stepped_at}
 use Rattle.dk_model.proofs.StepLaws.{step_goes_on}
 use Rattle.dk_laws.proofs.OneWorld.{events_lead}
 use Rattle.dk_laws.proofs.SoundCommits.{claim_ready}
 use Rattle.dk_laws.proofs.SoundHistories.{claims_ready}
 use Rattle.dk_laws.proofs.Stamps.{seen_alike}
-use Rattle.dk_tasks.specs.Tasks.{Kept, durable_tasks}
+use Rattle.dk_tasks.specs.Tasks.{Kept}
 use Rattle.dk_tasks.proofs.Durable.{get-durable}
 use Rattle.dk_overlay.specs.declared.finished.Finished.{Finished}
 use Rattle.dk_overlay.specs.Finishes.{told}
 use Rattle.dk_connections.specs.Linked.{Shown, all_of, IsSwept, KeepsMarksBut}
-use Rattle.dk_durable.specs.StampedWorlds.{Stamped, Room, with_room, durable_of, seen_now, HasStamps}
+use Rattle.dk_durable.specs.StampedWorlds.{Stamped, Room, with_room, durable_of, seen_now}
 use Rattle.dk_durable.specs.Changes.{Stands}
 use Rattle.dk_durable.specs.Commits.{CommitsSteps, ComesTo, claimed_at}
 use Rattle.dk_durable.proofs.LawfulSteps.{steps_from}
@@ -96,9 +94,9 @@ module _ (rules : Meaning) (lawful : AreLawful rules) (d : DurableWorld) (budget
 
       claimed_now : (key : TaskKey) (k : Kept) → get mid.tasks key ≡ Some k → k.claimed ≡ is_claimed (is_task_of key) (world_of old)
       claimed_now key k e = c.claims key k e ∙ elim (get old.world.tasks key) as (λ r. get old.world.tasks key ≡ r → claimed_at r ≡ is_claimed (is_task_of key) (world_of old)) [
-          | None ↦ λ none. sym (fresh_task key k e none)
-          | Some t ↦ λ some. sym (s.tracked.tasks key t some)
-        ] refl
+        | None ↦ λ none. sym (fresh_task key k e none)
+        | Some t ↦ λ some. sym (s.tracked.tasks key t some)
+      ] refl
 
 -- the world after the effects, and the claims without the run's
 abbrev pub with_run_ended : Core → Stamped → Claiming → Core
@@ -125,20 +123,26 @@ module _ (old : Core) (claimed : Claimed) (f : Finished) (seq : ℕ) (mid : Stam
       let e = event.Commit claimed.pass claimed.run seq f.outcome in
       let left : (key : TaskKey) (k : Kept) → get freed.world.tasks key ≡ Some k → k.claimed ≡ (is_claimed (is_task_of key) w && not (is_task_of key claimed.job))
       = λ key k g. let x = freed_tasks claimed.job mid.tasks key k (sym (ap (λ m. get m key) t.tasks) ∙ g) in
-          x.2 ∙ ap (λ b. b && not (is_task_of key claimed.job)) (claimed_now rules lawful d budget events old s claimed.run claim held mid comes key x.0 x.1) in
+      x.2 ∙ ap (λ b. b && not (is_task_of key claimed.job)) (claimed_now rules lawful d budget events old s claimed.run claim held mid comes key x.0 x.1) in
       let tracked = tracked_less w claimed.run claim old.connections.connections shown.connections old.world.tasks freed.world.tasks s.tracked held
-          (task_alone rules lawful d budget events old s claimed.run claim held) (subst (λ (n : Shown). KeepsMarksBut claimed.job n.connections shown.connections) same_shown marks) swept left
-          stepped.world (λ zero. let more = goes.commits in absurd (omega (arith, more, zero))) old.claims.budget (all_of shown.connections) in
-      entered rules lawful d budget events old s new e tt
-      (claim, held, refl, number, ap (λ x. x.outcome) is, λ i. record {
-        durable = world i;
-        moment = t.same.moment i;
-        next = (less i).next;
-        budget = (less i).budget;
-        after_task = t.after_task i;
-        claims = (less i).claims;
-        connections = (connected ∙ (λ j. without_done (delivered claimed.job (outs j) (all_of (same_shown j).connections)))) i;
-      })
+      (task_alone rules lawful d budget events old s claimed.run claim held) (subst (λ (n : Shown). KeepsMarksBut claimed.job n.connections shown.connections) same_shown marks) swept left
+      stepped.world (λ zero. let more = goes.commits in absurd (omega (arith, more, zero))) old.claims.budget (all_of shown.connections) in
+      entered rules lawful d budget events old s new e tt (
+        claim,
+        held,
+        refl,
+        number,
+        ap (λ x. x.outcome) is,
+        λ i. record {
+          durable = world i;
+          moment = t.same.moment i;
+          next = (less i).next;
+          budget = (less i).budget;
+          after_task = t.after_task i;
+          claims = (less i).claims;
+          connections = (connected ∙ (λ j. without_done (delivered claimed.job (outs j) (all_of (same_shown j).connections)))) i;
+        },
+      )
       (subst (λ v. IsTracked v shown.connections freed.world.tasks)
       (λ i. record { durable = sym world i; moment = sym t.same.moment i; next = (sym less i).next; budget = (sym less i).budget; after_task = sym t.after_task i; claims = (sym less i).claims; connections = all_of shown.connections })
       tracked)

@@ -1,10 +1,10 @@
 -- The claims, their numbers and the budget stay in step.
 use Rattle.std.proofs.Common.{◌≡◌, ℕ, ◌+◌, ◌-◌, ◌<◌, ◌≤◌, true, false, cond, List, [], ◌∷◌, length, Option, None, Some, is_some, refl, sym, ap, subst, ◌∙◌, arith, leb-true}
-use Rattle.std.specs.FinMap.{FinMap, get, insert, remove, empty, len, contains_key, get-empty, len-empty, len-insert, len-remove, len-entries, entries, find, get-entries}
+use Rattle.std.specs.FinMap.{get, insert, remove, empty, len, contains_key, get-empty, len-empty, len-insert, len-remove, len-entries, entries, find, get-entries}
 use Rattle.dk_types.specs.declared.number.RunNo.{RunNo}
 use Rattle.dk_types.specs.declared.limits.TheConstants.{NUMBERS_END}
 use Rattle.dk_model.specs.Keys.{run_cmp}
-use Rattle.dk_model.specs.Worlds.{Claim, Budget}
+use Rattle.dk_model.specs.Worlds.{Claim}
 use Rattle.dk_model.specs.Events.{has_left, lowered, raised}
 use Rattle.dk_model.specs.Openings.{budget_of}
 use Rattle.dk_model.proofs.Maps.{runs_total, exact_runs, get-insert_other, get-remove_cases}
@@ -62,9 +62,9 @@ module _ (claims : TheClaims) (next granted : ℕ) (most : Option ℕ) (counted 
 
   fewer : (run : RunNo) → len (remove claims run) ≤ len claims
   fewer run = elim (contains_key claims run) as (λ b. len (remove claims run) ≡ cond b (len claims - 1) (len claims) → len (remove claims run) ≤ len claims) [
-      | true ↦ λ e. omega (arith, e)
-      | false ↦ λ e. omega (arith, e)
-    ] (len-remove runs_total claims run)
+    | true ↦ λ e. omega (arith, e)
+    | false ↦ λ e. omega (arith, e)
+  ] (len-remove runs_total claims run)
 
   removed_below : (run q : RunNo) → next ≤ q.0 → get (remove claims run) q ≡ None
   removed_below run q le = none_of (get (remove claims run) q) (λ x e.

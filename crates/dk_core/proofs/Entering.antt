@@ -1,6 +1,6 @@
 -- Connect, Post, Hand and Tick lead to the world that the definitions say.
-use Rattle.std.proofs.Common.{◌≡◌, ℕ, ◌+◌, ◌<◌, false, max, min, take, drop, Option, None, Some, List, [], ◌∷◌, ◌++◌, Result, Ok, Err, IfOk, OnOk, OnErr, is_none, is_some, arith, refl, sym, ap, subst, ◌∙◌}
-use Rattle.std.specs.FinMap.{FinMap, get, insert, contains_key}
+use Rattle.std.proofs.Common.{◌≡◌, ℕ, ◌+◌, ◌<◌, false, max, min, take, drop, None, List, [], ◌∷◌, ◌++◌, Result, Ok, Err, IfOk, OnOk, OnErr, is_none, is_some, arith, refl, sym, ap, subst, ◌∙◌}
+use Rattle.std.specs.FinMap.{get, insert, contains_key}
 use Rattle.dk_types.specs.declared.number.ConnNo.{ConnNo}
 use Rattle.dk_types.specs.declared.job.Input.{Input}
 use Rattle.dk_types.specs.declared.event.Event.{Event}
@@ -11,14 +11,12 @@ use Rattle.dk_types.specs.declared.fault.NoMemory.{NoMemory}
 use Rattle.dk_types.specs.declared.limits.TheConstants.{NUMBERS_END, MOMENT_MOST_MS}
 use Rattle.dk_types.specs.Names.{IsName}
 use Rattle.dk_model.specs.declared.waiting.Waiting.TheVariants as waits
-use Rattle.dk_model.specs.DurableWorlds.{DurableWorld}
-use Rattle.dk_model.specs.Worlds.{World, new_connection}
+use Rattle.dk_model.specs.Worlds.{new_connection}
 use Rattle.dk_model.specs.Deliveries.{change_connection, without_done}
 use Rattle.dk_model.specs.Events.{Meaning, Happens, with_connection, put_last, outbox_at}
-use Rattle.dk_model.specs.Lawful.{AreLawful, IsInput, IsWithinLimits}
+use Rattle.dk_model.specs.Lawful.{IsInput, IsWithinLimits}
 use Rattle.dk_model.specs.Successors.{step_by}
-
-use Rattle.dk_connections.specs.Linked.{Linked, Shown, all_of, change, left, less_first, linked, unclaimed, IsSwept, KeepsMarks}
+use Rattle.dk_connections.specs.Linked.{Shown, all_of, change, left, less_first, linked, unclaimed, IsSwept, KeepsMarks}
 use Rattle.dk_connections.specs.Posts.{PostAnswer}
 use Rattle.dk_connections.specs.declared.answers.PostRefused.{PostRefused}
 use Rattle.dk_connections.specs.declared.answers.PostRefused.TheVariants as post_refused

@@ -1,6 +1,6 @@
 -- A claim, granted or not, and one that is given back, lead to the world that the definitions say.
-use Rattle.std.proofs.Common.{◌≡◌, ℕ, ◌+◌, ◌<◌, ◌≤◌, Bool, true, false, ◌||◌, ◌&&◌, not, List, [], ◌∷◌, ◌++◌, Option, Some, None, refl, sym, ap, subst, ◌∙◌, arith}
-use Rattle.std.specs.FinMap.{FinMap, get, insert, remove, contains_key}
+use Rattle.std.proofs.Common.{◌≡◌, ℕ, ◌<◌, ◌≤◌, Bool, true, false, ◌||◌, ◌&&◌, not, List, [], ◌∷◌, Option, Some, None, refl, sym, ap, subst, ◌∙◌, arith}
+use Rattle.std.specs.FinMap.{FinMap, get}
 use Rattle.dk_types.specs.declared.number.RunNo.{RunNo}
 use Rattle.dk_types.specs.declared.number.ConnNo.{ConnNo}
 use Rattle.dk_types.specs.declared.number.TaskKey.{TaskKey}
@@ -13,9 +13,9 @@ use Rattle.dk_types.specs.declared.event.ClaimReply.TheVariants as reply
 use Rattle.dk_types.specs.declared.limits.TheConstants.{NUMBERS_END}
 use Rattle.dk_model.specs.declared.waiting.Waiting.{Waiting}
 use Rattle.dk_model.specs.declared.waiting.Waiting.TheVariants as waits
-use Rattle.dk_model.specs.Keys.{key_cmp, conn_cmp}
+use Rattle.dk_model.specs.Keys.{key_cmp}
 use Rattle.dk_model.specs.DurableWorlds.{DurableWorld}
-use Rattle.dk_model.specs.Worlds.{World, Claim}
+use Rattle.dk_model.specs.Worlds.{Claim}
 use Rattle.dk_model.specs.Deliveries.{conn_of, for_conn, without_done}
 use Rattle.dk_model.specs.Events.{Meaning, has_left, granted_of, with_claim, without_claim}
 use Rattle.dk_model.specs.Events as events
@@ -38,7 +38,7 @@ use Rattle.dk_core.specs.Claiming.{Claiming, with_grant, without_grant}
 use Rattle.dk_core.specs.Cores.{world_of, IsTracked, StandsFor, Enters, IsGranted}
 use Rattle.dk_core.specs.Picking.{job_of, AreMarks, IsThere, IsPick}
 use Rattle.dk_core.specs.Marking.{is_task, conn_in, tasks_marked, tasks_freed, IsMarked, IsFreed}
-use Rattle.dk_core.proofs.Choosing.{IsOne, job_there}
+use Rattle.dk_core.proofs.Choosing.{job_there}
 use Rattle.dk_core.proofs.Runnable.{nothing_runnable, picked_runnable}
 use Rattle.dk_core.proofs.Standing.{sound_of, below_of, entered_still}
 use Rattle.dk_core.proofs.Tracked.{InputClaimed, TaskClaimed, TaskFreed, TaskAlone, IsFree, tracked_claim, tracked_less}
@@ -131,19 +131,25 @@ claims_granted old new pass x j claims is there first what left few granted m ru
     let swept : IsSwept new.connections.connections = m.swept s.tracked.swept in
     let connected = sym swept ∙ ap without_done (m.connections ∙ ap (λ o. for_conn o (λ c. record c { turn = old.claims.next }) (all_of all)) (sym k.0.conn)) in
     let tracked = tracked_claim w pass j all new.connections.connections old.world.tasks new.world.tasks s.tracked
-        ((below_of rules lawful d budget events old s).claims (record { 0 = old.claims.next }) (omega arith)) (λ zero. k.0.first (first zero)) (free_of rules lawful d budget events old s x j there k.0)
-        (subst (λ n. InputClaimed j all n) (sym linked) (input_marked j old.claims.next all)) swept (subst (λ n. TaskClaimed j old.world.tasks n) (sym m.tasks) k.1)
-        new.claims.budget new.after_task (all_of new.connections.connections) in
-    entered_still rules lawful d budget events old s new (event.Claim pass (reply.Granted (record { 0 = old.claims.next }) old.moment j)) tt
-    (is s.tracked ∙ what, left, few, refl, refl, λ i. record {
-      durable = m.same.durable i;
-      moment = m.same.moment i;
-      next = (claimed i).next;
-      budget = (claimed i).budget;
-      after_task = (m.after_task ∙ sym k.0.task) i;
-      claims = (claimed i).claims;
-      connections = connected i;
-    })
+    ((below_of rules lawful d budget events old s).claims (record { 0 = old.claims.next }) (omega arith)) (λ zero. k.0.first (first zero)) (free_of rules lawful d budget events old s x j there k.0)
+    (subst (λ n. InputClaimed j all n) (sym linked) (input_marked j old.claims.next all)) swept (subst (λ n. TaskClaimed j old.world.tasks n) (sym m.tasks) k.1)
+    new.claims.budget new.after_task (all_of new.connections.connections) in
+    entered_still rules lawful d budget events old s new (event.Claim pass (reply.Granted (record { 0 = old.claims.next }) old.moment j)) tt (
+      is s.tracked ∙ what,
+      left,
+      few,
+      refl,
+      refl,
+      λ i. record {
+        durable = m.same.durable i;
+        moment = m.same.moment i;
+        next = (claimed i).next;
+        budget = (claimed i).budget;
+        after_task = (m.after_task ∙ sym k.0.task) i;
+        claims = (claimed i).claims;
+        connections = connected i;
+      },
+    )
     (subst (λ v. IsTracked v new.connections.connections new.world.tasks)
     (λ i. record { durable = sym m.same.durable i; moment = sym m.same.moment i; next = (sym claimed i).next; budget = new.claims.budget; after_task = new.after_task; claims = (sym claimed i).claims; connections = all_of new.connections.connections })
     tracked)
@@ -190,19 +196,23 @@ releases old new claimed claims held gone f rules d budget events lawful s =
     let swept : IsSwept new.connections.connections = subst (λ n. without_done n ≡ n) (sym f.connections) s.tracked.swept in
     let connected = sym swept ∙ ap without_done f.connections in
     let tracked = tracked_less w claimed.run claim all new.connections.connections old.world.tasks new.world.tasks s.tracked held (task_alone rules lawful d budget events old s claimed.run claim held)
-        (subst (λ n. KeepsMarksBut claimed.job all n) (sym f.linked) (input_freed claimed.job all)) swept
-        (λ key t e. let k = freed_tasks claimed.job old.world.tasks key t (sym (ap (λ m. get m key) f.tasks) ∙ e) in k.2 ∙ ap (λ b. b && not (is_task_of key claimed.job)) (sym (s.tracked.tasks key k.0 k.1)))
-        w.durable (λ zero. zero) new.claims.budget (all_of new.connections.connections) in
-    entered_still rules lawful d budget events old s new (event.Release claimed.pass claimed.run) tt
-    (claim, held, refl, λ i. record {
-      durable = f.same.durable i;
-      moment = f.same.moment i;
-      next = (less i).next;
-      budget = (less i).budget;
-      after_task = f.after_task i;
-      claims = (less i).claims;
-      connections = connected i;
-    })
+    (subst (λ n. KeepsMarksBut claimed.job all n) (sym f.linked) (input_freed claimed.job all)) swept
+    (λ key t e. let k = freed_tasks claimed.job old.world.tasks key t (sym (ap (λ m. get m key) f.tasks) ∙ e) in k.2 ∙ ap (λ b. b && not (is_task_of key claimed.job)) (sym (s.tracked.tasks key k.0 k.1)))
+    w.durable (λ zero. zero) new.claims.budget (all_of new.connections.connections) in
+    entered_still rules lawful d budget events old s new (event.Release claimed.pass claimed.run) tt (
+      claim,
+      held,
+      refl,
+      λ i. record {
+        durable = f.same.durable i;
+        moment = f.same.moment i;
+        next = (less i).next;
+        budget = (less i).budget;
+        after_task = f.after_task i;
+        claims = (less i).claims;
+        connections = connected i;
+      },
+    )
     (subst (λ v. IsTracked v new.connections.connections new.world.tasks)
     (λ i. record { durable = sym f.same.durable i; moment = sym f.same.moment i; next = (sym less i).next; budget = new.claims.budget; after_task = sym f.after_task i; claims = (sym less i).claims; connections = all_of new.connections.connections })
     tracked)

@@ -1,5 +1,5 @@
 -- The marks that a claim sets, and that are taken off when its run has ended or is given back.
-use Rattle.std.proofs.Common.{◌≡◌, ℕ, Bool, true, false, cond, ◌||◌, ◌&&◌, not, nat_eq, List, Option, Some, None, refl, sym, ap, subst, ◌∙◌, inl, inr, is_eq, eqb-true, eq-eqb}
+use Rattle.std.proofs.Common.{◌≡◌, ℕ, Bool, true, false, cond, ◌||◌, ◌&&◌, not, nat_eq, List, Option, Some, None, refl, sym, ap, ◌∙◌, is_eq, eqb-true, eq-eqb}
 use Rattle.std.specs.Cmp.{tied_itself}
 use Rattle.std.specs.Option.{option_map}
 use Rattle.std.specs.Ordering.{eq_by_cmp}
@@ -10,9 +10,8 @@ use Rattle.dk_types.specs.declared.job.Job.{Job}
 use Rattle.dk_types.specs.declared.job.Job.TheVariants as job
 use Rattle.dk_model.specs.Keys.{key_cmp, conn_cmp}
 use Rattle.dk_model.specs.Deliveries.{conn_of}
-use Rattle.dk_model.specs.Picks.{is_of, is_task_of}
+use Rattle.dk_model.specs.Picks.{is_of}
 use Rattle.dk_model.proofs.Maps.{keys_total, exact_keys, some_is}
-use Rattle.dk_model.proofs.Works.{IsOwnKey}
 use Rattle.dk_tasks.specs.Tasks.{Kept, with_claim, changed_at}
 use Rattle.dk_connections.specs.Linked.{Linked, change, change_some, released, with_turn, KeepsMarksBut}
 use Rattle.dk_connections.proofs.Changes.{get-change}

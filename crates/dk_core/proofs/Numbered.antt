@@ -1,5 +1,5 @@
 -- The numbers of a core that stands for a history.
-use Rattle.std.proofs.Common.{◌≡◌, ℕ, ◌+◌, ◌^◌, ◌<◌, arith}
+use Rattle.std.proofs.Common.{◌+◌, ◌^◌, ◌<◌, arith}
 use Rattle.dk_core.specs.declared.world.Core.{Core}
 use Rattle.dk_core.specs.Cores.{IsStanding}
 use Rattle.dk_core.proofs.Standing.{sound_of}

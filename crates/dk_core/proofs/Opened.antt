@@ -1,6 +1,6 @@
 -- A core that was opened stands for the history of no events, and its reads are those of its history.
-use Rattle.std.proofs.Common.{◌≡◌, ℕ, Bool, false, List, [], Option, None, Some, refl, sym, ap, ◌∙◌}
-use Rattle.std.specs.FinMap.{FinMap, get, get-empty, empty}
+use Rattle.std.proofs.Common.{◌≡◌, ℕ, Bool, false, List, [], Option, Some, sym, ap, ◌∙◌}
+use Rattle.std.specs.FinMap.{get, get-empty, empty}
 use Rattle.dk_types.specs.declared.number.ConnNo.{ConnNo}
 use Rattle.dk_types.specs.declared.number.TaskKey.{TaskKey}
 use Rattle.dk_types.specs.declared.item.Item.{Item}
@@ -18,8 +18,8 @@ use Rattle.dk_model.proofs.Maps.{not_both}
 use Rattle.dk_laws.proofs.OneWorld.{events_lead}
 use Rattle.dk_laws.proofs.OpenClaims.{TheClaims}
 use Rattle.dk_tasks.specs.Tasks.{Kept}
-use Rattle.dk_connections.specs.Linked.{Linked, Shown, all_of, IsSwept}
-use Rattle.dk_durable.specs.StampedWorlds.{Stamped, durable_of, read_now, HasStamps}
+use Rattle.dk_connections.specs.Linked.{Linked, all_of, IsSwept}
+use Rattle.dk_durable.specs.StampedWorlds.{durable_of, read_now, HasStamps}
 use Rattle.dk_core.specs.declared.world.Core.{Core}
 use Rattle.dk_core.specs.Claiming.{Claiming}
 use Rattle.dk_core.specs.Cores.{world_of, StandsFor}

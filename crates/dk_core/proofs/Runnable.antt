@@ -1,5 +1,5 @@
 -- Nothing is picked exactly where nothing can be run.
-use Rattle.std.proofs.Common.{◌≡◌, ℕ, ◌==◌, Bool, true, false, if◌then◌else◌, Option, Some, None, List, [], ◌∷◌, ◌++◌, map, refl, sym, ap, ◌∙◌}
+use Rattle.std.proofs.Common.{◌≡◌, ◌==◌, Bool, true, false, if◌then◌else◌, Option, Some, None, List, [], ◌∷◌, ◌++◌, map, refl, sym, ap, ◌∙◌}
 use Rattle.dk_types.specs.declared.job.Job.{Job}
 use Rattle.dk_model.specs.Worlds.{World}
 use Rattle.dk_model.specs.Picks.{due_tasks, inputs, task_job, first_runs, runnable, lesser, least, is_sooner, is_earlier, mapped, or_else, pick_task, pick_input, first_of_list, pick}
@@ -7,9 +7,9 @@ use Rattle.dk_model.specs.Picks.{due_tasks, inputs, task_job, first_runs, runnab
 lesser_there : {A : Type 0} (before : A → A → Bool) (x : A) (o : Option A) → lesser before x o ≡ None → ⊥
 lesser_there before x None e = absurd cc
 lesser_there before x (Some y) e = elim (before y x) as (λ b. (if b then Some y else Some x) ≡ None → ⊥) [
-    | true ↦ λ f. absurd cc
-    | false ↦ λ f. absurd cc
-  ] e
+  | true ↦ λ f. absurd cc
+  | false ↦ λ f. absurd cc
+] e
 
 least_of_none : {A : Type 0} (before : A → A → Bool) (xs : List A) → least before xs ≡ None → xs ≡ []
 least_of_none before [] e = refl

@@ -3,12 +3,11 @@ use Rattle.std.proofs.Common.{◌≡◌, ℕ, Option, None, List, [], ◌∷◌,
 use Rattle.dk_types.specs.declared.item.Item.{Item}
 use Rattle.dk_types.specs.declared.event.Event.{Event}
 use Rattle.dk_model.specs.DurableWorlds.{DurableWorld}
-use Rattle.dk_model.specs.Worlds.{World}
 use Rattle.dk_model.specs.Events.{Meaning, Happens}
 use Rattle.dk_model.specs.Openings.{opening}
 use Rattle.dk_model.specs.Lawful.{AreLawful, IsWithinLimits}
 use Rattle.dk_model.specs.Sights.{stamp, stamped_by, seen_in}
-use Rattle.dk_model.specs.Successors.{after_events, step_by}
+use Rattle.dk_model.specs.Successors.{step_by}
 use Rattle.dk_laws.proofs.Numbers.{AreBelow, leads_below, opening_below}
 use Rattle.dk_laws.proofs.OneWorld.{events_lead, joined}
 use Rattle.dk_laws.proofs.Sound.{IsSound}

@@ -1,7 +1,5 @@
 -- The marks tell which connections and tasks claimed runs have, after each event.
-use Rattle.std.proofs.Common.{◌≡◌, ℕ, ◌+◌, ◌<◌, Bool, true, false, cond, ◌||◌, ◌&&◌, not, nat_eq, List, Option, Some, None, refl, sym, ap, subst, ◌∙◌, arith, inl, inr, is_eq, eqb-true, eq-eqb}
-use Rattle.std.specs.Option.{option_map}
-use Rattle.std.specs.Ordering.{eq_by_cmp}
+use Rattle.std.proofs.Common.{◌≡◌, ℕ, ◌+◌, ◌<◌, Bool, true, false, ◌||◌, ◌&&◌, not, nat_eq, List, Some, None, sym, ap, ◌∙◌, arith, inl, inr, eqb-true}
 use Rattle.std.specs.FinMap.{FinMap, get, insert, remove}
 use Rattle.dk_types.specs.declared.number.RunNo.{RunNo}
 use Rattle.dk_types.specs.declared.number.ConnNo.{ConnNo}
@@ -11,14 +9,12 @@ use Rattle.dk_types.specs.declared.job.Job.TheVariants as job
 use Rattle.dk_model.specs.Keys.{key_cmp, conn_cmp}
 use Rattle.dk_model.specs.DurableWorlds.{DurableWorld}
 use Rattle.dk_model.specs.Worlds.{World, Claim, new_connection}
-use Rattle.dk_model.specs.Deliveries.{conn_of}
 use Rattle.dk_model.specs.Picks.{is_of, is_task_of, is_claimed}
-use Rattle.dk_model.proofs.Maps.{runs_total, exact_runs, conns_total, exact_conns, keys_total, exact_keys, get-insert_cases, get-remove_cases}
-use Rattle.dk_model.proofs.Works.{IsOwnKey}
+use Rattle.dk_model.proofs.Maps.{runs_total, exact_runs, conns_total, exact_conns, get-insert_cases, get-remove_cases}
 use Rattle.dk_tasks.specs.Tasks.{Kept}
 use Rattle.dk_connections.specs.Linked.{Linked, unclaimed, IsSwept, KeepsMarks, KeepsMarksBut, MarksBy}
 use Rattle.dk_core.specs.Cores.{IsTracked}
-use Rattle.dk_core.proofs.Having.{has, Has, never, has_which, has_there, has_insert, has_remove}
+use Rattle.dk_core.proofs.Having.{never, has_which, has_there, has_insert, has_remove}
 
 same_conn : (a b c : ConnNo) → nat_eq c.0 a.0 ≡ true → nat_eq c.0 b.0 ≡ true → a ≡ b
 same_conn a b c e f = let same : a.0 ≡ b.0 = sym (eqb-true c.0 a.0 e) ∙ eqb-true c.0 b.0 f in λ i. record { 0 = same i }

@@ -8,8 +8,6 @@ use Rattle.dk_types.specs.declared.event.Event.TheVariants as event
 use Rattle.dk_types.specs.declared.event.ConnectReply.TheVariants as connected
 use Rattle.dk_types.specs.declared.event.PostReply.TheVariants as posted
 use Rattle.dk_types.specs.declared.event.ClaimReply.TheVariants as reply
-use Rattle.dk_types.specs.declared.item.Item.{Item}
-use Rattle.dk_types.specs.declared.item.Read.{Read}
 use Rattle.dk_types.specs.declared.fault.NoMemory.{NoMemory}
 use Rattle.dk_model.specs.DurableWorlds.{DurableWorld}
 use Rattle.dk_model.specs.Events.{Meaning}
@@ -80,8 +78,8 @@ Commits old new claimed f seq =
     → IsHonest rules (opening d budget) events claimed.job claimed.run claimed.at f.reads.items (told f)
     → StandsFor rules d budget (events ++ event.Commit claimed.pass claimed.run seq f.outcome ∷ []) new
 
--- both in one: where it is refused the claim is handed back
+-- both in one: where it is refused the claim is handed back, and stands
 abbrev pub CommitsOrTells : Core → Core → Claimed → Finished → Result ℕ (Claimed × PrepareRefused) → Type 0
 CommitsOrTells old new claimed f (Ok seq) = (seq ≡ old.world.commits + 1) × AllByRecursion (Stands old.world) f.reads.items × Commits old new claimed f seq
-CommitsOrTells old new claimed f (Err (back, prepare_refused.Retry changed)) = (back ≡ claimed) × IsFirstChanged old.world f.reads.items changed × Stays old new
-CommitsOrTells old new claimed f (Err (back, prepare_refused.NoMemory)) = (back ≡ claimed) × Stays old new
+CommitsOrTells old new claimed f (Err (back, prepare_refused.Retry changed)) = (back ≡ claimed) × IsGranted new claimed × IsFirstChanged old.world f.reads.items changed × Stays old new
+CommitsOrTells old new claimed f (Err (back, prepare_refused.NoMemory)) = (back ≡ claimed) × IsGranted new claimed × Stays old new

@@ -1,6 +1,6 @@
 -- Which job a claim takes.
 use Rattle.std.specs.Prelude.{◌≡◌, Option, None, Some, true}
-use Rattle.std.specs.FinMap.{FinMap, get, contains_key}
+use Rattle.std.specs.FinMap.{get, contains_key}
 use Rattle.dk_types.specs.declared.job.Job.{Job}
 use Rattle.dk_types.specs.declared.job.Job.TheVariants as job
 use Rattle.dk_model.specs.Picks.{first_of_list, first_runs, pick, pick_input, pick_task}

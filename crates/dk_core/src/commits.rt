@@ -6,8 +6,8 @@ ghost use Rattle.dk_core.specs.Cores.{IsGranted, IsStanding, Stays};
 
 use crate::answers::PrepareRefused;
 use crate::claimed::Claimed;
-use crate::world::Core;
 use crate::prepared::Prepared;
+use crate::world::Core;
 use dk_connections::Deliveries;
 use dk_txn::Finished;
 use dk_types::{Effects, Entry, NoMemory};

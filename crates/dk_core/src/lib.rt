@@ -8,17 +8,16 @@
 
 pub use answers::{ClaimRefused, ConnectRefused, PrepareRefused};
 pub use claimed::Claimed;
-pub use world::Core;
 pub use dk_connections::{Handed, PostRefused};
 pub use dk_durable::Changed;
 pub use prepared::Prepared;
+pub use world::Core;
 
 pub mod answers;
 mod choice;
 pub mod claimed;
 mod claims;
 mod commits;
-
 mod events;
 mod granting;
 pub mod prepared;

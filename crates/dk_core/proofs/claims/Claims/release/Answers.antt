@@ -9,9 +9,11 @@ use Rattle.dk_core.proofs.claims.Claims.release.Goals as goal
 pub invariant_of-self : goal.invariant_of-self
 invariant_of-self c =
     let left = without_seen runs_total c.self.inside.held.entries refl c.self.invariant.0 exact_runs c.args.run c.remove.new.self.entries c.remove.ensures.entries in
-    let held = subst (λ s. contains_key s.claims c.args.run ≡ true) (sym c.self.view_is) c.requires.held in
-    (c.remove.ensures.ordered, subst (λ m. IsCounted m c.self.inside.next c.one_less-self-inside.result c.self.inside.most) (sym left)
-    (counted_released _ _ _ _ c.self.invariant.1 c.args.run held c.one_less-self-inside.result c.one_less-self-inside.ensures))
+    let held = subst (λ s. contains_key s.claims c.args.run ≡ true) (sym c.self.view_is) c.requires.held in (
+      c.remove.ensures.ordered,
+      subst (λ m. IsCounted m c.self.inside.next c.one_less-self-inside.result c.self.inside.most) (sym left)
+          (counted_released _ _ _ _ c.self.invariant.1 c.args.run held c.one_less-self-inside.result c.one_less-self-inside.ensures),
+    )
 
 pub returns : goal.returns
 returns c =
