@@ -1,11 +1,12 @@
 -- The world of a list, each item stamped with the number of commits.
-use Rattle.std.proofs.Common.{◌≡◌, ℕ, refl, sym, ap, subst, ◌∙◌, Bool, true, false, cond, List, map, Option, None, Some, is_some}
+use Rattle.std.proofs.Common.{◌≡◌, ℕ, refl, sym, ap, subst, ◌∙◌, Bool, true, false, cond, List, [], ◌∷◌, map, inl, inr, Option, None, Some, is_some}
 use Rattle.std.specs.Ordering.{eq_by_cmp}
 use Rattle.std.specs.Option.{option_map}
 use Rattle.std.specs.List.{list_any}
-use Rattle.std.specs.FinMap.{FinMap, empty, get-empty}
+use Rattle.std.specs.FinMap.{FinMap, empty, get, get-empty, insert}
 use Rattle.dk_types.specs.declared.number.RunNo.{RunNo}
 use Rattle.dk_types.specs.declared.number.ObjectId.{ObjectId}
+use Rattle.dk_types.specs.declared.number.TaskKey.{TaskKey}
 use Rattle.dk_types.specs.declared.object.Object.{Object}
 use Rattle.dk_types.specs.declared.item.Item.TheVariants as ask
 use Rattle.dk_types.specs.declared.durable.Pending.{Pending}
@@ -15,7 +16,7 @@ use Rattle.dk_map.proofs.Values.{values-empty}
 use Rattle.dk_model.specs.Keys.{id_cmp, key_cmp}
 use Rattle.dk_model.specs.Effects.{with_set, task_of}
 use Rattle.dk_model.specs.Sights.{seen_at}
-use Rattle.dk_model.proofs.Maps.{ids_total, exact_ids, keys_total, exact_keys, names_total, exact_names}
+use Rattle.dk_model.proofs.Maps.{ids_total, exact_ids, keys_total, exact_keys, names_total, exact_names, get-insert_cases, not_both}
 use Rattle.dk_names.specs.Bindings.{StampedNames}
 use Rattle.dk_tasks.specs.Tasks.{Kept}
 use Rattle.dk_tasks.proofs.Durable.{durable-empty}
@@ -64,6 +65,16 @@ module _ (n : ℕ) (os : List (ObjectId × Object)) (ns : List (List ℕ × Obje
       let set = list_any (λ (p : Pending). eq_by_cmp key_cmp key p.key) ts in
       seen_stamped n set _ _ (part-with_set keys_total exact_keys (λ (t : Kept). t.stamp) (unclaimed_entry n) n (λ _. refl) ts empty key ∙ ap (λ r. cond set (Some n) (option_map (λ (t : Kept). t.stamp) r)) (get-empty key_cmp key)) (task_there Opened key)
 
+-- no run has a task that was set so
+pub set_unclaimed : (n : ℕ) (ts : List Pending) (m : FinMap key_cmp Kept) → ((key : TaskKey) (t : Kept) → get m key ≡ Some t → t.claimed ≡ false)
+    → (key : TaskKey) (t : Kept) → get (with_set (map (unclaimed_entry n) ts) m) key ≡ Some t → t.claimed ≡ false
+set_unclaimed n [] m h key t e = h key t e
+set_unclaimed n (p ∷ ts) m h key t e = set_unclaimed n ts (insert m (unclaimed_entry n p).0 (unclaimed_entry n p).1) (λ k x f.
+    elim (get-insert_cases keys_total exact_keys m (unclaimed_entry n p).0 (unclaimed_entry n p).1 k x f) [
+      | inl q ↦ ap (λ (y : Kept). y.claimed) (sym q.1)
+      | inr there ↦ h k x there
+    ]) key t e
+
 -- by the clauses of the stores
 module _ (d : Durable) (objects : FinMap id_cmp (Object × ℕ)) (names : StampedNames) (tasks : FinMap key_cmp Kept) (room : Room)
     (o : objects ≡ with_set (map (stamped_entry d.commits) d.objects) empty) (n : names ≡ with_set (map (stamped_entry d.commits) d.names) empty) (t : tasks ≡ with_set (map (unclaimed_entry d.commits) d.tasks) empty) where
@@ -75,6 +86,9 @@ module _ (d : Durable) (objects : FinMap id_cmp (Object × ℕ)) (names : Stampe
 
   pub world_kept : durable_of Kept_in ≡ world_of d
   world_kept = ap durable_of as_opened ∙ opened_world d.commits d.objects d.names d.tasks d.last room
+
+  pub unclaimed_kept : (key : TaskKey) (k : Kept) → get tasks key ≡ Some k → k.claimed ≡ false
+  unclaimed_kept key k e = set_unclaimed d.commits d.tasks empty (λ q x f. not_both (get empty q) x f (get-empty key_cmp q)) key k (ap (λ m. get m key) (sym t) ∙ e)
 
   pub stamps_kept : HasStamps (λ _. d.commits) Kept_in
   stamps_kept = subst (HasStamps (λ _. d.commits)) (sym as_opened) (opened_stamps d.commits d.objects d.names d.tasks d.last room)

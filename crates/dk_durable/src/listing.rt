@@ -1,10 +1,11 @@
 //! The world from a list of what it holds, and back.
-ghost use Rattle.std.specs.Prelude.{◌≡◌, IfOk, map as list_map};
-ghost use Rattle.std.specs.FinMap.{entries as entries_of};
+ghost use Rattle.std.specs.Prelude.{◌≡◌, false, Some, IfOk, map as list_map};
+ghost use Rattle.std.specs.FinMap.{entries as entries_of, get as get_of};
+ghost use Rattle.dk_types.specs.declared.number.TaskKey.{TaskKey as Key};
 ghost use Rattle.dk_model.specs.Effects.{pending_of};
 ghost use Rattle.dk_objects.specs.StampedObjects.{objects_of};
 ghost use Rattle.dk_names.specs.Bindings.{ids_of};
-ghost use Rattle.dk_tasks.specs.Tasks.{durable_tasks};
+ghost use Rattle.dk_tasks.specs.Tasks.{Kept, durable_tasks};
 ghost use Rattle.dk_durable.specs.StampedWorlds.{durable_of, HasStamps};
 ghost use Rattle.dk_durable.specs.Listings.{world_of, listed};
 
@@ -67,6 +68,7 @@ impl StampedWorld {
     pub fn open(alloc: Global, durable: Durable) -> Result<StampedWorld, NoMemory>
         ensures world { IfOk result (λ w. durable_of w ≡ world_of durable) }
         ensures stamps { IfOk result (HasStamps (λ _. durable.commits)) }
+        ensures unclaimed { IfOk result (λ w. (key : Key) (t : Kept) → get_of w.tasks key ≡ Some t → t.claimed ≡ false) }
     {
         let mut world = StampedWorld::new(alloc);
         world
@@ -80,6 +82,14 @@ impl StampedWorld {
         world.commits = durable.commits;
         world.last = durable.last;
         Ok(world)
+    }
+
+    /// All bound names in their order, each with its id and stamp. Only the list itself takes memory.
+    pub fn bound_names(&self, alloc: Global) -> Result<Vec<(&Name, &(ObjectId, u64))>, NoMemory>
+        ensures { IfOk result (λ list. list_map (λ e. (e.0.now, e.1.now.0)) list.items ≡ entries_of (ids_of self.now.names)) }
+    {
+        let names = self.names.entries(alloc)?;
+        Ok(names)
     }
 
     /// A copy of the world as a list.

@@ -13,7 +13,7 @@ ghost use Rattle.dk_durable.specs.StampedWorlds.{nothing, durable_of, seen_now, 
 use dk_names::Names;
 use dk_objects::Objects;
 use dk_tasks::Tasks;
-use dk_types::{Pending, RunNo, TaskKey};
+use dk_types::{Object, ObjectId, Pending, RunNo, TaskKey};
 use std::alloc::Global;
 use std::marker::Model;
 
@@ -75,6 +75,13 @@ impl StampedWorld {
         ensures { result ≡ map.len self.now.tasks }
     {
         self.tasks.len()
+    }
+
+    /// The object under an id, and its stamp.
+    pub fn object(&self, id: ObjectId) -> Option<(&Object, u64)>
+        ensures { option_map (λ e. (e.0.now, e.1)) result ≡ map.get self.now.objects id }
+    {
+        self.objects.get(id)
     }
 
     /// The pending task at a key, claimed or not.

@@ -2,3 +2,4 @@ pub mod ChannelJobs
 pub mod Owning
 pub mod Running
 pub mod SessionJobs
+pub mod Lent

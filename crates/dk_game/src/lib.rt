@@ -7,12 +7,14 @@
 
 pub use game::Game;
 pub use halt::Halt;
+pub use over::run_over;
 pub use run::run_job;
 
 mod channel_jobs;
 pub mod game;
 pub mod halt;
 mod jobs;
+pub mod over;
 mod parts;
 pub mod run;
 mod session_jobs;

@@ -44,7 +44,8 @@ later : (a b : Bool) → b ≡ true → (a || b) ≡ true
 later true b h = refl
 later false b h = h
 
-any_found : (test : Claim → Bool) (run : RunNo) (c : Claim) (es : List (RunNo × Claim)) → find run_cmp run es ≡ Some c → test c ≡ true → list_any test (map (λ e. e.1) es) ≡ true
+-- a claim that is there is found
+pub any_found : (test : Claim → Bool) (run : RunNo) (c : Claim) (es : List (RunNo × Claim)) → find run_cmp run es ≡ Some c → test c ≡ true → list_any test (map (λ e. e.1) es) ≡ true
 any_found test run c [] e t = cc
 any_found test run c (x ∷ es) e t =
     elim (eq_by_cmp run_cmp run x.0) as (λ b. cond b (Some x.1) (find run_cmp run es) ≡ Some c → (test x.1 || list_any test (map (λ e. e.1) es)) ≡ true) [

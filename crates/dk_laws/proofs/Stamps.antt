@@ -156,7 +156,8 @@ module _ (rules : Meaning) (lawful : AreLawful rules) where
             }
       ]
 
-  stamp_from-append : (w : World) (before : ℕ) (earlier later : List Event) (item : Item)
+  -- stamps after events, and then after others
+  pub stamp_from-append : (w : World) (before : ℕ) (earlier later : List Event) (item : Item)
       → stamp_from rules w before (earlier ++ later) item ≡ stamp_from rules (after_events rules w earlier) (stamp_from rules w before earlier item) later item
   stamp_from-append w before [] later item = refl
   stamp_from-append w before (e ∷ earlier) later item = stamp_from-append (after_event rules w e) (stamped_by item before (step_by rules w e)) earlier later item

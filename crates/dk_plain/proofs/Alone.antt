@@ -36,21 +36,6 @@ unfolding Agrees
 agrees_now w v kept [] given = tt
 agrees_now w v kept (r ∷ reads) given = (ap (λ (x : Read). x.answer) (kept r.0 (read_now w r.0) refl ∙ sym given.0), agrees_now w v kept reads given.1)
 
--- a transaction as it was begun
-pub begun_so : (t : Logged) (run : RunNo) (at : ℕ) → t ≡ nothing_done run at → IsBegun t
-begun_so t run at start = start ∙ (λ i. nothing_done ((sym start) i).run ((sym start) i).at)
-
--- the law of a run that was begun so
-pub law_so : (rules : Meaning) (j : Job) (run : RunNo) (at : ℕ) (t : Logged) (result : Result Finished NoMemory) → t ≡ nothing_done run at
-    → IfOk result (λ f. KeepsLaw rules j t.run t.at f.reads.items (told f)) → IfOk result (λ f. KeepsLaw rules j run at f.reads.items (told f))
-law_so rules j run at t (Ok f) start law = subst (λ (l : Logged). KeepsLaw rules j l.run l.at f.reads.items (told f)) start law
-law_so rules j run at t (Err e) start law = tt
-
--- the reads were given by the view, also once it is had back
-pub given_back : {S : Type 0} {v u : S} (gave : S → Item → Read → Type 0) (result : Result Finished NoMemory) → v ≡ u
-    → IfOk result (λ f. AllByRecursion (λ r. gave v r.0 r.1) f.reads.items) → IfOk result (λ f. AllByRecursion (λ r. gave u r.0 r.1) f.reads.items)
-given_back gave result same given = subst (λ v. IfOk result (λ f. AllByRecursion (λ r. gave v r.0 r.1) f.reads.items)) same given
-
 -- a run that keeps the law, and read this world alone, tells what its job's step tells
 pub tells_alone : (rules : Meaning) (j : Job) (run : RunNo) (at : ℕ) (w v : Stamped) (result : Result Finished NoMemory)
     → IfOk result (λ f. KeepsLaw rules j run at f.reads.items (told f)) → IfOk result (λ f. AllByRecursion (λ r. r.1 ≡ read_now v r.0) f.reads.items)
@@ -58,15 +43,6 @@ pub tells_alone : (rules : Meaning) (j : Job) (run : RunNo) (at : ℕ) (w v : St
     → IfOk result (λ f. TellsStep rules j run at (durable_of w) (told f))
 tells_alone rules j run at w v (Ok f) law given kept = λ valid new own. law.keeps (durable_of w) valid (agrees_now w v kept f.reads.items given) new own
 tells_alone rules j run at w v (Err e) law given kept = tt
-
--- a job within its limits has the moments of a task within theirs
-pub job_fits : (j : Job) → IsJob j → JobFits j
-job_fits (job.Task key due period kind arg) h = record { due_most = h.1.due; period_most = h.1.period }
-job_fits job.Initialize h = tt
-job_fits (job.Login conn name) h = tt
-job_fits (job.Message conn name body) h = tt
-job_fits (job.Channel conn name channel body) h = tt
-job_fits (job.Disconnect conn name graceful) h = tt
 
 -- what is left once the run is committed
 pub commits_step : (rules : Meaning) → AreLawful rules → (j : Job) (run : RunNo) (at : ℕ) (old mid new : Stamped) (f : Finished) → IsValid (durable_of old) → IsReady j run at (durable_of old) → durable_of mid ≡ durable_of old

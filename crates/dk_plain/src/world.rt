@@ -1,13 +1,10 @@
 //! Jobs, run alone on a world in memory.
 ghost use Rattle.std.specs.Prelude.{◌≡◌, ◌≤◌, IfOk, OnErr};
 ghost use Rattle.std.specs.FinMap as map;
-ghost use Rattle.std.specs.List.{AllByRecursion};
-ghost use Rattle.dk_types.specs.declared.item.Item.{Item};
-ghost use Rattle.dk_types.specs.declared.item.Read.{Read};
 ghost use Rattle.dk_types.specs.declared.limits.TheConstants.{MOMENT_MOST_MS};
 ghost use Rattle.dk_model.specs.DurableWorlds.{empty_world};
 ghost use Rattle.dk_model.specs.Validity.{IsValid};
-ghost use Rattle.dk_model.specs.Finishes.{HasOwnTask, KeepsLaw};
+ghost use Rattle.dk_model.specs.Finishes.{HasOwnTask};
 ghost use Rattle.dk_model.specs.Steps.{step};
 ghost use Rattle.dk_model.proofs.StepValid.{IsReady};
 ghost use Rattle.dk_overlay.specs.Finishes.{told};
@@ -15,29 +12,10 @@ ghost use Rattle.dk_overlay.specs.Knowing.{JobFits};
 ghost use Rattle.dk_plain.specs.Plains.{durable_of, IsStep, TellsStep};
 
 use dk_durable::{Committed, StampedWorld};
-use dk_game::{Game, run_job};
-use dk_txn::{Finished, Txn, View};
+use dk_game::{Game, run_over};
+use dk_txn::Finished;
 use dk_types::{Job, NoMemory, RunNo};
 use std::alloc::Global;
-
-/// Runs the job over a view that is lent.
-fn run_over<G: Game, V: View>(
-    alloc: Global,
-    game: &G,
-    job: &Job,
-    view: &mut V,
-    number: RunNo,
-    at: u64,
-) -> Result<Finished, NoMemory>
-    requires moment { at ≤ MOMENT_MOST_MS }
-    requires fits { JobFits job.now }
-    ensures law { IfOk result (λ f. KeepsLaw (G.rules game.now) job.now number at f.reads.items (told f)) }
-    ensures kept { (i : Item) (r : Read) → V.gave view.old i r → V.gave view.new i r }
-    ensures given { IfOk result (λ f. AllByRecursion (λ r. V.gave view.new r.0 r.1) f.reads.items) }
-{
-    let mut txn = Txn::begin(alloc, view, number, at);
-    run_job(alloc, game, job, &mut txn)
-}
 
 /// A durable world in memory. One job after another runs on it.
 #[derive(Drop)]

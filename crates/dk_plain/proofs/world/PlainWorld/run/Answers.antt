@@ -2,7 +2,8 @@ use Rattle.std.proofs.Common.{◌≡◌, ◌+◌, ap, ◌∙◌}
 use Rattle.dk_model.specs.DurableWorlds.{DurableWorld}
 use Rattle.dk_model.specs.Finishes.{Told}
 use Rattle.dk_durable.specs.StampedWorlds.{durable_of}
-use Rattle.dk_plain.proofs.Alone.{job_fits, commits_step}
+use Rattle.dk_game.proofs.Lent.{job_fits}
+use Rattle.dk_plain.proofs.Alone.{commits_step}
 use Rattle.dk_plain.proofs.world.PlainWorld.run.Goals as goal
 
 pub worked-requires-clause-fits : goal.worked-requires-clause-fits

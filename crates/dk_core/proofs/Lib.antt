@@ -1,0 +1,12 @@
+pub mod Having
+pub mod Tracked
+pub mod Marked
+pub mod Standing
+pub mod Runnable
+pub mod Numbered
+pub mod Entering
+pub mod Counted
+pub mod Choosing
+pub mod Granted
+pub mod Committed
+pub mod Opened

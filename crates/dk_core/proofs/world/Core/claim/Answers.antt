@@ -1,0 +1,33 @@
+use Rattle.std.proofs.Common.{refl, sym, ap, subst, ◌∙◌, arith}
+use Rattle.std.specs.FinMap.{get}
+use Rattle.dk_core.specs.Claiming.{with_grant}
+use Rattle.dk_core.specs.Marking.{IsMarked}
+use Rattle.dk_core.proofs.Granted.{with_claims, claims_none, claims_spent, claims_exhausted, claims_granted, granted_there}
+use Rattle.dk_core.proofs.world.Core.claim.Goals as goal
+
+pub returns-in_default : goal.returns-in_default
+returns-in_default c = claims_none c.args.self.now c.args.pass c.in_default.ensures.pick
+
+pub returns-then-not-has_left : goal.returns-then-not-has_left
+returns-then-not-has_left c = claims_spent c.args.self.now c.args.pass c.in-Some.choice c.in-Some.ensures.pick c.in-Some.ensures.there c.granted.result (sym c.if-not-has_left.ensures) c.granted.ensures
+
+pub returns-then-next-ge-NUMBERS_END : goal.returns-then-next-ge-NUMBERS_END
+returns-then-next-ge-NUMBERS_END c =
+    let next = c.next-next.ensures in
+    let end = c.if-next-ge-NUMBERS_END.true in
+    claims_exhausted c.args.self.now c.args.pass c.in-Some.choice c.in-Some.ensures.pick c.in-Some.ensures.there c.next-next.result (sym c.if-not-has_left.ensures) (omega (arith, next, end)) next
+
+pub returns : goal.returns
+returns c =
+    let next = c.next-next.ensures in
+    let end = c.if-next-ge-NUMBERS_END.false in
+    let now = c.args.self.now in
+    let held = c.new-held.ensures ∙ (λ i. record { pass = c.args.pass; job = c.in_ok-copy_job.ensures i; at = now.moment }) in
+    let granted = c.in_ok-run.ensures.granted ∙ ap (λ h. with_grant h now.claims) held in
+    let marked = subst (λ n. IsMarked c.in-Some.choice n (with_claims now c.grant.new.self) c.mark.new.self) next c.mark.ensures in
+    rw c.in_ok-run.ensures.run (
+      claims_granted now c.mark.new.self c.args.pass c.in-Some.choice c.in_ok-job.job c.grant.new.self c.in-Some.ensures.pick c.in-Some.ensures.there c.in-Some.ensures.first c.in_ok-job.ensures (sym c.if-not-has_left.ensures)
+          (omega (arith, next, end)) granted marked,
+      ap (λ s. get s.claims (record { 0 = now.claims.next })) marked.same.claims ∙ granted_there now c.grant.new.self _ granted,
+      refl,
+    )

@@ -1,0 +1,85 @@
+-- What each call answers, and the event that it is.
+use Rattle.std.specs.Prelude.{◌≡◌, ℕ, ◌+◌, ◌++◌, ◌∷◌, [], Option, None, Some, List, Result, Ok, Err}
+use Rattle.std.specs.List.{AllByRecursion}
+use Rattle.dk_types.specs.declared.number.ConnNo.{ConnNo}
+use Rattle.dk_types.specs.declared.job.Input.{Input}
+use Rattle.dk_types.specs.declared.event.Event.{Event}
+use Rattle.dk_types.specs.declared.event.Event.TheVariants as event
+use Rattle.dk_types.specs.declared.event.ConnectReply.TheVariants as connected
+use Rattle.dk_types.specs.declared.event.PostReply.TheVariants as posted
+use Rattle.dk_types.specs.declared.event.ClaimReply.TheVariants as reply
+use Rattle.dk_types.specs.declared.fault.NoMemory.{NoMemory}
+use Rattle.dk_model.specs.DurableWorlds.{DurableWorld}
+use Rattle.dk_model.specs.Events.{Meaning}
+use Rattle.dk_model.specs.Openings.{opening}
+use Rattle.dk_model.specs.Lawful.{AreLawful}
+use Rattle.dk_model.specs.Finishes.{IsHonest}
+use Rattle.dk_overlay.specs.declared.finished.Finished.{Finished}
+use Rattle.dk_overlay.specs.Finishes.{told}
+use Rattle.dk_connections.specs.declared.answers.PostRefused.{PostRefused}
+use Rattle.dk_connections.specs.declared.answers.PostRefused.TheVariants as post_refused
+use Rattle.dk_connections.specs.declared.answers.Handed.{Handed}
+use Rattle.dk_durable.specs.Changes.{Stands, IsFirstChanged}
+use Rattle.dk_durable.specs.Rooms.{HasRoom}
+use Rattle.dk_core.specs.declared.world.Core.{Core}
+use Rattle.dk_core.specs.declared.claimed.Claimed.{Claimed}
+use Rattle.dk_core.specs.declared.answers.ConnectRefused.{ConnectRefused}
+use Rattle.dk_core.specs.declared.answers.ConnectRefused.TheVariants as connect_refused
+use Rattle.dk_core.specs.declared.answers.ClaimRefused.{ClaimRefused}
+use Rattle.dk_core.specs.declared.answers.ClaimRefused.TheVariants as claim_refused
+use Rattle.dk_core.specs.declared.answers.PrepareRefused.{PrepareRefused}
+use Rattle.dk_core.specs.declared.answers.PrepareRefused.TheVariants as prepare_refused
+use Rattle.dk_core.specs.declared.prepared.Prepared.{Prepared}
+use Rattle.dk_core.specs.Cores.{StandsFor, Enters, Stays, IsGranted}
+
+-- a Connect of this name, whatever pass it is of; after want of memory the core is as it was
+abbrev pub Connected : Core → Core → List ℕ → Result ConnNo ConnectRefused → Type 0
+Connected old new name (Ok conn) = (pass : ℕ) → Enters old new (event.Connect pass name (connected.Number conn))
+Connected old new name (Err (connect_refused.Exhausted next)) = (pass : ℕ) → Enters old new (event.Connect pass name (connected.Exhausted next))
+Connected old new name (Err connect_refused.NoMemory) = new ≡ old
+
+-- a Post of this input
+abbrev pub Posted : Core → Core → ConnNo → Input → Result (Unit {0}) PostRefused → Type 0
+Posted old new conn input (Ok taken) = (pass : ℕ) → Enters old new (event.Post pass conn input posted.Taken)
+Posted old new conn input (Err post_refused.Closed) = (pass : ℕ) → Enters old new (event.Post pass conn input posted.Closed)
+Posted old new conn input (Err (post_refused.QueueFull waiting)) = (pass : ℕ) → Enters old new (event.Post pass conn input (posted.QueueFull waiting))
+Posted old new conn input (Err post_refused.NoMemory) = new ≡ old
+
+-- a Claim by this pass; what is granted is claimed
+abbrev pub Claims : Core → Core → ℕ → Result (Option Claimed) ClaimRefused → Type 0
+Claims old new pass (Ok (Some c)) = Enters old new (event.Claim pass (reply.Granted c.run c.at c.job)) × IsGranted new c × (c.pass ≡ pass)
+Claims old new pass (Ok None) = Enters old new (event.Claim pass reply.Nothing)
+Claims old new pass (Err (claim_refused.Spent granted)) = Enters old new (event.Claim pass (reply.Spent granted))
+Claims old new pass (Err (claim_refused.Exhausted next)) = Enters old new (event.Claim pass (reply.Exhausted next))
+Claims old new pass (Err claim_refused.NoMemory) = new ≡ old
+
+-- a Hand of at most this many messages
+abbrev pub Hands : Core → Core → ConnNo → ℕ → Result Handed NoMemory → Type 0
+Hands old new conn most (Ok handed) = (pass : ℕ) → Enters old new (event.Hand pass conn most handed.outs handed.end)
+Hands old new conn most (Err refused) = new ≡ old
+
+-- the reads of the run stand, and all that its commit needs is made
+pub record IsPrepared (c : Core) (claimed : Claimed) (f : Finished) (p : Prepared) : Type 0 where
+  pub stand : AllByRecursion (Stands c.world) f.reads.items
+  pub room : HasRoom c.world.room f.effects
+  pub messages : p.deliveries ≡ f.outs.items
+  pub entry : p.entry ≡ record { seq = c.world.commits + 1; run = claimed.run; effects = f.effects }
+
+-- what is prepared; refused where a read no longer stands, with the first such, and the core is as it was but for its room
+abbrev pub Prepares : Core → Core → Claimed → Finished → Result Prepared PrepareRefused → Type 0
+Prepares old new claimed f (Ok p) = IsPrepared new claimed f p
+Prepares old new claimed f (Err (prepare_refused.Retry changed)) = IsFirstChanged old.world f.reads.items changed
+Prepares old new claimed f (Err prepare_refused.NoMemory) = Unit {0}
+
+-- an honest run is committed: the event is its Commit
+abbrev pub Commits : Core → Core → Claimed → Finished → ℕ → Type 0
+Commits old new claimed f seq =
+    (rules : Meaning) (d : DurableWorld) (budget : Option ℕ) (events : List Event) → AreLawful rules → StandsFor rules d budget events old
+    → IsHonest rules (opening d budget) events claimed.job claimed.run claimed.at f.reads.items (told f)
+    → StandsFor rules d budget (events ++ event.Commit claimed.pass claimed.run seq f.outcome ∷ []) new
+
+-- both in one: where it is refused the claim is handed back, and stands
+abbrev pub CommitsOrTells : Core → Core → Claimed → Finished → Result ℕ (Claimed × PrepareRefused) → Type 0
+CommitsOrTells old new claimed f (Ok seq) = (seq ≡ old.world.commits + 1) × AllByRecursion (Stands old.world) f.reads.items × Commits old new claimed f seq
+CommitsOrTells old new claimed f (Err (back, prepare_refused.Retry changed)) = (back ≡ claimed) × IsGranted new claimed × IsFirstChanged old.world f.reads.items changed × Stays old new
+CommitsOrTells old new claimed f (Err (back, prepare_refused.NoMemory)) = (back ≡ claimed) × IsGranted new claimed × Stays old new

@@ -1,0 +1,77 @@
+-- The world that a core is, and the histories that it stands for.
+use Rattle.std.specs.Prelude.{◌≡◌, ℕ, ◌<◌, true, Option, Some, List, [], ◌∷◌, ◌++◌}
+use Rattle.std.specs.List.{AllByRecursion}
+use Rattle.std.specs.FinMap.{FinMap, get}
+use Rattle.dk_types.specs.declared.number.RunNo.{RunNo}
+use Rattle.dk_types.specs.declared.number.ConnNo.{ConnNo}
+use Rattle.dk_types.specs.declared.number.TaskKey.{TaskKey}
+use Rattle.dk_types.specs.declared.job.Job.TheVariants as job
+use Rattle.dk_types.specs.declared.event.Event.{Event}
+use Rattle.dk_model.specs.Keys.{key_cmp, conn_cmp}
+use Rattle.dk_model.specs.DurableWorlds.{DurableWorld}
+use Rattle.dk_model.specs.Validity.{IsValid}
+use Rattle.dk_model.specs.Worlds.{World, Claim}
+use Rattle.dk_model.specs.Picks.{is_of, is_task_of, is_claimed}
+use Rattle.dk_model.specs.Events.{Meaning}
+use Rattle.dk_model.specs.Histories.{Leads}
+use Rattle.dk_model.specs.Openings.{opening}
+use Rattle.dk_model.specs.Sights.{stamp}
+use Rattle.dk_model.specs.Lawful.{AreLawful, IsWithinLimits}
+use Rattle.dk_tasks.specs.Tasks.{Kept}
+use Rattle.dk_connections.specs.Linked.{Linked, all_of, IsSwept}
+use Rattle.dk_durable.specs.StampedWorlds.{durable_of, HasStamps}
+use Rattle.dk_core.specs.declared.world.Core.{Core}
+use Rattle.dk_core.specs.declared.claimed.Claimed.{Claimed}
+
+-- the world that the core is
+abbrev pub world_of : Core → World
+world_of c = record {
+  durable = durable_of c.world;
+  moment = c.moment;
+  next = c.claims.next;
+  budget = c.claims.budget;
+  after_task = c.after_task;
+  claims = c.claims.claims;
+  connections = all_of c.connections.connections;
+}
+
+-- the marks on connections and tasks tell which of them claimed runs have, and each input has one run at most; no connection is over with nothing
+-- left to hand
+pub record IsTracked (w : World) (all : FinMap conn_cmp Linked) (kept : FinMap key_cmp Kept) : Type 0 where
+  pub swept : IsSwept all
+  pub inputs : (conn : ConnNo) (l : Linked) → get all conn ≡ Some l → is_claimed (is_of conn) w ≡ l.claimed
+  pub tasks : (key : TaskKey) (t : Kept) → get kept key ≡ Some t → is_claimed (is_task_of key) w ≡ t.claimed
+  -- before the first commit the first run alone is claimed
+  pub first : w.durable.commits ≡ 0 → (run : RunNo) (claim : Claim) → get w.claims run ≡ Some claim → claim.job ≡ job.Initialize
+  pub alone : (conn : ConnNo) (run other : RunNo) (a b : Claim) → get w.claims run ≡ Some a → get w.claims other ≡ Some b → is_of conn a.job ≡ true → is_of conn b.job ≡ true → run ≡ other
+  -- the connection of a claimed input was made
+  pub below : (run : RunNo) (claim : Claim) (conn : ConnNo) → get w.claims run ≡ Some claim → is_of conn claim.job ≡ true → conn.0 < w.next
+
+-- from the opening of d with this budget on, the events lead to the core's world, and its stamps are those of the history
+pub record StandsFor (rules : Meaning) (d : DurableWorld) (budget : Option ℕ) (events : List Event) (c : Core) : Type 0 where
+  pub valid : IsValid d
+  pub within : AllByRecursion IsWithinLimits events
+  pub leads : Leads rules (opening d budget) events (world_of c)
+  pub stamps : HasStamps (stamp rules (opening d budget) events) c.world
+  pub tracked : IsTracked (world_of c) c.connections.connections c.world.tasks
+
+-- a core that stood for a history stands for it with this event at its end
+abbrev pub Enters : Core → Core → Event → Type 0
+Enters old new e = (rules : Meaning) (d : DurableWorld) (budget : Option ℕ) (events : List Event) → AreLawful rules → StandsFor rules d budget events old → StandsFor rules d budget (events ++ e ∷ []) new
+
+-- a core that stood for a history stands for it still
+abbrev pub Stays : Core → Core → Type 0
+Stays old new = (rules : Meaning) (d : DurableWorld) (budget : Option ℕ) (events : List Event) → StandsFor rules d budget events old → StandsFor rules d budget events new
+
+-- the core stands for some history of lawful rules
+pub record IsStanding (c : Core) : Type 0 where
+  pub rules : Meaning
+  pub opened : DurableWorld
+  pub budget : Option ℕ
+  pub events : List Event
+  pub lawful : AreLawful rules
+  pub stands : StandsFor rules opened budget events c
+
+-- the core granted this claim, and its run has not ended
+abbrev pub IsGranted : Core → Claimed → Type 0
+IsGranted c claimed = get c.claims.claims claimed.run ≡ Some (record { pass = claimed.pass; job = claimed.job; at = claimed.at })

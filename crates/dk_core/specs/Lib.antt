@@ -1,0 +1,5 @@
+pub mod Claiming
+pub mod Cores
+pub mod Marking
+pub mod Picking
+pub mod Answers

@@ -1,0 +1,40 @@
+//! A claimed run.
+ghost use Rattle.std.specs.Prelude.{◌≡◌};
+
+use dk_types::{Job, RunNo};
+
+/// A run that was claimed: its number, its job and its moment, in ms. One that is dropped leaves its job claimed.
+#[derive(Debug, Drop)]
+pub struct Claimed {
+    pub(crate) run: RunNo,
+    pub(crate) pass: u32,
+    pub(crate) at: u64,
+    pub(crate) job: Job,
+}
+
+impl Claimed {
+    pub fn run(&self) -> RunNo
+        ensures { result ≡ self.now.run }
+    {
+        self.run
+    }
+
+    /// The pass that it was granted to.
+    pub fn pass(&self) -> u32
+        ensures { result ≡ self.now.pass }
+    {
+        self.pass
+    }
+
+    pub fn at(&self) -> u64
+        ensures { result ≡ self.now.at }
+    {
+        self.at
+    }
+
+    pub fn job(&self) -> &Job
+        ensures { result.now ≡ self.now.job }
+    {
+        &self.job
+    }
+}

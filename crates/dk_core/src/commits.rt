@@ -1,0 +1,82 @@
+// Commits.
+ghost use Rattle.std.specs.Prelude.{◌≡◌, ◌+◌, IfOk};
+ghost use Rattle.dk_durable.specs.StampedWorlds.{with_room};
+ghost use Rattle.dk_core.specs.Answers.{Commits, CommitsOrTells, IsPrepared, Prepares};
+ghost use Rattle.dk_core.specs.Cores.{IsGranted, IsStanding, Stays};
+
+use crate::answers::PrepareRefused;
+use crate::claimed::Claimed;
+use crate::prepared::Prepared;
+use crate::world::Core;
+use dk_connections::Deliveries;
+use dk_txn::Finished;
+use dk_types::{Effects, Entry, NoMemory};
+
+fn copy_effects(effects: &Effects) -> Result<Effects, NoMemory>
+    ensures { IfOk result (λ copy. copy ≡ effects.now) }
+{
+    Ok(effects.clone()?)
+}
+
+impl Core {
+    /// Looks whether all reads of a finished run stand, and makes what its commit needs. Nothing is entered.
+    pub fn prepare(
+        &mut self,
+        claimed: &Claimed,
+        finished: &Finished,
+    ) -> Result<Prepared, PrepareRefused>
+        requires granted { IsGranted self.old claimed.now }
+        requires standing { IsStanding self.old }
+        ensures same { self.new ≡ record (self.old) { world = with_room self.new.world.room self.old.world } }
+        ensures prepares { Prepares self.old self.new claimed.now finished.now result }
+        ensures granted { IsGranted self.new claimed.now }
+        ensures stays { Stays self.old self.new }
+    {
+        if let Some(changed) = self.world.first_changed(finished.reads())? {
+            return Err(PrepareRefused::Retry(changed));
+        }
+        let entry = Entry {
+            seq: self.world.commits() + 1,
+            run: claimed.run,
+            effects: copy_effects(finished.effects())?,
+        };
+        let deliveries = Deliveries::new(self.alloc, finished.outs())?;
+        self.world.reserve_for(finished)?;
+        Ok(Prepared { entry, deliveries })
+    }
+
+    /// Enters the commit of a finished run for which all was prepared and since whose `prepare` nothing was entered, and
+    /// tells its number. It takes no memory.
+    pub fn publish(&mut self, claimed: Claimed, finished: Finished, prepared: Prepared) -> u64
+        requires granted { IsGranted self.old claimed }
+        requires standing { IsStanding self.old }
+        requires prepared { IsPrepared self.old claimed finished prepared }
+        ensures number { result ≡ self.old.world.commits + 1 }
+        ensures commits { Commits self.old self.new claimed finished result }
+    {
+        let Claimed { run, job, .. } = claimed;
+        let Prepared { deliveries, .. } = prepared;
+        let committed = self.world.commit(finished, run);
+        self.claims.end(run);
+        self.free_task(&job);
+        self.connections.deliver(&job, deliveries);
+        committed.seq
+    }
+
+    /// Commits a finished run where all its reads stand, and tells the number of the commit. Refused, the claim is handed
+    /// back and nothing is entered.
+    pub fn commit(
+        &mut self,
+        claimed: Claimed,
+        finished: Finished,
+    ) -> Result<u64, (Claimed, PrepareRefused)>
+        requires granted { IsGranted self.old claimed }
+        requires standing { IsStanding self.old }
+        ensures { CommitsOrTells self.old self.new claimed finished result }
+    {
+        match self.prepare(&claimed, &finished) {
+            Ok(prepared) => Ok(self.publish(claimed, finished, prepared)),
+            Err(refused) => Err((claimed, refused)),
+        }
+    }
+}

@@ -1,0 +1,53 @@
+// Connect, Post, Hand and Tick.
+ghost use Rattle.std.specs.Prelude.{◌≡◌, ℕ};
+ghost use Rattle.dk_types.specs.declared.event.Event.TheVariants as event;
+ghost use Rattle.dk_model.specs.Lawful.{IsInput};
+ghost use Rattle.dk_core.specs.Answers.{Connected, Posted, Hands};
+ghost use Rattle.dk_core.specs.Cores.{Enters, IsStanding};
+
+use crate::answers::ConnectRefused;
+use crate::world::Core;
+use dk_connections::{Handed, PostRefused};
+use dk_types::limits::{MOMENT_MOST_MS, NUMBERS_END};
+use dk_types::{ConnNo, Input, Name, NoMemory};
+
+impl Core {
+    /// Makes a connection, whose login waits.
+    pub fn connect(&mut self, name: &Name) -> Result<ConnNo, ConnectRefused>
+        requires standing { IsStanding self.old }
+        ensures { Connected self.old self.new name.now result }
+    {
+        // What holds of every name is seen where its bytes are.
+        let _bytes = name.as_slice();
+        let next = self.claims.next();
+        if NUMBERS_END <= next {
+            return Err(ConnectRefused::Exhausted { next });
+        }
+        let conn = ConnNo(next);
+        self.connections.connect(conn, name)?;
+        self.claims.draw();
+        Ok(conn)
+    }
+
+    /// Puts an input last in its connection's queue. A Disconnect takes no memory.
+    pub fn post(&mut self, conn: ConnNo, input: Input) -> Result<(), PostRefused>
+        requires within { IsInput input }
+        ensures { Posted self.old self.new conn input result }
+    {
+        self.connections.post(conn, input)
+    }
+
+    /// Hands a connection's first messages, `most` of them or all; `end` says whether it is gone.
+    pub fn hand(&mut self, conn: ConnNo, most: u32) -> Result<Handed, NoMemory>
+        ensures { Hands self.old self.new conn most result }
+    {
+        self.connections.hand(conn, most)
+    }
+
+    /// Time goes on to a moment, in ms, and never back. It takes no memory.
+    pub fn tick(&mut self, moment: u64)
+        ensures { (pass : ℕ) → Enters self.old self.new (event.Tick pass moment) }
+    {
+        self.moment = self.moment.max(moment.min(MOMENT_MOST_MS));
+    }
+}

@@ -1,0 +1,41 @@
+-- A run over a view that is lent: what is known of its transaction is known of the view once it is had back.
+use Rattle.std.proofs.Common.{◌≡◌, ℕ, Result, Ok, Err, IfOk, sym, subst, ◌∙◌}
+use Rattle.std.specs.List.{AllByRecursion}
+use Rattle.dk_types.specs.declared.number.RunNo.{RunNo}
+use Rattle.dk_types.specs.declared.item.Item.{Item}
+use Rattle.dk_types.specs.declared.item.Read.{Read}
+use Rattle.dk_types.specs.declared.job.Job.{Job}
+use Rattle.dk_types.specs.declared.job.Job.TheVariants as job
+use Rattle.dk_types.specs.declared.fault.NoMemory.{NoMemory}
+use Rattle.dk_model.specs.Events.{Meaning}
+use Rattle.dk_model.specs.Finishes.{KeepsLaw}
+use Rattle.dk_model.specs.Lawful.{IsJob}
+use Rattle.dk_overlay.specs.declared.finished.Finished.{Finished}
+use Rattle.dk_overlay.specs.Logged.{Logged, nothing_done}
+use Rattle.dk_overlay.specs.Finishes.{told}
+use Rattle.dk_overlay.specs.Knowing.{JobFits}
+use Rattle.dk_txn.specs.Law.{IsBegun}
+
+-- a transaction as it was begun
+pub begun_so : (t : Logged) (run : RunNo) (at : ℕ) → t ≡ nothing_done run at → IsBegun t
+begun_so t run at start = start ∙ (λ i. nothing_done ((sym start) i).run ((sym start) i).at)
+
+-- the law of a run that was begun so
+pub law_so : (rules : Meaning) (j : Job) (run : RunNo) (at : ℕ) (t : Logged) (result : Result Finished NoMemory) → t ≡ nothing_done run at
+    → IfOk result (λ f. KeepsLaw rules j t.run t.at f.reads.items (told f)) → IfOk result (λ f. KeepsLaw rules j run at f.reads.items (told f))
+law_so rules j run at t (Ok f) start law = subst (λ (l : Logged). KeepsLaw rules j l.run l.at f.reads.items (told f)) start law
+law_so rules j run at t (Err e) start law = tt
+
+-- the reads were given by the view, also once it is had back
+pub given_back : {S : Type 0} {v u : S} (gave : S → Item → Read → Type 0) (result : Result Finished NoMemory) → v ≡ u
+    → IfOk result (λ f. AllByRecursion (λ r. gave v r.0 r.1) f.reads.items) → IfOk result (λ f. AllByRecursion (λ r. gave u r.0 r.1) f.reads.items)
+given_back gave result same given = subst (λ v. IfOk result (λ f. AllByRecursion (λ r. gave v r.0 r.1) f.reads.items)) same given
+
+-- a job within its limits has the moments of a task within theirs
+pub job_fits : (j : Job) → IsJob j → JobFits j
+job_fits (job.Task key due period kind arg) h = record { due_most = h.1.due; period_most = h.1.period }
+job_fits job.Initialize h = tt
+job_fits (job.Login conn name) h = tt
+job_fits (job.Message conn name body) h = tt
+job_fits (job.Channel conn name channel body) h = tt
+job_fits (job.Disconnect conn name graceful) h = tt

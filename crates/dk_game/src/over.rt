@@ -1,0 +1,35 @@
+//! The running of a job over a view that is lent.
+ghost use Rattle.std.specs.Prelude.{◌≡◌, ◌≤◌, IfOk};
+ghost use Rattle.std.specs.List.{AllByRecursion};
+ghost use Rattle.dk_types.specs.declared.item.Item.{Item};
+ghost use Rattle.dk_types.specs.declared.item.Read.{Read};
+ghost use Rattle.dk_types.specs.declared.limits.TheConstants.{MOMENT_MOST_MS};
+ghost use Rattle.dk_model.specs.Finishes.{KeepsLaw};
+ghost use Rattle.dk_overlay.specs.Finishes.{told};
+ghost use Rattle.dk_overlay.specs.Knowing.{JobFits};
+
+use crate::game::Game;
+use crate::run::run_job;
+use dk_txn::{Finished, Txn, View};
+use dk_types::{Job, NoMemory, RunNo};
+use std::alloc::Global;
+
+/// Runs a job as this run at this moment, in ms, over a view that is lent: what it read was given by the view as it is had back.
+/// The moments of a task are within their limits.
+pub fn run_over<G: Game, V: View>(
+    alloc: Global,
+    game: &G,
+    job: &Job,
+    view: &mut V,
+    number: RunNo,
+    at: u64,
+) -> Result<Finished, NoMemory>
+    requires moment { at ≤ MOMENT_MOST_MS }
+    requires fits { JobFits job.now }
+    ensures law { IfOk result (λ f. KeepsLaw (G.rules game.now) job.now number at f.reads.items (told f)) }
+    ensures kept { (i : Item) (r : Read) → V.gave view.old i r → V.gave view.new i r }
+    ensures given { IfOk result (λ f. AllByRecursion (λ r. V.gave view.new r.0 r.1) f.reads.items) }
+{
+    let mut txn = Txn::begin(alloc, view, number, at);
+    run_job(alloc, game, job, &mut txn)
+}
