@@ -1,10 +1,8 @@
 -- What a run tells at its end.
-use Rattle.std.proofs.Common.{◌≡◌, ℕ, Bool, true, false, nat_lt, if◌then◌else◌, Option, Some, None, is_some, List, Result, Ok, Err, IfOk, refl, sym, ap, subst, ◌∙◌}
+use Rattle.std.proofs.Common.{◌≡◌, ℕ, Bool, true, false, nat_lt, if◌then◌else◌, Some, is_some, List, Result, Ok, Err, IfOk, refl, sym, ap, subst, ◌∙◌}
 use Rattle.std.specs.FinMap as map
 use Rattle.dk_types.specs.declared.number.TaskKey.{TaskKey}
 use Rattle.dk_types.specs.declared.item.Item.TheVariants as ask
-use Rattle.dk_types.specs.declared.item.Answer.{Answer}
-use Rattle.dk_types.specs.declared.item.Read.{Read}
 use Rattle.dk_types.specs.declared.job.Job.{Job}
 use Rattle.dk_types.specs.declared.job.Job.TheVariants as job
 use Rattle.dk_types.specs.declared.fault.AppFault.{AppFault}
@@ -22,9 +20,9 @@ use Rattle.dk_overlay.specs.Asked.{IsAsked}
 use Rattle.dk_overlay.specs.Changes.{task_now}
 use Rattle.dk_overlay.specs.Layers.{layered}
 use Rattle.dk_overlay.specs.Logged.{Logged, current, nothing_done, passing_own}
-use Rattle.dk_overlay.specs.Knowing.{KnowsBefore, MovesStand, Fits}
+use Rattle.dk_overlay.specs.Knowing.{MovesStand, Fits}
 use Rattle.dk_model.specs.Finishes.{told_step}
-use Rattle.dk_overlay.specs.Finishes.{told, net_changes, MayBeIn, IsLogOf, IsKeptIn, IsKept, TellsFailed, TellsEnd}
+use Rattle.dk_overlay.specs.Finishes.{net_changes, MayBeIn, IsLogOf, IsKeptIn, IsKept, TellsFailed, TellsEnd}
 use Rattle.dk_overlay.proofs.Keys.{keys_total, keys_same}
 use Rattle.dk_overlay.proofs.Layers.{layered-empty, at_empty}
 use Rattle.dk_overlay.proofs.Sound.{nothing_known}

@@ -1,5 +1,4 @@
 -- The orders of ids, keys and names are total, and only equal ones tie.
-use Rattle.std.proofs.Common.{ℕ, List}
 use Rattle.std.specs.Cmp.{IsTotalOrder, on_total, then_total, nat_cmp_total}
 use Rattle.std.specs.Cmp.Lexicographic.{nat_list_cmp_total}
 use Rattle.std.specs.FinMap.{IsAntisymmetric, nat_cmp-IsAntisymmetric, slice_cmp-IsAntisymmetric}

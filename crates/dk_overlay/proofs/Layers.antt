@@ -1,10 +1,10 @@
 -- What a map has under changes.
-use Rattle.std.proofs.Common.{◌≡◌, Bool, true, false, cond, Option, Some, None, List, [], ◌∷◌, refl, sym, ap, subst, ◌∙◌}
+use Rattle.std.proofs.Common.{◌≡◌, cond, Option, Some, None, List, [], ◌∷◌, refl, sym, ap, subst, ◌∙◌}
 use Rattle.std.specs.declared.cmp.Ordering.{Ordering}
 use Rattle.std.specs.declared.cmp.Ordering.TheVariants.{Less, Equal, Greater}
 use Rattle.std.specs.Ordering.{is_eq, eq_by_cmp}
 use Rattle.std.specs.Cmp.{IsTotalOrder}
-use Rattle.std.specs.FinMap.{FinMap, IsAntisymmetric, find, get, insert, remove, empty, entries, get-entries, get-insert, get-remove, get-empty, same_map}
+use Rattle.std.specs.FinMap.{FinMap, IsAntisymmetric, find, get, insert, empty, entries, get-entries, get-insert, get-remove, get-empty, same_map}
 use Rattle.dk_model.specs.DurableWorlds.{with_value}
 use Rattle.dk_overlay.specs.Layers.{layered, layered_list, newest}
 use Rattle.dk_overlay.proofs.Tests.{Some_injective, none_some}

@@ -1,12 +1,12 @@
 -- The net effects that the changes come to, in each world that they know.
-use Rattle.std.proofs.Common.{◌≡◌, ◌==◌, ℕ, Bool, true, false, cond, not, nat_eq, map, is_some, T, Option, Some, None, List, [], ◌∷◌, refl, sym, ap, subst, ◌∙◌, ◌&&◌, arith}
+use Rattle.std.proofs.Common.{◌≡◌, ℕ, Bool, true, false, cond, not, nat_eq, map, is_some, Option, Some, None, refl, sym, ap, ◌∙◌, arith}
 use Rattle.std.proofs.lemmas.Bool.Decides.{nat_tests}
 use Rattle.std.specs.declared.cmp.Ordering.{Ordering}
 use Rattle.std.specs.Cmp.{IsTotalOrder}
 use Rattle.std.specs.Cmp.Lexicographic.{nat_list_eq_equiv}
 use Rattle.std.specs.Map.{keys_of}
 use Rattle.std.specs.Option.{option_map}
-use Rattle.std.specs.FinMap.{FinMap, IsAntisymmetric, find, get, entries, entries_sorted, retain_keys}
+use Rattle.std.specs.FinMap.{FinMap, IsAntisymmetric, get, entries, entries_sorted, retain_keys}
 use Rattle.std.specs.FinMap.Entries.{same_entries}
 use Rattle.dk_types.specs.declared.number.ObjectId.{ObjectId}
 use Rattle.dk_types.specs.declared.number.TaskKey.{TaskKey}
@@ -18,7 +18,7 @@ use Rattle.dk_model.specs.Effects.{set_in, gone_in, new_in, moved_in, is_moved, 
 use Rattle.dk_overlay.specs.declared.change.Change.{Change}
 use Rattle.dk_overlay.specs.declared.change.TaskChange.{TaskChange}
 use Rattle.dk_overlay.specs.declared.change.TaskChange.TheVariants.{Added, Withdrawn, Dropped, Moved}
-use Rattle.dk_overlay.specs.Changes.{value_now, task_now, task_made, moved_to, stood}
+use Rattle.dk_overlay.specs.Changes.{value_now, task_now, stood}
 use Rattle.dk_overlay.specs.Layers.{layered, newest}
 use Rattle.dk_overlay.specs.Logged.{Logged, current}
 use Rattle.dk_overlay.specs.Picks.{picked, newly_set, taken_away, task_added, task_dropped, task_moved}

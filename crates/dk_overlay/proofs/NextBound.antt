@@ -1,5 +1,5 @@
 -- The least name that a run has bound.
-use Rattle.std.proofs.Common.{◌≡◌, ℕ, Bool, true, false, ◌&&◌, Option, Some, None, is_some, IsSome, List, refl, sym, ap, ◌∙◌}
+use Rattle.std.proofs.Common.{◌≡◌, ℕ, true, Option, Some, None, is_some, List, refl, sym, ap, ◌∙◌}
 use Rattle.std.specs.declared.cmp.Ordering.{Ordering}
 use Rattle.std.specs.declared.cmp.Ordering.TheVariants.{Less, Equal, Greater}
 use Rattle.std.specs.Ordering.{is_gt, is_lt, ordering_reverse}
@@ -7,7 +7,7 @@ use Rattle.std.specs.Option.{option_map}
 use Rattle.std.specs.FinMap as map
 use Rattle.dk_types.specs.declared.number.ObjectId.{ObjectId}
 use Rattle.dk_types.specs.Names.{bytes_cmp}
-use Rattle.dk_map.specs.Entries.{find, IsOrdered}
+use Rattle.dk_map.specs.Entries.{IsOrdered}
 use Rattle.dk_map.specs.AsMap.{map_of, IsAfter, IsNext}
 use Rattle.dk_map.proofs.Maps.{get-map_of}
 use Rattle.dk_model.specs.DurableWorlds.{is_above}

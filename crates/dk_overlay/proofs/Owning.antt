@@ -1,29 +1,24 @@
 -- What a run does to its own task.
-use Rattle.std.proofs.Common.{◌≡◌, ◌==◌, ℕ, ◌+◌, ◌⊎◌, inl, inr, Bool, true, false, cond, if◌then◌else◌, Option, Some, None, is_some, List, [], ◌∷◌, ◌++◌, Result, Ok, refl, sym, ap, subst, ◌∙◌}
+use Rattle.std.proofs.Common.{◌≡◌, ◌==◌, ℕ, ◌+◌, inl, inr, Bool, true, false, if◌then◌else◌, Option, Some, None, is_some, Result, Ok, refl, sym, ap, subst, ◌∙◌}
 use Rattle.std.specs.FinMap as map
 use Rattle.dk_types.specs.declared.number.RunNo.{RunNo}
 use Rattle.dk_types.specs.declared.number.TaskKey.{TaskKey}
-use Rattle.dk_types.specs.declared.item.Item.{Item}
-use Rattle.dk_types.specs.declared.item.Item.TheVariants as ask
 use Rattle.dk_types.specs.declared.job.Job.{Job}
 use Rattle.dk_types.specs.declared.fault.AppFault.{AppFault}
 use Rattle.dk_types.specs.declared.job.Job.TheVariants as job
-use Rattle.dk_types.specs.Names.{bytes_cmp}
-use Rattle.dk_model.specs.Keys.{id_cmp, key_cmp}
-use Rattle.dk_model.specs.DurableWorlds.{DurableWorld, Task, Agrees, last_with, with_value}
+use Rattle.dk_model.specs.DurableWorlds.{DurableWorld, Task, last_with, with_value}
 use Rattle.dk_model.specs.Runs.{Run, begun, with_task}
-use Rattle.dk_model.specs.Steps.{own_task, own_found, next_due, kept_by}
+use Rattle.dk_model.specs.Steps.{own_task, own_found, next_due}
 use Rattle.dk_overlay.specs.declared.change.TaskChange.{TaskChange}
 use Rattle.dk_overlay.specs.declared.change.TaskChange.TheVariants.{Moved}
-use Rattle.dk_overlay.specs.Changes.{value_now, task_now, stood, removing, moving}
+use Rattle.dk_overlay.specs.Changes.{value_now, task_now, removing, moving}
 use Rattle.dk_overlay.specs.Layers.{layered, newest}
 use Rattle.dk_overlay.specs.Logged.{Logged, current, nothing_done, changing_task, removing_task, moving_task, passing_own}
 use Rattle.dk_model.specs.Finishes.{HasOwnTask}
-use Rattle.dk_overlay.specs.Knowing.{KnowsBefore, MovesStand, MovesOwn, JobFits, OwnIsAsked}
+use Rattle.dk_overlay.specs.Knowing.{KnowsBefore, MovesStand, MovesOwn}
 use Rattle.dk_overlay.proofs.Keys.{ids_total, ids_same, keys_total, keys_same, names_total, names_same}
-use Rattle.dk_overlay.proofs.Layers.{get-layered, layered-insert, layered-empty, at_changed, at_empty}
-use Rattle.dk_overlay.proofs.Sound.{nothing_known, knows_task, removing_stood, moving_stood, removing_none, moving_some, removing_unmoved, moving_from}
-use Rattle.dk_overlay.proofs.Tests.{Some_injective}
+use Rattle.dk_overlay.proofs.Layers.{get-layered, layered-insert, layered-empty, at_changed}
+use Rattle.dk_overlay.proofs.Sound.{knows_task, removing_stood, moving_stood, removing_none, moving_some, removing_unmoved, moving_from}
 
 -- with nothing done the run stands at its start
 pub current_start : (run : RunNo) (at : ℕ) (d : DurableWorld) → current (nothing_done run at) d ≡ begun run at d

@@ -1,6 +1,5 @@
 -- Changes that know what was there before.
-use Rattle.std.proofs.Common.{◌≡◌, ℕ, ◌⊎◌, inl, inr, true, false, Option, Some, None, is_some, [], ◌∷◌, refl, sym, ap, subst, ◌∙◌}
-use Rattle.std.specs.List.{AllByRecursion}
+use Rattle.std.proofs.Common.{◌≡◌, ℕ, ◌⊎◌, inl, inr, true, Option, Some, None, is_some, [], ◌∷◌, refl, sym, ap, subst, ◌∙◌}
 use Rattle.std.specs.FinMap as map
 use Rattle.dk_types.specs.declared.number.RunNo.{RunNo}
 use Rattle.dk_types.specs.declared.number.ObjectId.{ObjectId}
@@ -11,15 +10,15 @@ use Rattle.dk_types.specs.declared.item.Read.{Read}
 use Rattle.std.proofs.Common.{List, ◌++◌}
 use Rattle.dk_types.specs.Names.{bytes_cmp}
 use Rattle.dk_model.specs.Keys.{id_cmp, key_cmp}
-use Rattle.dk_model.specs.DurableWorlds.{DurableWorld, Task, Agrees, answer}
+use Rattle.dk_model.specs.DurableWorlds.{DurableWorld, Task, Agrees}
 use Rattle.dk_overlay.specs.declared.change.Change.{Change}
 use Rattle.dk_overlay.specs.declared.change.TaskChange.{TaskChange}
 use Rattle.dk_overlay.specs.declared.change.TaskChange.TheVariants.{Added, Withdrawn, Dropped, Moved}
-use Rattle.dk_overlay.specs.Changes.{task_now, task_made, moved_to, stood, removing, moving}
+use Rattle.dk_overlay.specs.Changes.{task_now, moved_to, stood, removing, moving}
 use Rattle.dk_overlay.specs.Layers.{newest}
-use Rattle.dk_overlay.specs.Logged.{Logged, nothing_done, reading, changing_object, changing_name, changing_task}
+use Rattle.dk_overlay.specs.Logged.{Logged, nothing_done, reading, changing_object, changing_name}
 use Rattle.dk_model.specs.Finishes.{IsNew}
-use Rattle.dk_overlay.specs.Knowing.{KnowsBefore, IsSound, MovesAlone}
+use Rattle.dk_overlay.specs.Knowing.{KnowsBefore, IsSound}
 use Rattle.dk_overlay.proofs.Keys.{ids_total, ids_same, keys_total, keys_same, names_total, names_same}
 use Rattle.dk_overlay.proofs.Layers.{at_changed, at_empty}
 use Rattle.dk_overlay.proofs.Tests.{none_some}

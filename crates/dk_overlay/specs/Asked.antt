@@ -1,5 +1,5 @@
 -- What was asked so far: a list of reads, and the places of its items.
-use Rattle.std.specs.Prelude.{◌≡◌, ℕ, ◌≢◌, Option, Some, None, List, slice_get}
+use Rattle.std.specs.Prelude.{◌≡◌, ℕ, Option, Some, None, List, slice_get}
 use Rattle.dk_types.specs.declared.number.ObjectId.{ObjectId}
 use Rattle.dk_types.specs.declared.number.TaskKey.{TaskKey}
 use Rattle.dk_types.specs.declared.item.Item.{Item}

@@ -1,5 +1,5 @@
 -- What a change makes of what stood at its key.
-use Rattle.std.specs.Prelude.{ℕ, Bool, true, false, Option, Some, None, is_some}
+use Rattle.std.specs.Prelude.{ℕ, Bool, true, false, Option, Some, None}
 use Rattle.dk_model.specs.DurableWorlds.{Task}
 use Rattle.dk_overlay.specs.declared.change.Change.{Change}
 use Rattle.dk_overlay.specs.declared.change.Scheduled.{Scheduled}

@@ -11,7 +11,6 @@ use Rattle.dk_model.specs.Effects.{pending_of, same_object, same_id}
 use Rattle.dk_model.specs.Steps.{ended, failed, kept_by}
 use Rattle.dk_model.specs.Finishes.{Told, told_step, IsNew, HasOwnTask}
 use Rattle.dk_overlay.specs.declared.finished.Finished.{Finished}
-use Rattle.dk_overlay.specs.Asked.{IsOnce}
 use Rattle.dk_overlay.specs.Logged.{Logged, current}
 use Rattle.dk_overlay.specs.Knowing.{IsSound, KnowsBefore, MovesStand, MovesOwn, JobFits, OwnIsAsked}
 use Rattle.dk_overlay.specs.Picks.{picked, newly_set, taken_away, task_added, task_dropped, task_moved}

@@ -1,5 +1,5 @@
 use Rattle.std.proofs.Common.{◌≡◌, sym, ap, subst, ◌∙◌}
-use Rattle.dk_overlay.specs.Logged.{Logged, nothing_done, passing_own}
+use Rattle.dk_overlay.specs.Logged.{nothing_done, passing_own}
 use Rattle.dk_overlay.specs.Finishes.{IsKept}
 use Rattle.dk_overlay.proofs.Ending.{kept_passed, kept_absent, kept_default}
 use Rattle.dk_overlay.proofs.log.Log.kept.Goals as goal

@@ -1,8 +1,6 @@
 use Rattle.std.proofs.Common.{◌≡◌, rules}
 use Rattle.dk_types.specs.Names.{bytes_cmp}
-use Rattle.dk_model.specs.Keys.{id_cmp, key_cmp}
-use Rattle.dk_model.specs.Effects.{same_object, same_id, pending_of}
-use Rattle.dk_overlay.specs.Picks.{picked, newly_set, taken_away, task_added, task_dropped, task_moved}
+use Rattle.dk_overlay.specs.Picks.{taken_away}
 use Rattle.dk_overlay.proofs.Picking.{maps_begin, maps_none, maps_some, maps_end}
 use Rattle.dk_overlay.proofs.names.NameChanges.unbound.Goals as goal
 

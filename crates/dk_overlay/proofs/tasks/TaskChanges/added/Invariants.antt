@@ -1,7 +1,7 @@
 use Rattle.std.proofs.Common.{◌≡◌, ◌++◌, map}
 use Rattle.std.specs.FinMap.{entries}
-use Rattle.dk_model.specs.Effects.{same_object, same_id, pending_of}
-use Rattle.dk_overlay.specs.Picks.{picked, newly_set, taken_away, task_added, task_dropped, task_moved}
+use Rattle.dk_model.specs.Effects.{pending_of}
+use Rattle.dk_overlay.specs.Picks.{picked, task_added}
 use Rattle.dk_overlay.proofs.Picking.{seen}
 use Rattle.dk_overlay.proofs.tasks.TaskChanges.added.Given as goal
 
