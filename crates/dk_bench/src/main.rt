@@ -2,11 +2,14 @@
 //! times; the number behind it says how many times.
 #![tactic(auto)]
 
+mod channels;
 mod disk;
 mod first_path;
 mod stores;
 mod tasks;
+mod txn;
 
+use channels::{Doing, on_channel};
 use disk::{folder_appends, memory_calls};
 use dk_turn_uses::{empty_turns_anew, locked_adds, tally_in_threads};
 use first_path::first_path;
@@ -19,6 +22,7 @@ use std::thread::Threads;
 use std::time::Clock;
 use stores::Timed;
 use tasks::{Work, tasks_in_stores};
+use txn::txn_calls;
 
 /// What is run.
 #[derive(Clone, Copy)]
@@ -35,6 +39,10 @@ enum Subcommand {
     Tasks(Work),
     /// Calls of a store. Their nanoseconds are told.
     Store(Timed),
+    /// Runs that each make so many objects and read as many. The objects written and the reads are told.
+    TxnCalls,
+    /// Calls on a channel of so many members.
+    Channel(Doing),
     /// So many appends with two syncs each on the folder `appends`. The file's length is told.
     FolderAppends,
     /// The same on a home in memory.
@@ -44,7 +52,7 @@ enum Subcommand {
 fn main(rt: HostRuntime) -> ExitCode {
     let Some((subcommand, times)) = asked(&rt) else {
         let _ = rt.eprintln(
-            "dk_bench: first-path|locked-adds|empty-turns|tally|STORE-CALL|tasks-WORK|folder-appends|memory-calls TIMES",
+            "dk_bench: first-path|locked-adds|empty-turns|tally|STORE-CALL|tasks-WORK|txn-calls|channel-sends|channel-join|channel-leave|folder-appends|memory-calls TIMES",
         );
         return ExitCode::from(2);
     };
@@ -71,11 +79,13 @@ fn named(word: &str) -> Option<Subcommand> {
         "locked-adds" => Some(Subcommand::LockedAdds),
         "empty-turns" => Some(Subcommand::EmptyTurns),
         "tally" => Some(Subcommand::Tally),
+        "txn-calls" => Some(Subcommand::TxnCalls),
         "folder-appends" => Some(Subcommand::FolderAppends),
         "memory-calls" => Some(Subcommand::MemoryCalls),
         _ => stores::named(word)
             .map(Subcommand::Store)
-            .or(Work::named(word).map(Subcommand::Tasks)),
+            .or(Work::named(word).map(Subcommand::Tasks))
+            .or(channels::named(word).map(Subcommand::Channel)),
     }
 }
 
@@ -91,6 +101,8 @@ fn run<R: AllocGlobal + Threads + Wait + Sync + Clock + Files<File = File> + Clo
         Subcommand::Tally => tally_in_threads(rt, rt.alloc(), times as u64),
         Subcommand::Tasks(work) => tasks_in_stores(rt.alloc(), work, times),
         Subcommand::Store(timed) => stores::time(rt, timed, times),
+        Subcommand::TxnCalls => txn_calls(rt.alloc(), times),
+        Subcommand::Channel(doing) => on_channel(rt, doing, times),
         Subcommand::FolderAppends => folder_appends(rt.alloc(), rt.clone().ok()?, times),
         Subcommand::MemoryCalls => memory_calls(rt.alloc(), times),
     }
