@@ -10,3 +10,4 @@ pub mod Choosing
 pub mod Granted
 pub mod Committed
 pub mod Opened
+pub mod Followed
