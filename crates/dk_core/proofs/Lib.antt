@@ -11,3 +11,4 @@ pub mod Granted
 pub mod Committed
 pub mod Opened
 pub mod Followed
+pub mod Bare

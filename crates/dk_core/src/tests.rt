@@ -1,9 +1,9 @@
 //! Claims, releases and a failed run of a core, with runs that are made by hand.
-ghost use Rattle.std.specs.Prelude.{◌≡◌, ◌≤◌, ◌×◌, IfOk};
+ghost use Rattle.std.specs.Prelude.{◌≡◌, ◌≤◌, IfOk};
 ghost use Rattle.dk_core.specs.Cores.{IsGranted, IsStanding};
 
 use crate::{ClaimRefused, Claimed, Core};
-use dk_txn::{Finished, Mode, Txn};
+use dk_txn::{Finished, Mode, Txn, View};
 use dk_types::limits::MOMENT_MOST_MS;
 use dk_types::{AppFault, Blob, ConnNo, Durable, Input, Job, Listed, Name, NoMemory, RunNo};
 use std::alloc::Global;
@@ -23,7 +23,10 @@ fn opened(alloc: Global, commits: u64, budget: Option<u64>) -> Result<Core, Fail
         names: Listed::from_vec(Vec::new(alloc)),
         tasks: Listed::from_vec(Vec::new(alloc)),
     };
-    Ok(Core::open(alloc, durable, budget).ok().ok_or("a core")?)
+    match Core::open(alloc, durable, budget) {
+        Ok(core) => Ok(core),
+        Err(_) => Err(Fail::from("a core")),
+    }
 }
 
 fn connect(alloc: Global, core: &mut Core, text: &[u8]) -> Result<ConnNo, Fail>
@@ -31,7 +34,10 @@ fn connect(alloc: Global, core: &mut Core, text: &[u8]) -> Result<ConnNo, Fail>
     ensures { IfOk result (λ _. IsStanding core.new) }
 {
     let name = Name::new(alloc, text).ok().ok_or("a name")?;
-    Ok(core.connect(&name).ok().ok_or("a connection")?)
+    match core.connect(&name) {
+        Ok(conn) => Ok(conn),
+        Err(_) => Err(Fail::from("a connection")),
+    }
 }
 
 /// A claim, which is granted.
@@ -52,12 +58,10 @@ fn claim_spent(core: &mut Core, held: &Claimed) -> Result<u64, Fail>
     requires granted { IsGranted core.old held.now }
     ensures { IfOk result (λ _. IsGranted core.new held.now) }
 {
-    match core.claim(7) {
-        Err(ClaimRefused::Spent { granted }) => Ok(granted),
-        Ok(_) | Err(ClaimRefused::Exhausted { .. }) | Err(ClaimRefused::NoMemory) => {
-            Err(Fail::from("no claim"))
-        }
-    }
+    let Err(ClaimRefused::Spent { granted }) = core.claim(7) else {
+        return Err(Fail::from("no claim"));
+    };
+    Ok(granted)
 }
 
 /// The job of a claim, which is granted.
@@ -76,6 +80,36 @@ fn is_idle(core: &mut Core) -> bool {
     }
 }
 
+fn schedule<V: View>(alloc: Global, txn: &mut Txn<'_, V>) -> Result<(), Fail> {
+    let arg = Blob::from_vec(Vec::new(alloc));
+    txn.schedule(1, arg, 0).ok().ok_or("a task")?;
+    Ok(())
+}
+
+fn schedule_all<V: View>(alloc: Global, txn: &mut Txn<'_, V>, tasks: u32) -> Result<(), Fail> {
+    let before = txn.set_mode(Mode::Game);
+    for _ in 0..tasks {
+        schedule(alloc, txn)?;
+    }
+    txn.set_mode(before);
+    Ok(())
+}
+
+fn schedules_over<V: View>(
+    rt: &impl Abort,
+    alloc: Global,
+    view: &mut V,
+    claimed: &Claimed,
+    tasks: u32,
+    end: Result<(), AppFault>,
+) -> Result<Finished, Fail> {
+    let at = claimed.at();
+    assert!(rt; at <= MOMENT_MOST_MS);
+    let mut txn = Txn::begin(alloc, view, claimed.run(), at);
+    schedule_all(alloc, &mut txn, tasks)?;
+    Ok(txn.end(claimed.job(), end)?)
+}
+
 /// A run that schedules so many tasks, which are due at once, and comes to this end.
 fn schedules(
     rt: &impl Abort,
@@ -85,17 +119,8 @@ fn schedules(
     tasks: u32,
     end: Result<(), AppFault>,
 ) -> Result<Finished, Fail> {
-    let at = claimed.at();
-    assert!(rt; at <= MOMENT_MOST_MS);
     let mut look = core.look();
-    let mut txn = Txn::begin(alloc, &mut look, claimed.run(), at);
-    let before = txn.set_mode(Mode::Game);
-    for _ in 0..tasks {
-        let arg = Blob::from_vec(Vec::new(alloc));
-        txn.schedule(1, arg, 0).ok().ok_or("a task")?;
-    }
-    txn.set_mode(before);
-    Ok(txn.finish(claimed.job(), end)?)
+    schedules_over(rt, alloc, &mut look, claimed, tasks, end)
 }
 
 fn commit(core: &mut Core, claimed: Claimed, finished: Finished) -> Result<u64, Fail>

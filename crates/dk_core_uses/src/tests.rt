@@ -140,6 +140,21 @@ fn next_name<V: View>(txn: &mut Txn<'_, V>, after: Option<&Name>) -> Result<Name
     Ok(next.ok_or("a name")?)
 }
 
+fn reads_names_over<V: View>(
+    rt: &impl Abort,
+    alloc: Global,
+    view: &mut V,
+    claimed: &Claimed,
+) -> Result<Finished, Fail> {
+    let at = claimed.at();
+    assert!(rt; at <= MOMENT_MOST_MS);
+    let mut txn = Txn::begin(alloc, view, claimed.run(), at);
+    take_own(rt, &mut txn, claimed)?;
+    let first = next_name(&mut txn, None)?;
+    next_name(&mut txn, Some(&first))?;
+    Ok(txn.end(claimed.job(), Ok(()))?)
+}
+
 /// A run that reads the first two names.
 fn reads_names(
     rt: &impl Abort,
@@ -147,18 +162,20 @@ fn reads_names(
     core: &Core,
     claimed: &Claimed,
 ) -> Result<Finished, Fail> {
-    let at = claimed.at();
-    assert!(rt; at <= MOMENT_MOST_MS);
     let mut look = core.look();
-    let mut txn = Txn::begin(alloc, &mut look, claimed.run(), at);
-    take_own(rt, &mut txn, claimed)?;
-    let first = next_name(&mut txn, None)?;
-    next_name(&mut txn, Some(&first))?;
-    Ok(txn.finish(claimed.job(), Ok(()))?)
+    reads_names_over(rt, alloc, &mut look, claimed)
 }
 
 fn get<V: View>(txn: &mut Txn<'_, V>, id: ObjectId) -> Result<Object, Fail> {
     Ok(txn.get(id).ok().ok_or("an object")?)
+}
+
+fn end_of(first: &Object, second: &Object) -> Result<(), AppFault> {
+    if first == second {
+        Ok(())
+    } else {
+        Err(AppFault::Game(1))
+    }
 }
 
 /// A run that gives up where the two objects are unequal.
@@ -174,12 +191,7 @@ fn compares<V: View>(
     take_own(rt, &mut txn, claimed)?;
     let first = get(&mut txn, twin(0))?;
     let second = get(&mut txn, twin(1))?;
-    let end = if first == second {
-        Ok(())
-    } else {
-        Err(AppFault::Game(1))
-    };
-    Ok(txn.finish(claimed.job(), end)?)
+    Ok(txn.end(claimed.job(), end_of(&first, &second))?)
 }
 
 /// The run of a reader that is given what it read before and after another's commit.
