@@ -2,21 +2,17 @@
 use Rattle.std.proofs.Common.{◌≡◌, ℕ, ◌<◌, ◌≤◌, Bool, true, false, ◌||◌, if◌then◌else◌, Option, List, [], ◌∷◌, ◌++◌, length, refl, sym, ap, subst, ◌∙◌, arith}
 use Rattle.std.proofs.lemmas.List.{append-nil, append_assoc}
 use Rattle.std.specs.List.{AllByRecursion, list_any, filter}
-use Rattle.std.specs.FinMap.{get}
-use Rattle.dk_types.specs.declared.number.RunNo.{RunNo}
 use Rattle.dk_types.specs.declared.item.Item.{Item}
 use Rattle.dk_types.specs.declared.item.Read.{Read}
 use Rattle.dk_types.specs.declared.event.Event.{Event}
 use Rattle.dk_types.specs.declared.limits.TheConstants.{MOMENT_MOST_MS}
 use Rattle.dk_model.specs.DurableWorlds.{DurableWorld}
-use Rattle.dk_model.specs.Worlds.{Claim}
 use Rattle.dk_model.specs.Events.{Meaning}
 use Rattle.dk_model.specs.Finishes.{KeepsLaw, IsHonest}
 use Rattle.dk_model.specs.Lawful.{AreLawful}
 use Rattle.dk_model.specs.Openings.{opening}
 use Rattle.dk_model.specs.Sights.{grants, IsHonestRead}
 use Rattle.dk_laws.proofs.ClaimedOnce.{claimed_once}
-use Rattle.dk_laws.proofs.Sound.{IsSoundClaim}
 use Rattle.dk_overlay.specs.declared.finished.Finished.{Finished}
 use Rattle.dk_overlay.specs.Finishes.{told}
 use Rattle.dk_overlay.specs.Knowing.{JobFits}
@@ -49,17 +45,17 @@ none_changed w reads c all f = f.differ (f.found ∙ none_differs w f.before c.i
 any_once : {A : Type 0} (p : A → Bool) (xs : List A) → 0 < length (filter p xs) → list_any p xs ≡ true
 any_once p [] h = absurd (omega (arith, h))
 any_once p (x ∷ xs) h = elim (p x) as (λ b. p x ≡ b → 0 < length (if b then x ∷ filter p xs else filter p xs) → (b || list_any p xs) ≡ true) [
-    | true ↦ λ _ _. refl
-    | false ↦ λ _ g. any_once p xs g
-  ] refl h
+  | true ↦ λ _ _. refl
+  | false ↦ λ _ g. any_once p xs g
+] refl h
 
 pub standing_of : (rules : Meaning) (c : Core) → AreLawful rules → IsStandingFor rules c → IsStanding c
 standing_of rules c lawful s = record { rules = rules; opened = s.opened; budget = s.budget; events = s.events; lawful = lawful; stands = s.stands }
 
 module _ (rules : Meaning) (lawful : AreLawful rules) (c : Core) (claimed : Claimed) (held : IsGranted c claimed) where
   -- a claimed run is within its limits
-  pub claim_of : IsStandingFor rules c → (JobFits claimed.job) × (claimed.at ≤ MOMENT_MOST_MS)
-  claim_of s =
+  pub claim_within : IsStandingFor rules c → (JobFits claimed.job) × (claimed.at ≤ MOMENT_MOST_MS)
+  claim_within s =
       let sound = (sound_of rules lawful s.opened s.budget s.events c s.stands).claims claimed.run (record { pass = claimed.pass; job = claimed.job; at = claimed.at }) held in
       (job_fits claimed.job sound.job, sound.moment)
 

@@ -121,6 +121,8 @@ pub fn serve_next<G: Game>(
         Err(ClaimRefused::Exhausted { next }) => return Ok(Served::Exhausted { next }),
         Err(ClaimRefused::NoMemory) => return Err(NoMemory),
     };
-    let ran = end_claimed(alloc, game, core, claimed)?;
-    Ok(Served::Ran(ran))
+    match end_claimed(alloc, game, core, claimed) {
+        Ok(ran) => Ok(Served::Ran(ran)),
+        Err(refused) => Err(refused),
+    }
 }
