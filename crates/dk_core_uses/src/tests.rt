@@ -1,5 +1,5 @@
 //! Two runs that read the same, and a connection to which more is sent than may wait.
-ghost use Rattle.std.specs.Prelude.{◌≡◌, ◌≤◌, IfOk};
+ghost use Rattle.std.specs.Prelude.{IfOk};
 ghost use Rattle.dk_model.specs.Lawful.{IsInput};
 ghost use Rattle.dk_core.specs.Cores.{IsGranted};
 ghost use Rattle.dk_serving.specs.Servings.{IsStandingFor};
@@ -36,7 +36,10 @@ fn opened(alloc: Global) -> Result<Core, Fail>
         names: Listed::from_vec(Vec::new(alloc)),
         tasks: Listed::from_vec(Vec::new(alloc)),
     };
-    Ok(Core::open(alloc, durable, None).ok().ok_or("a core")?)
+    match Core::open(alloc, durable, None) {
+        Ok(core) => Ok(core),
+        Err(_) => Err(Fail::from("a core")),
+    }
 }
 
 /// The job that comes next, run and committed.
@@ -44,10 +47,10 @@ fn serve(alloc: Global, core: &mut Core) -> Result<Ran, Fail>
     requires { IsStandingFor twins_rules core.old }
     ensures { IfOk result (λ _. IsStandingFor twins_rules core.new) }
 {
-    match serve_next(alloc, &Twins, core, PASS) {
-        Ok(Served::Ran(ran)) => Ok(ran),
-        Ok(_) | Err(_) => Err(Fail::from("a run")),
-    }
+    let Ok(Served::Ran(ran)) = serve_next(alloc, &Twins, core, PASS) else {
+        return Err(Fail::from("a run"));
+    };
+    Ok(ran)
 }
 
 /// The same beside a claim, which stays.
@@ -57,10 +60,10 @@ fn serve_beside(alloc: Global, core: &mut Core, held: &Claimed) -> Result<Ran, F
     ensures standing { IfOk result (λ _. IsStandingFor twins_rules core.new) }
     ensures granted { IfOk result (λ _. IsGranted core.new held.now) }
 {
-    match serve_next(alloc, &Twins, core, PASS) {
-        Ok(Served::Ran(ran)) => Ok(ran),
-        Ok(_) | Err(_) => Err(Fail::from("a run")),
-    }
+    let Ok(Served::Ran(ran)) = serve_next(alloc, &Twins, core, PASS) else {
+        return Err(Fail::from("a run"));
+    };
+    Ok(ran)
 }
 
 /// A claim, which is granted.
@@ -75,6 +78,13 @@ fn claim(core: &mut Core) -> Result<Claimed, Fail>
     }
 }
 
+fn changed_of(refused: PrepareRefused) -> Result<Changed, Fail> {
+    match refused {
+        PrepareRefused::Retry(changed) => Ok(changed),
+        PrepareRefused::NoMemory => Err(Fail::from("memory")),
+    }
+}
+
 /// A commit that is refused, as a read no longer stands. The claim is handed back.
 fn commit_stale(
     core: &mut Core,
@@ -86,10 +96,11 @@ fn commit_stale(
     ensures standing { IfOk result (λ _. IsStandingFor twins_rules core.new) }
     ensures granted { IfOk result (λ back. IsGranted core.new back.0) }
 {
-    match core.commit(claimed, finished) {
-        Err((back, PrepareRefused::Retry(changed))) => Ok((back, changed)),
-        Err((_, PrepareRefused::NoMemory)) | Ok(_) => Err(Fail::from("a stale read")),
-    }
+    let Err((back, refused)) = core.commit(claimed, finished) else {
+        return Err(Fail::from("a stale read"));
+    };
+    let changed = changed_of(refused)?;
+    Ok((back, changed))
 }
 
 fn commit(core: &mut Core, claimed: Claimed, finished: Finished) -> Result<u64, Fail>
@@ -267,7 +278,10 @@ fn connect(alloc: Global, core: &mut Core, bytes: &[u8]) -> Result<ConnNo, Fail>
     ensures { IfOk result (λ _. IsStandingFor twins_rules core.new) }
 {
     let name = text(alloc, bytes)?;
-    Ok(core.connect(&name).ok().ok_or("a connection")?)
+    match core.connect(&name) {
+        Ok(conn) => Ok(conn),
+        Err(_) => Err(Fail::from("a connection")),
+    }
 }
 
 /// A message of so many bytes.
@@ -297,7 +311,10 @@ fn hand(core: &mut Core, conn: ConnNo, most: u32) -> Result<Handed, Fail>
     requires { IsStandingFor twins_rules core.old }
     ensures { IfOk result (λ _. IsStandingFor twins_rules core.new) }
 {
-    Ok(core.hand(conn, most)?)
+    match core.hand(conn, most) {
+        Ok(handed) => Ok(handed),
+        Err(_) => Err(Fail::from("a list")),
+    }
 }
 
 /// A core on which alice is logged in and both tasks have run.

@@ -1,4 +1,4 @@
-use Rattle.std.proofs.Common.{◌≡◌, ◌∙◌, refl, ap, sym, subst, arith}
+use Rattle.std.proofs.Common.{◌∙◌, refl, sym, subst, arith}
 use Rattle.dk_core.proofs.Bare.{IsFew, bare_valid, standing_first}
 use Rattle.dk_core.proofs.tests.opened.Goals.{then-commits-eq0, else-commits-eq0}
 use Rattle.dk_core.proofs.tests.opened.Goals as goal
