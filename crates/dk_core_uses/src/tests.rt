@@ -127,21 +127,19 @@ fn twin(k: u32) -> ObjectId {
     ObjectId { run: RunNo(0), k }
 }
 
-fn read(core: &Core, item: &Item) -> Result<Read, Fail> {
-    Ok(core.read(item).ok().ok_or("a read")?)
-}
-
-fn own_key(claimed: &Claimed) -> Result<TaskKey, Fail> {
+/// The key of a claimed task, and when it is due, in ms.
+fn own_task(claimed: &Claimed) -> Result<(TaskKey, u64), Fail> {
     match claimed.job() {
-        Job::Task { key, .. } => Ok(*key),
+        Job::Task { key, due, .. } => Ok((*key, *due)),
         _ => Err(Fail::from("a task")),
     }
 }
 
 /// The once-task of a claim is taken away.
 fn take_own<V: View>(rt: &impl Abort, txn: &mut Txn<'_, V>, claimed: &Claimed) -> Result<(), Fail> {
-    let key = own_key(claimed)?;
-    let pending = txn.own_task(key, claimed.at(), 0).ok().ok_or("a read")?;
+    let (key, due) = own_task(claimed)?;
+    assert!(rt; due <= MOMENT_MOST_MS);
+    let pending = txn.own_task(key, due, 0).ok().ok_or("a read")?;
     assert!(rt; pending);
     Ok(())
 }
@@ -226,41 +224,82 @@ fn compares_now(
     compares(rt, alloc, &mut look, claimed)
 }
 
-#[test]
-fn a_name_bound_between_is_told(rt: HostRuntime) -> Result<(), Fail> {
-    let alloc = rt.alloc();
+/// A core on which a run that read the names a and c was refused, since another has bound b.
+fn stale_names(rt: &impl Abort, alloc: Global) -> Result<(Core, Claimed, Changed), Fail>
+    ensures standing { IfOk result (λ made. IsStandingFor twins_rules made.0) }
+    ensures granted { IfOk result (λ made. IsGranted made.0 made.1) }
+{
     let mut core = begun(alloc)?;
     let reader = claim(&mut core)?;
-    let finished = reads_names(&rt, alloc, &core, &reader)?;
+    let finished = reads_names(rt, alloc, &core, &reader)?;
     serve_beside(alloc, &mut core, &reader)?;
-    let (reader, changed) = commit_stale(&mut core, reader, finished)?;
-    let told = Changed {
+    let (back, changed) = commit_stale(&mut core, reader, finished)?;
+    Ok((core, back, changed))
+}
+
+fn name_between(alloc: Global) -> Result<Changed, Fail> {
+    Ok(Changed {
         item: Item::NextAfter(Some(text(alloc, b"a")?)),
         found: Seen::Next(Some(text(alloc, b"c")?)),
         now: Seen::Next(Some(text(alloc, b"b")?)),
-    };
+    })
+}
+
+#[test]
+fn a_name_bound_between_is_told(rt: HostRuntime) -> Result<(), Fail> {
+    let alloc = rt.alloc();
+    let (mut core, reader, changed) = stale_names(&rt, alloc)?;
+    let told = name_between(alloc)?;
     assert!(rt; changed == told);
     let again = reads_names(&rt, alloc, &core, &reader)?;
-    assert_eq!(rt; commit(&mut core, reader, again)?, 3);
+    let seq = commit(&mut core, reader, again)?;
+    assert_eq!(rt; seq, 3);
     Ok(())
+}
+
+/// An item, and what is read of it.
+fn read_pair(core: &Core, item: Item) -> Result<(Item, Read), Fail> {
+    let read = core.read(&item).ok().ok_or("a read")?;
+    Ok((item, read))
+}
+
+/// What a reader sees of its task and the first object, and of the second after another's commit.
+fn torn_reads(alloc: Global, core: &mut Core, reader: &Claimed) -> Result<Vec<(Item, Read)>, Fail>
+    requires standing { IsStandingFor twins_rules core.old }
+    requires granted { IsGranted core.old reader.now }
+    ensures standing { IfOk result (λ _. IsStandingFor twins_rules core.new) }
+    ensures granted { IfOk result (λ _. IsGranted core.new reader.now) }
+{
+    let (key, _) = own_task(reader)?;
+    let own = read_pair(core, Item::Task(key))?;
+    let first = read_pair(core, Item::Object(twin(0)))?;
+    serve_beside(alloc, core, reader)?;
+    let second = read_pair(core, Item::Object(twin(1)))?;
+    let mut reads = Vec::new(alloc);
+    reads.push(own)?;
+    reads.push(first)?;
+    reads.push(second)?;
+    Ok(reads)
+}
+
+/// A core on which a run that found the two objects unequal was refused.
+fn stale_objects(rt: &impl Abort, alloc: Global) -> Result<(Core, Claimed, Changed), Fail>
+    ensures standing { IfOk result (λ made. IsStandingFor twins_rules made.0) }
+    ensures granted { IfOk result (λ made. IsGranted made.0 made.1) }
+{
+    let mut core = begun(alloc)?;
+    let reader = claim(&mut core)?;
+    let reads = torn_reads(alloc, &mut core, &reader)?;
+    let torn = compares_torn(rt, alloc, reads, &reader)?;
+    assert!(rt; *torn.outcome() == Outcome::Fail(AppFault::Game(1)));
+    let (back, changed) = commit_stale(&mut core, reader, torn)?;
+    Ok((core, back, changed))
 }
 
 #[test]
 fn a_run_that_saw_two_worlds_is_refused(rt: HostRuntime) -> Result<(), Fail> {
     let alloc = rt.alloc();
-    let mut core = begun(alloc)?;
-    let reader = claim(&mut core)?;
-    let own = Item::Task(own_key(&reader)?);
-    let first = Item::Object(twin(0));
-    let second = Item::Object(twin(1));
-    let own_read = read(&core, &own)?;
-    let first_read = read(&core, &first)?;
-    serve_beside(alloc, &mut core, &reader)?;
-    let second_read = read(&core, &second)?;
-    let reads = vec![in alloc; (own, own_read), (first, first_read), (second, second_read)]?;
-    let torn = compares_torn(&rt, alloc, reads, &reader)?;
-    assert!(rt; *torn.outcome() == Outcome::Fail(AppFault::Game(1)));
-    let (reader, changed) = commit_stale(&mut core, reader, torn)?;
+    let (mut core, reader, changed) = stale_objects(&rt, alloc)?;
     let told = Changed {
         item: Item::Object(twin(0)),
         found: Seen::At(1),
@@ -269,7 +308,8 @@ fn a_run_that_saw_two_worlds_is_refused(rt: HostRuntime) -> Result<(), Fail> {
     assert!(rt; changed == told);
     let again = compares_now(&rt, alloc, &core, &reader)?;
     assert!(rt; *again.outcome() == Outcome::Ok);
-    assert_eq!(rt; commit(&mut core, reader, again)?, 3);
+    let seq = commit(&mut core, reader, again)?;
+    assert_eq!(rt; seq, 3);
     Ok(())
 }
 
