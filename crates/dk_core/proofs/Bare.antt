@@ -1,5 +1,5 @@
 -- A core that is opened on a world in which nothing stands.
-use Rattle.std.proofs.Common.{◌≡◌, ◌↔◌, ℕ, ◌≤◌, Option, Some, None, List, [], Ok, map, refl, sym, ap, ◌∙◌, arith}
+use Rattle.std.proofs.Common.{◌≡◌, ◌↔◌, ℕ, ◌≤◌, Option, Some, None, [], Ok, map, refl, ap, ◌∙◌, arith}
 use Rattle.std.specs.FinMap.{get, get-empty, empty}
 use Rattle.dk_types.specs.declared.number.RunNo.{RunNo}
 use Rattle.dk_types.specs.declared.durable.Durable.{Durable}

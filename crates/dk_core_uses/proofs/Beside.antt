@@ -1,9 +1,6 @@
 -- What is claimed stays claimed while another job is claimed, run and committed.
-use Rattle.std.proofs.Common.{◌≡◌, ℕ, ◌<◌, List, [], ◌∷◌, sym, ap, subst, refl, ◌∙◌, arith}
+use Rattle.std.proofs.Common.{◌≡◌, ℕ, ◌<◌, [], ◌∷◌, sym, ap, subst, refl, ◌∙◌, arith}
 use Rattle.std.specs.FinMap.{get}
-use Rattle.dk_types.specs.declared.event.Event.{Event}
-use Rattle.dk_types.specs.declared.event.Event.TheVariants as event
-use Rattle.dk_types.specs.declared.event.ClaimReply.TheVariants as reply
 use Rattle.dk_model.specs.Worlds.{World, Claim}
 use Rattle.dk_model.specs.Events.{Meaning}
 use Rattle.dk_model.specs.Openings.{opening}

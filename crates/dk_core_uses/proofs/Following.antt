@@ -1,5 +1,5 @@
 -- A core stands for some history of the rules still, after a call.
-use Rattle.std.proofs.Common.{◌≡◌, ℕ, Result, Ok, Err, [], ◌∷◌, ◌++◌, sym, subst}
+use Rattle.std.proofs.Common.{Result, Ok, Err, [], ◌∷◌, ◌++◌, sym, subst}
 use Rattle.dk_types.specs.declared.number.ConnNo.{ConnNo}
 use Rattle.dk_types.specs.declared.job.Input.{Input}
 use Rattle.dk_types.specs.declared.event.Event.{Event}

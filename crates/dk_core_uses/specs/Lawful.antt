@@ -1,5 +1,5 @@
 -- The rules of the two objects are lawful.
-use Rattle.std.proofs.Common.{◌≡◌, ℕ, zero, suc, List, [], codes, refl, lit<}
+use Rattle.std.proofs.Common.{ℕ, zero, suc, List, [], codes, refl, lit<}
 use Rattle.dk_types.specs.declared.number.ConnNo.{ConnNo}
 use Rattle.dk_types.specs.declared.job.Job.{Job}
 use Rattle.dk_types.specs.declared.job.Job.TheVariants as job

@@ -1,5 +1,5 @@
 use Rattle.std.proofs.Common.{◌≡◌, ◌-◌, arith}
-use Rattle.dk_txn.proofs.Kit.{give_does, halts, leads_start, leads_then, leads_does}
+use Rattle.dk_txn.proofs.Kit.{give_does, halts, leads_then, leads_does}
 use Rattle.dk_core_uses.proofs.Answering.{at_turn}
 use Rattle.dk_core_uses.proofs.twins.answer.Goals as goal
 
