@@ -10,3 +10,5 @@ pub mod Choosing
 pub mod Granted
 pub mod Committed
 pub mod Opened
+pub mod Followed
+pub mod Bare

@@ -21,4 +21,6 @@ mod commits;
 mod events;
 mod granting;
 pub mod prepared;
+#[cfg(test)]
+mod tests;
 pub mod world;
