@@ -72,7 +72,7 @@ posts old conn input shown (Err post_refused.Closed) is answer is_linked is_worl
 posts old conn input shown (Err (post_refused.QueueFull waiting)) is answer is_linked is_world swept same = λ pass.
     subst (λ x. Enters old (with_connections old x) (event.Post pass conn input (posted.QueueFull waiting))) (sym same)
     (stays_so old (event.Post pass conn input (posted.QueueFull waiting)) is (λ rules. (answer.0, answer.1, answer.2, refl)) (λ rules. refl))
-posts old conn input shown (Err post_refused.NoMemory) is answer is_linked is_world swept same = ap (with_connections old) same
+posts old conn input shown (Err post_refused.NoMemory) is answer is_linked is_world swept same = (ap (with_connections old) same, answer.2)
 
 pub hands : (old : Core) (conn : ConnNo) (most : ℕ) (shown : Shown) (r : Result Handed NoMemory)
     → IfOk r (λ handed. handed.outs ≡ take most (outbox_at (get (all_of old.connections.connections) conn)))

@@ -1,5 +1,5 @@
 -- What each call answers, and the event that it is.
-use Rattle.std.specs.Prelude.{◌≡◌, ℕ, ◌+◌, ◌++◌, ◌∷◌, [], Option, None, Some, List, Result, Ok, Err}
+use Rattle.std.specs.Prelude.{◌≡◌, ℕ, false, ◌+◌, ◌++◌, ◌∷◌, [], Option, None, Some, List, Result, Ok, Err}
 use Rattle.std.specs.List.{AllByRecursion}
 use Rattle.dk_types.specs.declared.number.ConnNo.{ConnNo}
 use Rattle.dk_types.specs.declared.job.Input.{Input}
@@ -9,6 +9,8 @@ use Rattle.dk_types.specs.declared.event.ConnectReply.TheVariants as connected
 use Rattle.dk_types.specs.declared.event.PostReply.TheVariants as posted
 use Rattle.dk_types.specs.declared.event.ClaimReply.TheVariants as reply
 use Rattle.dk_types.specs.declared.fault.NoMemory.{NoMemory}
+use Rattle.dk_model.specs.declared.waiting.Waiting.TheVariants as waits
+use Rattle.dk_model.specs.Deliveries.{is_disconnect}
 use Rattle.dk_model.specs.DurableWorlds.{DurableWorld}
 use Rattle.dk_model.specs.Events.{Meaning}
 use Rattle.dk_model.specs.Openings.{opening}
@@ -38,12 +40,12 @@ Connected old new name (Ok conn) = (pass : ℕ) → Enters old new (event.Connec
 Connected old new name (Err (connect_refused.Exhausted next)) = (pass : ℕ) → Enters old new (event.Connect pass name (connected.Exhausted next))
 Connected old new name (Err connect_refused.NoMemory) = new ≡ old
 
--- a Post of this input
+-- a Post of this input; want of memory is no answer to a Disconnect
 abbrev pub Posted : Core → Core → ConnNo → Input → Result (Unit {0}) PostRefused → Type 0
 Posted old new conn input (Ok taken) = (pass : ℕ) → Enters old new (event.Post pass conn input posted.Taken)
 Posted old new conn input (Err post_refused.Closed) = (pass : ℕ) → Enters old new (event.Post pass conn input posted.Closed)
 Posted old new conn input (Err (post_refused.QueueFull waiting)) = (pass : ℕ) → Enters old new (event.Post pass conn input (posted.QueueFull waiting))
-Posted old new conn input (Err post_refused.NoMemory) = new ≡ old
+Posted old new conn input (Err post_refused.NoMemory) = (new ≡ old) × (is_disconnect (waits.Input input) ≡ false)
 
 -- a Claim by this pass; what is granted is claimed
 abbrev pub Claims : Core → Core → ℕ → Result (Option Claimed) ClaimRefused → Type 0

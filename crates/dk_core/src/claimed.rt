@@ -1,7 +1,7 @@
 //! A claimed run.
-ghost use Rattle.std.specs.Prelude.{◌≡◌};
+ghost use Rattle.std.specs.Prelude.{◌≡◌, IfOk};
 
-use dk_types::{Job, RunNo};
+use dk_types::{Job, NoMemory, RunNo};
 
 /// A run that was claimed: its number, its job and its moment, in ms. One that is dropped leaves its job claimed.
 #[derive(Debug, Drop)]
@@ -36,5 +36,11 @@ impl Claimed {
         ensures { result.now ≡ self.now.job }
     {
         &self.job
+    }
+
+    pub fn copy_job(&self) -> Result<Job, NoMemory>
+        ensures { IfOk result (λ copy. copy ≡ self.now.job) }
+    {
+        Ok(self.job.clone()?)
     }
 }

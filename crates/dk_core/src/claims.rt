@@ -1,5 +1,5 @@
 // The claimed runs, the numbers that runs and connections draw, and the budget of claims.
-ghost use Rattle.std.specs.Prelude.{◌≡◌, ℕ, ◌==◌, ◌+◌, ◌-◌, ◌<◌, ◌≤◌, true, Some, IfOk, OnOk, OnErr};
+ghost use Rattle.std.specs.Prelude.{◌≡◌, ℕ, ◌==◌, ◌+◌, ◌-◌, ◌<◌, ◌≤◌, true, Some, OnOk, OnErr};
 ghost use Rattle.std.specs.FinMap as map;
 ghost use Rattle.dk_types.specs.declared.limits.TheConstants.{NUMBERS_END};
 ghost use Rattle.dk_model.specs.Events.{granted_of, has_left as is_left};
@@ -143,10 +143,9 @@ impl Claims {
     }
 
     /// Grants a claim, whose run draws its number. Refused, it changes nothing.
-    pub(crate) fn grant(&mut self, held: Held) -> Result<RunNo, NoMemory>
+    pub(crate) fn grant(&mut self, held: Held) -> Result<(), NoMemory>
         requires number { self.old.next < NUMBERS_END }
         requires left { is_left self.old.budget ≡ true }
-        ensures run { IfOk result (λ run. run ≡ record { 0 = self.old.next }) }
         ensures granted { OnOk result (self.new ≡ with_grant held self.old) }
         ensures refused { OnErr result (self.new ≡ self.old) }
     {
@@ -155,7 +154,7 @@ impl Claims {
         self.next += 1;
         self.granted = one_more(self.granted, self.most);
         self.held.insert(run, held);
-        Ok(run)
+        Ok(())
     }
 
     /// A claim is gone, and the budget has it back. It takes no memory.

@@ -13,13 +13,7 @@ use crate::claimed::Claimed;
 use crate::claims::Held;
 use crate::world::Core;
 use dk_types::limits::NUMBERS_END;
-use dk_types::{Job, NoMemory, TaskKey};
-
-fn copy_job(job: &Job) -> Result<Job, NoMemory>
-    ensures { IfOk result (λ copy. copy ≡ job.now) }
-{
-    Ok(job.clone()?)
-}
+use dk_types::{Job, NoMemory, RunNo, TaskKey};
 
 impl Core {
     /// Claims the job that is to be run next, for a pass: the first run; else a task or an input by turns. None where
@@ -39,12 +33,16 @@ impl Core {
         if NUMBERS_END <= next {
             return Err(ClaimRefused::Exhausted { next });
         }
-        let at = self.moment;
-        let job = self.job(choice)?;
-        let held = Held::new(pass, copy_job(&job)?, at);
-        let run = self.claims.grant(held)?;
+        let claimed = Claimed {
+            run: RunNo(next),
+            pass,
+            at: self.moment,
+            job: self.job(choice)?,
+        };
+        let held = Held::new(pass, claimed.copy_job()?, self.moment);
+        self.claims.grant(held)?;
         self.mark(choice, next);
-        Ok(Some(Claimed { run, pass, at, job }))
+        Ok(Some(claimed))
     }
 
     /// Gives a claim back: its job can be run again where it still waits. It takes no memory.

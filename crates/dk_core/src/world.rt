@@ -65,8 +65,7 @@ impl Core {
         ensures now { IfOk result (λ read. read ≡ read_now self.now.world item.now) }
         ensures at { IfOk result (λ read. (rules : Meaning) (d : DurableWorld) (budget : Option ℕ) (events : List Event) → StandsFor rules d budget events self.now → IsReadAt rules (opening d budget) events item.now read) }
     {
-        let read = self.world.read(item)?;
-        Ok(read)
+        self.world.read(item)
     }
 
     /// The world as a run reads it.

@@ -28,7 +28,7 @@ pub posted_so : (old new : Core) (conn : ConnNo) (input : Input) (r : Result (Un
 posted_so old new conn input (Ok taken) s p = entered old new (event.Post 0 conn input posted.Taken) s (p 0)
 posted_so old new conn input (Err post_refused.Closed) s p = entered old new (event.Post 0 conn input posted.Closed) s (p 0)
 posted_so old new conn input (Err (post_refused.QueueFull waiting)) s p = entered old new (event.Post 0 conn input (posted.QueueFull waiting)) s (p 0)
-posted_so old new conn input (Err post_refused.NoMemory) s p = subst (IsStandingFor twins_rules) (sym p) s
+posted_so old new conn input (Err post_refused.NoMemory) s p = subst (IsStandingFor twins_rules) (sym p.0) s
 
 -- a refused commit hands the claim back
 pub refused_so : (old new : Core) (claimed : Claimed) (f : Finished) (back : Claimed) (refused : PrepareRefused) → CommitsOrTells old new claimed f (Err (back, refused)) → IsStandingFor twins_rules old

@@ -88,8 +88,7 @@ impl StampedWorld {
     pub fn bound_names(&self, alloc: Global) -> Result<Vec<(&Name, &(ObjectId, u64))>, NoMemory>
         ensures { IfOk result (λ list. list_map (λ e. (e.0.now, e.1.now.0)) list.items ≡ entries_of (ids_of self.now.names)) }
     {
-        let names = self.names.entries(alloc)?;
-        Ok(names)
+        self.names.entries(alloc)
     }
 
     /// A copy of the world as a list.

@@ -7,3 +7,5 @@
 pub use serving::{Ran, Served, serve_next};
 
 pub mod serving;
+#[cfg(test)]
+mod tests;

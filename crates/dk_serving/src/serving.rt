@@ -33,12 +33,6 @@ pub enum Served {
     Exhausted { next: u64 },
 }
 
-fn copy_job(job: &Job) -> Result<Job, NoMemory>
-    ensures { IfOk result (λ copy. copy ≡ job.now) }
-{
-    Ok(job.clone()?)
-}
-
 /// A claimed job, and what it comes to on the world as it stands.
 fn run_claimed<G: Game>(
     alloc: Global,
@@ -52,7 +46,7 @@ fn run_claimed<G: Game>(
     ensures law { IfOk result (λ ran. KeepsLaw (G.rules game.now) claimed.now.job claimed.now.run claimed.now.at ran.1.reads.items (told ran.1)) }
     ensures now { IfOk result (λ ran. AreReadsNow core.now.world ran.1.reads.items) }
 {
-    let job = copy_job(claimed.job())?;
+    let job = claimed.copy_job()?;
     let mut look = core.look();
     let finished = run_over(alloc, game, &job, &mut look, claimed.run(), claimed.at())?;
     Ok((job, finished))

@@ -7,3 +7,5 @@ pub use tally::{raise, start, sweep};
 
 pub mod halt;
 pub mod tally;
+#[cfg(test)]
+mod tests;

@@ -13,7 +13,7 @@ run_over-requires-clause-moment g c =
 pub run_over-requires-clause-fits : goal.run_over-requires-clause-fits
 run_over-requires-clause-fits g c =
     let within = claim_within (g.G.Rules.rules c.args.game.now) (g.G.Rules.lawful c.args.game.now) c.args.core.now c.args.claimed.now c.requires.granted c.requires.standing in
-    subst JobFits (sym (c.in_ok-job.ensures ∙ c.job.ensures)) within.0
+    subst JobFits (sym c.in_ok-job.ensures) within.0
 
 pub returns-clause-now : goal.returns-clause-now
 returns-clause-now g c =

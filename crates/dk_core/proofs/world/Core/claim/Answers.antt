@@ -23,10 +23,10 @@ returns c =
     let end = c.if-next-ge-NUMBERS_END.false in
     let now = c.args.self.now in
     let held = c.new-held.ensures ∙ (λ i. record { pass = c.args.pass; job = c.in_ok-copy_job.ensures i; at = now.moment }) in
-    let granted = c.in_ok-run.ensures.granted ∙ ap (λ h. with_grant h now.claims) held in
+    let granted = c.in_ok-grant.ensures.granted ∙ ap (λ h. with_grant h now.claims) held in
     let marked = subst (λ n. IsMarked c.in-Some.choice n (with_claims now c.grant.new.self) c.mark.new.self) next c.mark.ensures in
-    rw c.in_ok-run.ensures.run (
-      claims_granted now c.mark.new.self c.args.pass c.in-Some.choice c.in_ok-job.job c.grant.new.self c.in-Some.ensures.pick c.in-Some.ensures.there c.in-Some.ensures.first c.in_ok-job.ensures (sym c.if-not-has_left.ensures)
+    rw next (
+      claims_granted now c.mark.new.self c.args.pass c.in-Some.choice c.in_ok-job.field-0 c.grant.new.self c.in-Some.ensures.pick c.in-Some.ensures.there c.in-Some.ensures.first c.in_ok-job.ensures (sym c.if-not-has_left.ensures)
           (omega (arith, next, end)) granted marked,
       ap (λ s. get s.claims (record { 0 = now.claims.next })) marked.same.claims ∙ granted_there now c.grant.new.self _ granted,
       refl,
