@@ -15,6 +15,7 @@ use Rattle.dk_types.specs.declared.limits.TheConstants.{NUMBERS_END, OUTS_MOST_C
 use Rattle.dk_model.specs.Worlds.{World, fresh_world}
 use Rattle.dk_model.specs.Events.{Meaning, Happens, outbox}
 use Rattle.dk_model.specs.Transcripts.{IsQuiet}
+use Rattle.dk_model.specs.Lawful.{AreLawful}
 use Rattle.dk_model.specs.Sendings.{IsTerse}
 use Rattle.dk_progress.specs.Fitness.{IsFit, left}
 
@@ -46,7 +47,7 @@ pub record IsRun (w : World) (conns : List ConnNo) (more : ℕ) (run : RunNo) (a
 abbrev pub RunsLeaveLess : Type 0
 RunsLeaveLess =
     (rules : Meaning) (w mid after : World) (conns : List ConnNo) (more pass : ℕ) (run : RunNo) (at : ℕ) (job : Job) (seq : ℕ) (outcome : Outcome)
-    → IsTerse rules → IsFit w conns more → Happens rules w (event.Claim pass (claimed.Granted run at job)) mid → Happens rules mid (event.Commit pass run seq outcome) after
+    → AreLawful rules → IsTerse rules → IsFit w conns more → Happens rules w (event.Claim pass (claimed.Granted run at job)) mid → Happens rules mid (event.Commit pass run seq outcome) after
     → IsRun w conns more run at after
 
 -- no claim is refused; where nothing is left to run the world is quiet

@@ -1,6 +1,7 @@
 //! A world that comes to rest: where no game schedules tasks, each run leaves less to run. No body computes
 //! anything: each contract is a law of the model, cited by those who run jobs until none is left.
 #![tactic(auto)]
+
 ghost use Rattle.dk_progress.specs.ProgressLaws.{FreshIsFit, ConnectsFit, PostsFit, RunsLeaveLess, ClaimsAreGranted, HandsTakeAll};
 
 /// A world that nothing has happened to is fit, where numbers are enough for the first run and all that is to come.
