@@ -10,7 +10,7 @@ use Rattle.dk_model.specs.Events.{outbox_at}
 use Rattle.dk_model.proofs.Maps.{not_both}
 use Rattle.dk_progress.specs.Fitness.{left_at, IsFit}
 use Rattle.dk_progress.specs.ProgressLaws.{FreshIsFit, HandsTakeAll}
-use Rattle.dk_progress.proofs.Kept.{AtEach, kept_next, kept_change, kept_swept}
+use Rattle.dk_progress.proofs.Kept.{AtEach, kept_changed}
 use Rattle.dk_progress.proofs.Lefts.{LeavesNoMore, StaysWithin, StaysAway, lefts_steady, boxes_steady, left_none}
 use Rattle.dk_progress.proofs.Sums.{sum_no_more, contains_none}
 
@@ -27,7 +27,8 @@ pub lefts_away : (after before : Connections) → AtEach LeavesNoMore after befo
 lefts_away after before less conn e = left_none (get after conn) (subst (λ o. left_at (get after conn) ≤ left_at o) e (less conn))
 
 -- a connection that is there was there
-pub there_before : (after before : Connections) → AtEach StaysAway after before → (conn : ConnNo) (c : Connection) → get after conn ≡ Some c → (d : Connection) × (get before conn ≡ Some d)
+pub there_before : (after before : Connections) → AtEach StaysAway after before → (conn : ConnNo) (c : Connection) → get after conn ≡ Some c
+    → (d : Connection) × (get before conn ≡ Some d)
 there_before after before away conn c there = elim (get before conn) as (λ o. get before conn ≡ o → (d : Connection) × (get before conn ≡ Some d)) [
   | None ↦ λ e. absurd (not_both (get after conn) c there (away conn e))
   | Some d ↦ λ e. (d, e)
@@ -52,7 +53,8 @@ fit_fewer w conns n more fit = record {
 }
 
 -- where the connections leave no more
-pub fit_with : (w : World) (all : Connections) (conns : List ConnNo) (more : ℕ) → AtEach LeavesNoMore all w.connections → AtEach StaysWithin all w.connections → IsFit w conns more → IsFit (record w { connections = all }) conns more
+pub fit_with : (w : World) (all : Connections) (conns : List ConnNo) (more : ℕ)
+    → AtEach LeavesNoMore all w.connections → AtEach StaysWithin all w.connections → IsFit w conns more → IsFit (record w { connections = all }) conns more
 fit_with w all conns more less within fit = record {
   unclaimed = fit.unclaimed;
   unlimited = fit.unlimited;
@@ -87,7 +89,9 @@ fresh_fit more few = record {
 pub hands_all : HandsTakeAll
 hands_all rules w after conns more pass conn outs end fit h =
     let handed : Connection → Connection = λ c. record c { outbox = drop OUTS_MOST_COUNT c.outbox } in
-    let taken = change_connection conn handed w.connections in
-    let less = kept_next LeavesNoMore lefts_steady (without_done taken) taken w.connections (kept_swept LeavesNoMore lefts_steady taken) (kept_change LeavesNoMore lefts_steady conn handed w.connections (λ c. omega arith)) in
-    let within = kept_next StaysWithin boxes_steady (without_done taken) taken w.connections (kept_swept StaysWithin boxes_steady taken) (kept_change StaysWithin boxes_steady conn handed w.connections (λ c few. omega (arith, few, length-drop OUTS_MOST_COUNT c.outbox))) in
-    (h.0 ∙ take_all OUTS_MOST_COUNT (outbox_at (get w.connections conn)) (fit.boxes conn), subst (λ v. IsFit v conns more) (sym h.2) (fit_with w (without_done taken) conns more less within fit))
+    let taken = without_done (change_connection conn handed w.connections) in
+    let less = kept_changed LeavesNoMore lefts_steady conn handed w.connections (λ c. omega arith) in
+    let within = kept_changed StaysWithin boxes_steady conn handed w.connections (λ c few. omega (arith, few, length-drop OUTS_MOST_COUNT c.outbox)) in (
+      h.0 ∙ take_all OUTS_MOST_COUNT (outbox_at (get w.connections conn)) (fit.boxes conn),
+      subst (λ v. IsFit v conns more) (sym h.2) (fit_with w taken conns more less within fit),
+    )

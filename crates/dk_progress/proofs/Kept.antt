@@ -43,6 +43,7 @@ module _ (R : Relation) (steady : IsSteady R) where
   pub kept_next : (after mid before : Connections) → AtEach R after mid → AtEach R mid before → AtEach R after before
   kept_next after mid before p q conn = steady.next (get after conn) (get mid conn) (get before conn) (p conn) (q conn)
 
+  -- it holds where a connection is changed or not
   changed_where : (b : Bool) (change : Connection → Connection) (o : Option Connection) → OfEach R change → R (cond b (option_map change o) o) o
   changed_where true change None h = steady.same None
   changed_where true change (Some c) h = h c
@@ -57,6 +58,7 @@ module _ (R : Relation) (steady : IsSteady R) where
   kept_for_conn None change all h = λ q. steady.same (get all q)
   kept_for_conn (Some conn) change all h = kept_change conn change all h
 
+  -- it holds where a connection goes or stays
   gone_where : (b : Bool) (o : Option Connection) → R (cond b o None) o
   gone_where true o = steady.same o
   gone_where false o = steady.gone o
@@ -64,6 +66,12 @@ module _ (R : Relation) (steady : IsSteady R) where
   -- connections that are done go
   pub kept_swept : (all : Connections) → AtEach R (without_done all) all
   kept_swept all q = subst (λ o. R o (get all q)) (sym (get-without_done all q)) (gone_where (not (is_done (get all q))) (get all q))
+
+  -- a connection is changed, and those that are done go
+  pub kept_changed : (conn : ConnNo) (change : Connection → Connection) (all : Connections) → OfEach R change → AtEach R (without_done (change_connection conn change all)) all
+  kept_changed conn change all h =
+      let changed = change_connection conn change all in
+      kept_next (without_done changed) changed all (kept_swept changed) (kept_change conn change all h)
 
 module _ (R : Relation) (is : IsDelivered R) where
   -- messages wait

@@ -24,12 +24,15 @@ StaysWithin after before = length (outbox_at before) ≤ OUTS_MOST_COUNT → len
 abbrev pub StaysAway : Option Connection → Option Connection → Type 0
 StaysAway after before = before ≡ None → after ≡ None
 
+-- to leave no more is a relation of one change after another
 pub lefts_steady : IsSteady LeavesNoMore
 lefts_steady = record { same = λ o. omega arith; next = λ a b c p q. omega (arith, p, q); gone = λ o. omega arith }
 
+-- to stay within the limit of messages is one
 pub boxes_steady : IsSteady StaysWithin
 boxes_steady = record { same = λ o h. h; next = λ a b c p q h. p (q h); gone = λ o h. omega arith }
 
+-- to stay away is one
 pub away_steady : IsSteady StaysAway
 away_steady = record { same = λ o h. h; next = λ a b c p q h. p (q h); gone = λ o h. refl }
 
@@ -37,14 +40,17 @@ away_steady = record { same = λ o h. h; next = λ a b c p q h. p (q h); gone = 
 abbrev ends : Bool → ℕ
 ends b = if b then 1 else 2
 
+-- it counts two at most
 ends_most : (b : Bool) → ends b ≤ 2
 ends_most true = omega arith
 ends_most false = omega arith
 
+-- it counts one at least
 ends_least : (b : Bool) → 1 ≤ ends b
 ends_least true = omega arith
 ends_least false = omega arith
 
+-- it counts one where the session is over
 ends_over : (b : Bool) → ends (b || true) ≡ 1
 ends_over true = refl
 ends_over false = refl
@@ -65,9 +71,11 @@ disconnect_most queue = elim (list_any is_disconnect queue) as (λ b. length (if
   | false ↦ omega (arith, length-append queue (waits.Input (input.Disconnect false) ∷ []))
 ]
 
+-- a connection that is over leaves no more than before, where no more waits
 over_less : (c : Connection) (n : ℕ) → n ≤ length c.queue → n + ends (c.cut || true) ≤ left_of c
 over_less c n h = omega (arith, h, ends_over c.cut, ends_least (c.cut || c.over))
 
+-- the rest of a queue is no longer
 dropped_less : (queue : List Waiting) → length (drop 1 queue) ≤ length queue
 dropped_less [] = omega arith
 dropped_less (x ∷ queue) = omega arith
@@ -81,6 +89,7 @@ out_less message c false true e =
     omega (arith, two, disconnect_most c.queue)
 out_less message c false false e = omega arith
 
+-- a commit leaves no more at any connection
 pub lefts_delivered : IsDelivered LeavesNoMore
 lefts_delivered = record {
   steady = lefts_steady;
@@ -90,7 +99,7 @@ lefts_delivered = record {
   ended = λ c. over_less c (length c.queue) (omega arith);
 }
 
--- a message waits only where not as many wait as may wait
+-- a message waits only where fewer wait than may wait
 out_within : (message : Out) (c : Connection) (gone full : Bool) → full ≡ nat_le OUTS_MOST_COUNT (length c.outbox) → length c.outbox ≤ OUTS_MOST_COUNT
     → length ((if gone then c else if full then cut_off c else record c { outbox = c.outbox ++ message ∷ [] }).outbox) ≤ OUTS_MOST_COUNT
 out_within message c true full e h = h
@@ -99,6 +108,7 @@ out_within message c false false e h =
     let few : length c.outbox < OUTS_MOST_COUNT = leb-false OUTS_MOST_COUNT (length c.outbox) (sym e) in
     omega (arith, few, length-append c.outbox (message ∷ []))
 
+-- a commit lets no more messages wait than may wait
 pub boxes_delivered : IsDelivered StaysWithin
 boxes_delivered = record {
   steady = boxes_steady;

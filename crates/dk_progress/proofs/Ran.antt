@@ -1,5 +1,5 @@
 -- A claimed run that is committed leaves less to run than before its claim.
-use Rattle.std.proofs.Common.{◌≡◌, ℕ, ◌+◌, ◌<◌, ◌≤◌, Bool, true, false, cond, not, nat_eq, ◌==◌, Some, None, option_map, List, ◌∷◌, inl, inr, refl, sym, ap, subst, ◌∙◌, arith}
+use Rattle.std.proofs.Common.{◌≡◌, ℕ, ◌+◌, ◌<◌, Bool, true, false, cond, not, nat_eq, ◌==◌, Some, None, option_map, List, ◌∷◌, inl, inr, refl, sym, ap, subst, ◌∙◌, arith}
 use Rattle.std.specs.FinMap.{FinMap, get, insert, remove, empty, get-empty, same_map}
 use Rattle.std.proofs.lemmas.Bool.{cases_Bool}
 use Rattle.dk_types.specs.declared.number.RunNo.{RunNo}
@@ -30,6 +30,7 @@ use Rattle.dk_progress.proofs.KeptTasks.{step_keeps}
 use Rattle.dk_progress.proofs.Picks.{IsFirst, pick_first, pick_no_task}
 use Rattle.dk_progress.proofs.Fits.{lefts_away, known_after}
 
+-- what was put and removed is gone
 none_where : (b : Bool) (claim : Claim) → cond b None (cond b (Some claim) None) ≡ None
 none_where true claim = refl
 none_where false claim = refl
@@ -47,16 +48,19 @@ first_gone : (n m : ℕ) → n ≡ m + 1 → first_left (n == 0) ≡ 0
 first_gone n m e = ap first_left (unequal n 0 (λ none. omega (arith, e, none)))
 
 module _ (turn : Connection → Connection) (j : Job) (outs : List (ConnNo × Out)) (all : Connections) where
-  -- the connections after the claim, as the commit finds them, as the input has left them, and as the commit leaves them
+  -- the connections after the claim
   abbrev turned : Connections
   turned = for_conn (conn_of j) turn all
 
+  -- as the commit finds them
   abbrev claimed_all : Connections
   claimed_all = without_done turned
 
+  -- as the commit leaves them
   abbrev delivered_all : Connections
   delivered_all = delivered j outs claimed_all
 
+  -- without those that are done
   abbrev pub ran_all : Connections
   ran_all = without_done delivered_all
 
@@ -78,35 +82,41 @@ module _ (turn : Connection → Connection) (j : Job) (outs : List (ConnNo × Ou
     input_here : get (for_conn (conn_of j) input_left claimed_all) conn ≡ option_map input_left (cond (not (is_done (get turned conn))) (Some (turn c)) None)
     input_here =
         changed_here input_left claimed_all
-        ∙ ap (option_map input_left) (get-without_done turned conn ∙ ap (λ o. cond (not (is_done (get turned conn))) o None) (changed_here turn all ∙ ap (option_map turn) there))
+        ∙ ap (option_map input_left) (get-without_done turned conn
+        ∙ ap (λ o. cond (not (is_done (get turned conn))) o None) (changed_here turn all ∙ ap (option_map turn) there))
 
     -- the connection of the input that was run leaves less
     pub input_ran : (x : Waiting) (queue : List Waiting) → (turn c).queue ≡ x ∷ queue → left_of (turn c) ≡ left_of c → left_at (get ran_all conn) < left_at (get all conn)
     input_ran x queue queued same =
-        let swept_less : left_at (get ran_all conn) ≤ left_at (get delivered_all conn) = kept_swept LeavesNoMore lefts_steady delivered_all conn in
-        let rest_less : left_at (get delivered_all conn) ≤ left_at (get (for_conn (conn_of j) input_left claimed_all) conn) = kept_after_input LeavesNoMore lefts_delivered j outs claimed_all conn in
+        let swept_less = kept_swept LeavesNoMore lefts_steady delivered_all conn in
+        let rest_less = kept_after_input LeavesNoMore lefts_delivered j outs claimed_all conn in
         let here = ap left_at input_here in
         let was = ap left_at there in
         let less = input_less (not (is_done (get turned conn))) (turn c) x queue queued in
         omega (arith, swept_less, rest_less, here, was, less, same)
 
 module _ (rules : Meaning) (lawful : AreLawful rules) (terse : IsTerse rules) (w : World) (conns : List ConnNo) (more : ℕ) (fit : IsFit w conns more) (pass : ℕ) (j : Job) (is_picked : pick w ≡ Some j) where
-  -- the run's number, its claim, the world once it is claimed, what the run does, and the world after its commit
+  -- the run's number
   abbrev run : RunNo
   run = record { 0 = w.next }
 
+  -- its claim
   abbrev claim : Claim
   claim = record { pass = pass; job = j; at = w.moment }
 
+  -- the world once it is claimed
   abbrev between : World
   between = swept (with_claim w pass j)
 
+  -- what the run does
   abbrev stepped : Stepped
   stepped = step_of rules between run claim
 
+  -- the world after its commit
   abbrev after : World
   after = swept (committed between run j stepped)
 
+  -- the turn that the claim gives
   abbrev turn : Connection → Connection
   turn c = record c { turn = w.next }
 
@@ -114,6 +124,7 @@ module _ (rules : Meaning) (lawful : AreLawful rules) (terse : IsTerse rules) (w
   less_each : AtEach LeavesNoMore after.connections w.connections
   less_each = ran_kept turn j stepped.outs w.connections LeavesNoMore lefts_delivered (λ c. omega arith)
 
+  -- at none wait more messages than may wait
   within_each : AtEach StaysWithin after.connections w.connections
   within_each = ran_kept turn j stepped.outs w.connections StaysWithin boxes_delivered (λ c h. h)
 
@@ -123,12 +134,19 @@ module _ (rules : Meaning) (lawful : AreLawful rules) (terse : IsTerse rules) (w
 
   -- after the first run an input is
   input_gone : IsFirst w j → left_in after.connections conns < left_in w.connections conns
-  input_gone i = sum_less after.connections w.connections less_each i.conn (input_ran turn j stepped.outs w.connections i.conn i.c i.there i.of i.x i.queue i.queued refl) conns (fit.known i.conn i.c i.there)
+  input_gone i =
+      let less = input_ran turn j stepped.outs w.connections i.conn i.c i.there i.of i.x i.queue i.queued refl in
+      sum_less after.connections w.connections less_each i.conn less conns (fit.known i.conn i.c i.there)
 
+  -- so less is left
   less_left : left after conns < left w conns
   less_left = elim (cases_Bool (w.durable.commits == 0)) [
-    | inl first ↦ let one = ap first_left first in let rest = sum_no_more after.connections w.connections less_each conns in omega (arith, one, rest, first_ran)
-    | inr later ↦ let none = ap first_left later in let rest = input_gone (pick_first w fit.tasks later j is_picked) in omega (arith, none, rest, first_ran)
+    | inl first ↦
+        let one = ap first_left first in
+        omega (arith, one, first_ran, sum_no_more after.connections w.connections less_each conns)
+    | inr later ↦
+        let none = ap first_left later in
+        omega (arith, none, first_ran, input_gone (pick_first w fit.tasks later j is_picked))
   ]
 
   -- the world after the commit is fit
@@ -158,7 +176,9 @@ module _ (rules : Meaning) (lawful : AreLawful rules) (terse : IsTerse rules) (w
 -- a claimed run that is committed
 pub run_less : RunsLeaveLess
 run_less rules w mid after conns more pass run at j seq outcome lawful terse fit claims commits =
-    let now : Happens rules (swept (with_claim w pass j)) (event.Commit pass run seq outcome) after = subst (λ (m : World). Happens rules m (event.Commit pass run seq outcome) after) claims.5 commits in
+    let now = subst (λ (m : World). Happens rules m (event.Commit pass run seq outcome) after) claims.5 commits in
     let last = committed_after rules lawful terse w conns more fit pass j claims.0 run seq outcome after claims.3 now in
     let is = is_run rules lawful terse w conns more fit pass j claims.0 claims.2 in
-    subst (λ (n : RunNo). IsRun w conns more n at after) (sym claims.3) (subst (λ (n : ℕ). IsRun w conns more (record { 0 = w.next }) n after) (sym claims.4) (subst (λ (v : World). IsRun w conns more (record { 0 = w.next }) w.moment v) (sym last) is))
+    let of_after = subst (λ (v : World). IsRun w conns more (record { 0 = w.next }) w.moment v) (sym last) is in
+    let at_moment = subst (λ (n : ℕ). IsRun w conns more (record { 0 = w.next }) n after) (sym claims.4) of_after in
+    subst (λ (n : RunNo). IsRun w conns more n at after) (sym claims.3) at_moment

@@ -38,11 +38,12 @@ module _ (after before : Connections) where
   sum_no_more less (conn ∷ conns) = omega (arith, less conn, sum_no_more less conns)
 
   -- and less where one of them leaves less
-  pub sum_less : AtEach LeavesNoMore after before → (conn : ConnNo) → left_at (get after conn) < left_at (get before conn) → (conns : List ConnNo) → Contains conns conn → left_in after conns < left_in before conns
+  pub sum_less : AtEach LeavesNoMore after before → (conn : ConnNo) → left_at (get after conn) < left_at (get before conn)
+      → (conns : List ConnNo) → Contains conns conn → left_in after conns < left_in before conns
   sum_less less conn fewer [] there = absurd (contains_none conn there)
   sum_less less conn fewer (first ∷ conns) there = elim (contains_cases first conn conns there) [
     | inl is ↦
-        let fewer_first : left_at (get after first) < left_at (get before first) = subst (λ (k : ConnNo). left_at (get after k) < left_at (get before k)) (sym is) fewer in
+        let fewer_first = subst (λ (k : ConnNo). left_at (get after k) < left_at (get before k)) (sym is) fewer in
         omega (arith, fewer_first, sum_no_more less conns)
     | inr later ↦ omega (arith, less first, sum_less less conn fewer conns later)
   ]
@@ -55,17 +56,18 @@ module _ (after before : Connections) where
   pub sum_apart : (conn : ConnNo) → NoMoreBut conn → (conns : List ConnNo) → (Contains conns conn → ⊥) → left_in after conns ≤ left_in before conns
   sum_apart conn less [] apart = omega arith
   sum_apart conn less (first ∷ conns) apart =
-      let here : left_at (get after first) ≤ left_at (get before first) = less first (λ e. apart (subst (Contains (first ∷ conns)) (one_conn first conn e) (contains_first first conns))) in
+      let here = less first (λ e. apart (subst (Contains (first ∷ conns)) (one_conn first conn e) (contains_first first conns))) in
       let rest = sum_apart conn less conns (λ there. apart (contains_later first conn conns there)) in
       omega (arith, here, rest)
 
   -- where the one leaves at most so many more
-  pub sum_one_more : (conn : ConnNo) (n : ℕ) → NoMoreBut conn → left_at (get after conn) ≤ left_at (get before conn) + n → (conns : List ConnNo) → AreDistinct conns → left_in after conns ≤ left_in before conns + n
+  pub sum_one_more : (conn : ConnNo) (n : ℕ) → NoMoreBut conn → left_at (get after conn) ≤ left_at (get before conn) + n
+      → (conns : List ConnNo) → AreDistinct conns → left_in after conns ≤ left_in before conns + n
   sum_one_more conn n less grown [] distinct = omega arith
   sum_one_more conn n less grown (first ∷ conns) distinct = elim (cases_eq first.0 conn.0) [
     | inl e ↦
         let is = one_conn first conn e in
-        let here : left_at (get after first) ≤ left_at (get before first) + n = subst (λ (k : ConnNo). left_at (get after k) ≤ left_at (get before k) + n) (sym is) grown in
+        let here = subst (λ (k : ConnNo). left_at (get after k) ≤ left_at (get before k) + n) (sym is) grown in
         let rest = sum_apart conn less conns (subst (λ (k : ConnNo). Contains conns k → ⊥) is distinct.0) in
         omega (arith, here, rest)
     | inr other ↦ omega (arith, less first other, sum_one_more conn n less grown conns distinct.1)

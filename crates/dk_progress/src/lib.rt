@@ -19,7 +19,7 @@ pub fn posts_fit()
     ensures { PostsFit }
 {}
 
-/// A claimed run that is committed leaves less to run than before its claim.
+/// A claimed run that is committed leaves less to run than before its claim, where the rules are lawful and terse.
 pub fn runs_leave_less()
     ensures { RunsLeaveLess }
 {}
