@@ -1,7 +1,7 @@
 //! A home in a folder: the files `store.0` and `store.1`.
 //!
-//! It makes one call of the system for each call, and tells nothing of content: what a system call gives
-//! or keeps is trusted.
+//! It makes one call of the system for each call, and asks for the length of a file once. It tells nothing of
+//! content: what a system call gives or keeps is trusted.
 ghost use Rattle.std.specs.Prelude.{◌≡◌, ◌≤◌, [], string_bytes, is_some, false, MatchResult, OnOk, OnErr};
 ghost use Rattle.dk_types.specs.Faults.{HasRisen, COUNT_END};
 ghost use Rattle.dk_disk.specs.Disk.{settled};
@@ -24,6 +24,49 @@ struct Pair {
     one: File,
 }
 
+impl Pair {
+    fn file(&self, side: Side) -> &File {
+        match side {
+            Side::Zero => &self.zero,
+            Side::One => &self.one,
+        }
+    }
+}
+
+/// The length of each file in bytes, where it is known. Nobody else writes the files, so that the system is
+/// asked once, and again after a call that failed.
+#[derive(Default, Drop)]
+struct Lengths {
+    zero: Option<u64>,
+    one: Option<u64>,
+}
+
+impl Lengths {
+    fn known(&self, side: Side) -> Option<u64> {
+        match side {
+            Side::Zero => self.zero,
+            Side::One => self.one,
+        }
+    }
+
+    fn set(&mut self, side: Side, length: Option<u64>) {
+        match side {
+            Side::Zero => self.zero = length,
+            Side::One => self.one = length,
+        }
+    }
+
+    /// The length of an opened file.
+    fn of(&mut self, pair: &Pair, side: Side) -> io::Result<u64> {
+        if let Some(length) = self.known(side) {
+            return Ok(length);
+        }
+        let length = pair.file(side).metadata()?.len();
+        self.set(side, Some(length));
+        Ok(length)
+    }
+}
+
 /// A home over a runtime's file system. `open` makes the folder, its parents and both files where they
 /// are absent, and puts them on the disk. After a sync that failed each later sync fails too, since the
 /// system may have dropped what was written: open the store anew.
@@ -34,6 +77,7 @@ pub struct FolderHome<R: Files<File = File> + Drop> {
     dir: String,
     was_called: bool,
     pair: Option<Pair>,
+    lengths: Lengths,
     has_lost: bool,
     faults: FaultCount,
 }
@@ -49,51 +93,52 @@ impl<R: Files<File = File> + Drop> FolderHome<R> {
             dir: String::new(alloc),
             was_called: false,
             pair: None,
+            lengths: Lengths::default(),
             has_lost: false,
             faults: FaultCount::new(),
         }
-    }
-
-    fn file(&self, side: Side) -> io::Result<&File> {
-        match (&self.pair, side) {
-            (Some(pair), Side::Zero) => Ok(&pair.zero),
-            (Some(pair), Side::One) => Ok(&pair.one),
-            (None, _) => Err(io::ErrorKind::NotFound.into()),
-        }
-    }
-
-    fn length(&self, side: Side) -> io::Result<u64> {
-        Ok(self.file(side)?.metadata()?.len())
-    }
-
-    fn fill(&self, side: Side, at: u64, into: &mut [u8]) -> io::Result<()> {
-        let length = self.length(side)?;
-        if at > length || into.len() as u64 > length - at {
-            return Err(io::ErrorKind::UnexpectedEof.into());
-        }
-        self.file(side)?.read_exact_at(into, at)
-    }
-
-    fn put(&self, side: Side, at: u64, bytes: &[u8]) -> io::Result<()> {
-        if at > self.length(side)? {
-            return Err(io::ErrorKind::InvalidInput.into());
-        }
-        self.file(side)?.write_all_at(bytes, at)
-    }
-
-    fn shorten(&self, side: Side, to: u64) -> io::Result<()> {
-        if to > self.length(side)? {
-            return Err(io::ErrorKind::InvalidInput.into());
-        }
-        self.file(side)?.set_len(to)
     }
 
     fn settle(&self, side: Side) -> io::Result<()> {
         if self.has_lost {
             return Err(io::ErrorKind::InvalidData.into());
         }
-        self.file(side)?.sync_data()
+        opened(&self.pair)?.file(side).sync_data()
     }
+}
+
+fn opened(pair: &Option<Pair>) -> io::Result<&Pair> {
+    pair.as_ref().ok_or(io::ErrorKind::NotFound.into())
+}
+
+fn fill(pair: &Pair, lengths: &mut Lengths, side: Side, at: u64, into: &mut [u8]) -> io::Result<()> {
+    let length = lengths.of(pair, side)?;
+    if at > length || into.len() as u64 > length - at {
+        return Err(io::ErrorKind::UnexpectedEof.into());
+    }
+    pair.file(side).read_exact_at(into, at)
+}
+
+fn put(pair: &Pair, lengths: &mut Lengths, side: Side, at: u64, bytes: &[u8]) -> io::Result<()> {
+    let length = lengths.of(pair, side)?;
+    if at > length {
+        return Err(io::ErrorKind::InvalidInput.into());
+    }
+    lengths.set(side, None);
+    pair.file(side).write_all_at(bytes, at)?;
+    let end = at.checked_add(bytes.len() as u64);
+    lengths.set(side, end.map(|end| end.max(length)));
+    Ok(())
+}
+
+fn shorten(pair: &Pair, lengths: &mut Lengths, side: Side, to: u64) -> io::Result<()> {
+    if to > lengths.of(pair, side)? {
+        return Err(io::ErrorKind::InvalidInput.into());
+    }
+    lengths.set(side, None);
+    pair.file(side).set_len(to)?;
+    lengths.set(side, Some(to));
+    Ok(())
 }
 
 /// Makes what is absent of the folder, its parents and its two files, and puts it on the disk.
@@ -177,28 +222,33 @@ impl<R: Files<File = File> + Drop> Home for FolderHome<R> {
         }
         self.was_called = true;
         self.pair = None;
+        self.lengths = Lengths::default();
         let outcome = open_pair(&self.system, self.alloc, dir);
         self.pair = Some(counted(&mut self.faults, outcome)?);
         Ok(())
     }
 
     fn len(&mut self, side: Side) -> Result<u64, Failed> {
-        let outcome = self.length(side);
+        let lengths = &mut self.lengths;
+        let outcome = opened(&self.pair).and_then(|pair| lengths.of(pair, side));
         counted(&mut self.faults, outcome)
     }
 
     fn read(&mut self, side: Side, at: u64, into: &mut [u8]) -> Result<(), Failed> {
-        let outcome = self.fill(side, at, into);
+        let lengths = &mut self.lengths;
+        let outcome = opened(&self.pair).and_then(|pair| fill(pair, lengths, side, at, into));
         counted(&mut self.faults, outcome)
     }
 
     fn write_at(&mut self, side: Side, at: u64, bytes: &[u8]) -> Result<(), Failed> {
-        let outcome = self.put(side, at, bytes);
+        let lengths = &mut self.lengths;
+        let outcome = opened(&self.pair).and_then(|pair| put(pair, lengths, side, at, bytes));
         counted(&mut self.faults, outcome)
     }
 
     fn cut(&mut self, side: Side, to: u64) -> Result<(), Failed> {
-        let outcome = self.shorten(side, to);
+        let lengths = &mut self.lengths;
+        let outcome = opened(&self.pair).and_then(|pair| shorten(pair, lengths, side, to));
         counted(&mut self.faults, outcome)
     }
 
