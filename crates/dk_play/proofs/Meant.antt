@@ -28,8 +28,8 @@ pub means_of-Updates : (es fs : List (List ℕ × ConnNo)) (name : List ℕ) (co
     → ((q : List ℕ) → lookup (is_at (bytes_cmp q)) fs ≡ cond (is_at (bytes_cmp name) q) (Some conn) (lookup (is_at (bytes_cmp q)) es)) → means_of fs ≡ maps.insert (means_of es) name conn
 means_of-Updates es fs name conn h =
     same_map names_total exact_names _ _ (λ q.
-      get-means_of fs q ∙ h q ∙ ap (λ b. cond b (Some conn) (lookup (is_at (bytes_cmp q)) es)) ((eq_by_cmp_equiv names_total).symm name q)
-      ∙ ap (cond (eq_by_cmp bytes_cmp q name) (Some conn)) (sym (get-means_of es q)) ∙ sym (get-insert names_total (means_of es) name conn q))
+    get-means_of fs q ∙ h q ∙ ap (λ b. cond b (Some conn) (lookup (is_at (bytes_cmp q)) es)) ((eq_by_cmp_equiv names_total).symm name q)
+    ∙ ap (cond (eq_by_cmp bytes_cmp q name) (Some conn)) (sym (get-means_of es q)) ∙ sym (get-insert names_total (means_of es) name conn q))
 
 -- a name that means a connection has one in the table
 pub found_means : (es : List (List ℕ × ConnNo)) (name : List ℕ) → maps.contains_key (means_of es) name ≡ true → None ≡ lookup (is_at (bytes_cmp name)) es → ⊥

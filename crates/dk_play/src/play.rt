@@ -37,16 +37,14 @@ pub fn play_script<G: Game>(alloc: Global, game: &G, lines: Vec<Line>) -> Result
 {
     let mut play = Play::open(alloc)?;
     play.drain(alloc, game)?;
-    let begun = play.events.len() as u64;
+    let begun = play.events.as_slice().len() as u64;
     play.enter_all(lines.as_slice())?;
     play.drain(alloc, game)?;
     play.hand_all()?;
-    let Play {
-        events, commits, ..
-    } = play;
     let mut marks = Vec::new(alloc);
     marks.push(0)?;
     marks.push(begun)?;
+    let (events, commits) = play.into_events();
     Ok(Played {
         events,
         marks,

@@ -19,7 +19,13 @@ impl Play {
         ensures counted { OnOk result (self.new.commits ≡ ran.seq) }
         ensures same { self.new ≡ record (self.old) { events = self.new.events; commits = self.new.commits } }
     {
-        let Ran { run, at, job, seq, outcome } = ran;
+        let Ran {
+            run,
+            at,
+            job,
+            seq,
+            outcome,
+        } = ran;
         self.commits = seq;
         self.events.push(Event::Claim {
             pass: 0,

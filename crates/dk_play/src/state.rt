@@ -50,4 +50,12 @@ impl Play {
             commits: 0,
         })
     }
+
+    /// The events, and how many of them are commits.
+    pub(crate) fn into_events(self) -> (Vec<Event>, u64)
+        ensures events { result.0 ≡ self.events }
+        ensures commits { result.1 ≡ self.commits }
+    {
+        (self.events, self.commits)
+    }
 }
