@@ -1,7 +1,6 @@
 -- The lines of a script are entered one after another.
-use Rattle.std.proofs.Common.{◌≡◌, ℕ, ◌+◌, ◌*◌, ◌≤◌, true, false, Option, Some, None, Result, Ok, Err, List, [], ◌∷◌, ◌++◌, length, is_some, refl, sym, ap, ◌∙◌, subst, arith, append_assoc}
+use Rattle.std.proofs.Common.{◌≡◌, ℕ, ◌+◌, ◌*◌, ◌≤◌, Some, List, [], ◌∷◌, ◌++◌, length, refl, sym, ap, ◌∙◌, subst, arith, append_assoc}
 use Rattle.std.proofs.lemmas.List.{append-nil, length_push}
-use Rattle.std.specs.List.{AllByRecursion}
 use Rattle.std.specs.FinMap as maps
 use Rattle.dk_types.specs.declared.number.ConnNo.{ConnNo}
 use Rattle.dk_types.specs.declared.job.Input.{Input}
@@ -15,17 +14,15 @@ use Rattle.dk_model.specs.declared.script.Line.{Line}
 use Rattle.dk_model.specs.declared.script.Line.TheVariants as line
 use Rattle.dk_model.specs.Worlds.{World}
 use Rattle.dk_model.specs.Events.{Meaning, Happens}
-use Rattle.dk_model.specs.Lawful.{AreLawful}
 use Rattle.dk_model.specs.Phases.{IsSmall}
 use Rattle.dk_model.specs.Scripts.{LineNames, AllMayStand, names_after}
 use Rattle.dk_model.specs.Transcripts.{Playing, EntersAll}
 use Rattle.dk_progress.specs.Fitness.{IsFit}
 use Rattle.dk_core.specs.declared.world.Core.{Core}
 use Rattle.dk_core.specs.Cores.{world_of, Enters}
-use Rattle.dk_serving.specs.Servings.{IsStandingFor}
 use Rattle.dk_serving.proofs.Honest.{standing_then}
 use Rattle.dk_play.specs.declared.state.Play.{Play}
-use Rattle.dk_play.specs.Plays.{means_of, playing_of, IsGoing, CanBeEntered, IsReadyFor, AllMean, IsReadyForAll, IsEntered, EntersLine, AreEntered, EntersLines}
+use Rattle.dk_play.specs.Plays.{means_of, playing_of, IsGoing, CanBeEntered, IsReadyFor, AllMean, IsReadyForAll, IsEntered, EntersLine, EntersLines}
 use Rattle.dk_play.proofs.Alls.{all-append}
 use Rattle.dk_play.proofs.Led.{goes_happens, enters_goes}
 use Rattle.dk_play.proofs.Meant.{login_means}

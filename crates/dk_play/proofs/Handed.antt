@@ -1,22 +1,19 @@
 -- Each connection is handed all that waits for it.
-use Rattle.std.proofs.Common.{◌≡◌, ℕ, Bool, List, [], ◌∷◌, ◌++◌, refl, sym, ap, ◌∙◌, subst, append_assoc}
+use Rattle.std.proofs.Common.{◌≡◌, List, [], ◌∷◌, ◌++◌, refl, sym, ap, ◌∙◌, subst, append_assoc}
 use Rattle.std.proofs.lemmas.List.{append-nil}
-use Rattle.std.specs.List.{AllByRecursion}
 use Rattle.dk_types.specs.declared.number.ConnNo.{ConnNo}
-use Rattle.dk_types.specs.declared.job.Out.{Out}
 use Rattle.dk_types.specs.declared.event.Event.{Event}
 use Rattle.dk_types.specs.declared.event.Event.TheVariants as event
 use Rattle.dk_types.specs.declared.limits.TheConstants.{OUTS_MOST_COUNT}
 use Rattle.dk_model.specs.Worlds.{World}
 use Rattle.dk_model.specs.Events.{Meaning}
-use Rattle.dk_model.specs.Lawful.{AreLawful}
 use Rattle.dk_model.specs.Phases.{IsSmall}
 use Rattle.dk_model.specs.Transcripts.{Hands}
 use Rattle.dk_progress.specs.Fitness.{IsFit}
-use Rattle.dk_core.specs.Cores.{world_of, Enters}
+use Rattle.dk_core.specs.Cores.{world_of}
 use Rattle.dk_serving.proofs.Honest.{standing_then}
 use Rattle.dk_play.specs.declared.state.Play.{Play}
-use Rattle.dk_play.specs.Plays.{IsGoing, AreHanded, HandsAll, IsHanded}
+use Rattle.dk_play.specs.Plays.{HandsAll, IsHanded}
 use Rattle.dk_play.proofs.Alls.{all-append}
 use Rattle.dk_play.proofs.Led.{goes_happens, enters_goes}
 use Rattle.dk_progress.proofs.Fits.{hands_all}

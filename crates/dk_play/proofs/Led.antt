@@ -1,7 +1,6 @@
 -- What the calls of a core do to the world that it is.
-use Rattle.std.proofs.Common.{◌≡◌, ℕ, ◌+◌, Option, List, [], ◌∷◌, ◌++◌, sym, ap, ◌∙◌, subst}
+use Rattle.std.proofs.Common.{◌≡◌, List, [], ◌∷◌, sym, ◌∙◌, subst}
 use Rattle.dk_types.specs.declared.event.Event.{Event}
-use Rattle.dk_model.specs.DurableWorlds.{DurableWorld}
 use Rattle.dk_model.specs.Worlds.{World}
 use Rattle.dk_model.specs.Events.{Meaning, Happens}
 use Rattle.dk_model.specs.Histories.{Leads}
@@ -9,7 +8,7 @@ use Rattle.dk_model.specs.Lawful.{AreLawful}
 use Rattle.dk_model.specs.Openings.{opening}
 use Rattle.dk_laws.proofs.OneWorld.{events_lead, parted}
 use Rattle.dk_core.specs.declared.world.Core.{Core}
-use Rattle.dk_core.specs.Cores.{world_of, StandsFor, Enters, IsStanding}
+use Rattle.dk_core.specs.Cores.{world_of, Enters, IsStanding}
 use Rattle.dk_serving.specs.Servings.{IsStandingFor, Goes}
 
 -- the events of a call lead from the one world to the other

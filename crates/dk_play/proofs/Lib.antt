@@ -6,3 +6,4 @@ pub mod Entered
 pub mod Ran
 pub mod Handed
 pub mod Phasing
+pub mod Tries

@@ -7,19 +7,17 @@ use Rattle.std.specs.List.{All, AllByRecursion, slice_range}
 use Rattle.std.specs.FinMap as maps
 use Rattle.std.specs.FinSet as sets
 use Rattle.dk_types.specs.declared.limits.TheConstants.{NUMBERS_END, SCRIPT_MOST_BYTES}
-use Rattle.dk_types.specs.declared.number.ConnNo.{ConnNo}
 use Rattle.dk_types.specs.declared.event.Event.{Event}
 use Rattle.dk_model.specs.declared.script.Line.{Line}
-use Rattle.dk_model.specs.Worlds.{World, fresh_world}
+use Rattle.dk_model.specs.Worlds.{fresh_world}
 use Rattle.dk_model.specs.Events.{Meaning}
 use Rattle.dk_model.specs.Lawful.{AreLawful}
-use Rattle.dk_model.specs.Orders.{OrderItem}
 use Rattle.dk_model.specs.Scripts.{AllMayStand}
 use Rattle.dk_model.specs.Phases.{IsSmall, AreSmall, phases_of}
 use Rattle.dk_model.specs.Transcripts.{Playing, Follows, Hands, IsQuiet, PlaysPhase, Plays, playing, IsPlayed}
 use Rattle.dk_core.specs.Cores.{world_of}
 use Rattle.dk_play.specs.declared.state.Play.{Play}
-use Rattle.dk_play.specs.Plays.{means_of, playing_of, IsGoing, IsReadyForAll, EntersLines, AreEntered, Serves, HandsAll, AreHanded}
+use Rattle.dk_play.specs.Plays.{means_of, playing_of, IsGoing, IsReadyForAll, EntersLines, AreEntered, Serves, AreHanded}
 use Rattle.dk_play.proofs.Alls.{all-append}
 use Rattle.dk_play.proofs.Meant.{none_mean}
 

@@ -1,12 +1,11 @@
 -- A job that is run, and the runs of many.
-use Rattle.std.proofs.Common.{◌≡◌, ℕ, ◌+◌, ◌<◌, ◌^◌, List, [], ◌∷◌, ◌++◌, Ok, refl, sym, ap, ◌∙◌, subst, arith, append_assoc}
+use Rattle.std.proofs.Common.{◌≡◌, ℕ, ◌<◌, ◌^◌, List, [], ◌∷◌, ◌++◌, refl, sym, ap, ◌∙◌, subst, arith, append_assoc}
 use Rattle.std.proofs.lemmas.List.{append-nil}
-use Rattle.std.specs.List.{AllByRecursion}
 use Rattle.dk_types.specs.declared.event.Event.{Event}
 use Rattle.dk_types.specs.declared.event.Event.TheVariants as event
 use Rattle.dk_types.specs.declared.event.ClaimReply.TheVariants as reply
 use Rattle.dk_model.specs.Worlds.{World}
-use Rattle.dk_model.specs.Events.{Meaning, Happens, step_of}
+use Rattle.dk_model.specs.Events.{Meaning, Happens}
 use Rattle.dk_model.specs.Lawful.{AreLawful}
 use Rattle.dk_model.specs.Orders.{OrderItem, Claimed, Committed, job_text, outcome_text}
 use Rattle.dk_model.specs.Phases.{IsSmall}
@@ -31,8 +30,15 @@ commit_counts : (rules : Meaning) → AreLawful rules → (w after : World) (pas
 commit_counts rules lawful w after pass ran h =
     h.3 ∙ sym (ap (λ (v : World). v.durable.commits) h.5 ∙ (step_goes_on rules lawful h.0.job ran.run h.0.at w.durable).commits)
 
-module _ (rules : Meaning) (lawful : AreLawful rules) (terse : IsTerse rules) (old new : Play) (ran : Ran) (start : IsGoing rules old 0) (goes : Goes rules old.core new.core (claim_of 0 ran ∷ commit_of 0 ran ∷ []))
-    (told : new.events.items ≡ old.events.items ++ claim_of 0 ran ∷ commit_of 0 ran ∷ []) (commits : new.commits ≡ ran.seq) (means : new.means.entries ≡ old.means.entries) (opened : new.opened.items ≡ old.opened.items) where
+module _ (rules : Meaning) (lawful : AreLawful rules) (terse : IsTerse rules) (old new : Play) (core : Core) (ran : Ran) (start : IsGoing rules old 0) (served : Goes rules old.core core (claim_of 0 ran ∷ commit_of 0 ran ∷ []))
+    (told : new.events.items ≡ old.events.items ++ claim_of 0 ran ∷ commit_of 0 ran ∷ []) (commits : new.commits ≡ ran.seq)
+    (same : new ≡ record { core = core; means = old.means; opened = old.opened; events = new.events; commits = new.commits }) where
+  goes : Goes rules old.core new.core (claim_of 0 ran ∷ commit_of 0 ran ∷ [])
+  goes = subst (λ (c : Core). Goes rules old.core c (claim_of 0 ran ∷ commit_of 0 ran ∷ [])) (sym (ap (λ (p : Play). p.core) same)) served
+
+  opened : new.opened.items ≡ old.opened.items
+  opened = ap (λ (p : Play). p.opened.items) same
+
   -- the run's claim and its commit follow
   pub ran_serves : Serves rules old new
   ran_serves =
@@ -46,7 +52,7 @@ module _ (rules : Meaning) (lawful : AreLawful rules) (terse : IsTerse rules) (o
         told = told;
         small = ((number, at), (number, tt));
         follows = (two.mid, refl, two.one, (world_of new.core, refl, two.two, refl));
-        same_means = means;
+        same_means = ap (λ (p : Play). p.means.entries) same;
         same_opened = opened;
         going = λ more going. record {
           standing = standing_then rules old.core new.core (claim_of 0 ran ∷ commit_of 0 ran ∷ []) going.standing goes;

@@ -1,9 +1,7 @@
 //! Plays by a game of one step. The events are worked by hand.
-ghost use Rattle.std.specs.Prelude.{◌≡◌, ◌≤◌, IfOk, codes, length};
-ghost use Rattle.std.specs.FinSet as sets;
-ghost use Rattle.dk_types.specs.declared.limits.TheConstants.{SCRIPT_MOST_BYTES};
+ghost use Rattle.std.specs.Prelude.{◌≡◌, ◌∷◌, ◌++◌, [], IfOk, OnOk, codes};
 ghost use Rattle.dk_model.specs.declared.script.Line.TheVariants as line;
-ghost use Rattle.dk_model.specs.Scripts.{AllMayStand};
+ghost use Rattle.dk_play.specs.Tried.{IsTried, two_sessions_lines, two_logins_lines};
 
 use crate::{Played, play_script};
 use dk_game::{Game, Halt};
@@ -66,47 +64,44 @@ fn hi(alloc: Global) -> Result<Blob, Fail>
     Ok(Blob::copy_of(alloc, b"hi")?)
 }
 
+fn login_line(lines: &mut Vec<Line>, name: Name) -> Result<(), Fail>
+    ensures { OnOk result (lines.new.items ≡ lines.old.items ++ line.Login name ∷ []) }
+{
+    lines.push(Line::Login { name })?;
+    Ok(())
+}
+
+fn send_line(lines: &mut Vec<Line>, name: Name, text: Blob) -> Result<(), Fail>
+    ensures { OnOk result (lines.new.items ≡ lines.old.items ++ line.Send name text ∷ []) }
+{
+    lines.push(Line::Send { name, text })?;
+    Ok(())
+}
+
 /// Two sessions, of which the second sends.
 fn two_sessions(alloc: Global) -> Result<Vec<Line>, Fail>
-    ensures stand { IfOk result (λ lines. AllMayStand sets.empty lines.items) }
-    ensures few { IfOk result (λ lines. length lines.items ≤ SCRIPT_MOST_BYTES) }
+    ensures { IfOk result (λ lines. lines.items ≡ two_sessions_lines) }
 {
-    let lines = [
-        Line::Login {
-            name: alice(alloc)?,
-        },
-        Line::Login { name: bob(alloc)? },
-        Line::Send {
-            name: bob(alloc)?,
-            text: hi(alloc)?,
-        },
-    ];
-    Ok(Vec::from_array(alloc, lines)?)
+    let mut lines = Vec::new(alloc);
+    login_line(&mut lines, alice(alloc)?)?;
+    login_line(&mut lines, bob(alloc)?)?;
+    send_line(&mut lines, bob(alloc)?, hi(alloc)?)?;
+    Ok(lines)
 }
 
 /// One name logs in twice, and then sends.
 fn two_logins(alloc: Global) -> Result<Vec<Line>, Fail>
-    ensures stand { IfOk result (λ lines. AllMayStand sets.empty lines.items) }
-    ensures few { IfOk result (λ lines. length lines.items ≤ SCRIPT_MOST_BYTES) }
+    ensures { IfOk result (λ lines. lines.items ≡ two_logins_lines) }
 {
-    let lines = [
-        Line::Login {
-            name: alice(alloc)?,
-        },
-        Line::Login {
-            name: alice(alloc)?,
-        },
-        Line::Send {
-            name: alice(alloc)?,
-            text: hi(alloc)?,
-        },
-    ];
-    Ok(Vec::from_array(alloc, lines)?)
+    let mut lines = Vec::new(alloc);
+    login_line(&mut lines, alice(alloc)?)?;
+    login_line(&mut lines, alice(alloc)?)?;
+    send_line(&mut lines, alice(alloc)?, hi(alloc)?)?;
+    Ok(lines)
 }
 
 fn played(alloc: Global, lines: Vec<Line>) -> Result<Played, NoMemory>
-    requires stand { AllMayStand sets.empty lines.items }
-    requires few { length lines.items ≤ SCRIPT_MOST_BYTES }
+    requires { IsTried lines.items }
 {
     play_script(alloc, &Herald, lines)
 }
@@ -145,11 +140,26 @@ fn commit(run: u64, seq: u64) -> Event {
     }
 }
 
+/// A run's claim and its commit.
+fn run(events: &mut Vec<Event>, run: u64, seq: u64, job: Job) -> Result<(), Fail> {
+    events.push(claim(run, job))?;
+    events.push(commit(run, seq))?;
+    Ok(())
+}
+
 fn login(conn: u64, name: Name) -> Job {
     Job::Login {
         conn: ConnNo(conn),
         name,
     }
+}
+
+fn message_hi(alloc: Global, conn: u64, name: Name) -> Result<Job, Fail> {
+    Ok(Job::Message {
+        conn: ConnNo(conn),
+        name,
+        body: hi(alloc)?,
+    })
 }
 
 /// All that waits for a connection is handed to it.
@@ -173,6 +183,13 @@ fn accepted(alloc: Global, heard: usize) -> Result<Vec<Out>, Fail> {
     Ok(outs)
 }
 
+fn refused(alloc: Global) -> Result<Vec<Out>, Fail> {
+    let mut outs = Vec::new(alloc);
+    outs.push(Out::Refused)?;
+    outs.push(Out::Close)?;
+    Ok(outs)
+}
+
 #[test]
 fn a_script_without_lines_is_the_first_run(rt: HostRuntime) -> Result<(), Fail> {
     let alloc = rt.alloc();
@@ -187,25 +204,16 @@ fn a_script_without_lines_is_the_first_run(rt: HostRuntime) -> Result<(), Fail> 
 
 /// What is told of two sessions behind the first run.
 fn two_sessions_told(alloc: Global) -> Result<Vec<Event>, Fail> {
-    let message = Job::Message {
-        conn: ConnNo(2),
-        name: bob(alloc)?,
-        body: hi(alloc)?,
-    };
-    let events = [
-        connect(alice(alloc)?, 1),
-        connect(bob(alloc)?, 2),
-        post_hi(alloc, 2)?,
-        claim(3, login(1, alice(alloc)?)),
-        commit(3, 2),
-        claim(4, login(2, bob(alloc)?)),
-        commit(4, 3),
-        claim(5, message),
-        commit(5, 4),
-        hand(1, accepted(alloc, 3)?, false),
-        hand(2, accepted(alloc, 0)?, false),
-    ];
-    Ok(Vec::from_array(alloc, events)?)
+    let mut events = Vec::new(alloc);
+    events.push(connect(alice(alloc)?, 1))?;
+    events.push(connect(bob(alloc)?, 2))?;
+    events.push(post_hi(alloc, 2)?)?;
+    run(&mut events, 3, 2, login(1, alice(alloc)?))?;
+    run(&mut events, 4, 3, login(2, bob(alloc)?))?;
+    run(&mut events, 5, 4, message_hi(alloc, 2, bob(alloc)?)?)?;
+    events.push(hand(1, accepted(alloc, 3)?, false))?;
+    events.push(hand(2, accepted(alloc, 0)?, false))?;
+    Ok(events)
 }
 
 #[test]
@@ -222,19 +230,15 @@ fn lines_are_entered_then_run_by_turns_then_handed(rt: HostRuntime) -> Result<()
 
 /// What is told of two logins of one name behind the first run: the second is refused, and what waits at it is dropped.
 fn two_logins_told(alloc: Global) -> Result<Vec<Event>, Fail> {
-    let refused = Vec::from_array(alloc, [Out::Refused, Out::Close])?;
-    let events = [
-        connect(alice(alloc)?, 1),
-        connect(alice(alloc)?, 2),
-        post_hi(alloc, 2)?,
-        claim(3, login(1, alice(alloc)?)),
-        commit(3, 2),
-        claim(4, login(2, alice(alloc)?)),
-        commit(4, 3),
-        hand(1, accepted(alloc, 1)?, false),
-        hand(2, refused, true),
-    ];
-    Ok(Vec::from_array(alloc, events)?)
+    let mut events = Vec::new(alloc);
+    events.push(connect(alice(alloc)?, 1))?;
+    events.push(connect(alice(alloc)?, 2))?;
+    events.push(post_hi(alloc, 2)?)?;
+    run(&mut events, 3, 2, login(1, alice(alloc)?))?;
+    run(&mut events, 4, 3, login(2, alice(alloc)?))?;
+    events.push(hand(1, accepted(alloc, 1)?, false))?;
+    events.push(hand(2, refused(alloc)?, true))?;
+    Ok(events)
 }
 
 #[test]

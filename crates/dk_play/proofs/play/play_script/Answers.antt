@@ -1,12 +1,10 @@
-use Rattle.std.proofs.Common.{◌≡◌, ◌+◌, ◌*◌, ◌≤◌, ◌∷◌, ◌++◌, [], List, ℕ, length, Vec, Global, None, sym, ap, ◌∙◌, subst, arith}
+use Rattle.std.proofs.Common.{◌≡◌, ◌∷◌, ◌++◌, [], List, ℕ, length, Vec, Global, None, sym, ap, ◌∙◌, subst, arith}
 use Rattle.std.proofs.lemmas.List.{length-append}
-use Rattle.std.proofs.lemmas.Grind.{common_steps}
-use Rattle.dk_model.specs.declared.script.Line.{Line}
 use Rattle.dk_types.specs.declared.event.Event.{Event}
 use Rattle.dk_model.specs.Worlds.{fresh_world}
 use Rattle.dk_model.specs.Phases.{phases_of}
 use Rattle.dk_model.specs.Transcripts.{IsPlayed}
-use Rattle.dk_play.specs.Plays.{IsGoing, IsReadyForAll, EntersLines, HandsAll}
+use Rattle.dk_play.specs.Plays.{IsReadyForAll, EntersLines}
 use Rattle.dk_play.proofs.Phasing.{both_played, ready_lines, entered_lines, later, lines_told, marks_within}
 use Rattle.dk_play.proofs.play.play_script.Goals as goal
 

@@ -1,4 +1,4 @@
-use Rattle.std.proofs.Common.{◌≡◌, ◌++◌, ◌∷◌, [], length, take, drop, sym, ap, ◌∙◌, subst, arith, ◌+◌}
+use Rattle.std.proofs.Common.{◌≡◌, ◌++◌, ◌∷◌, [], take, drop, sym, ap, ◌∙◌, subst, arith, ◌+◌}
 use Rattle.std.proofs.lemmas.List.{drop_more, take_more, take_all}
 use Rattle.dk_model.specs.declared.script.Line.{Line}
 use Rattle.dk_play.specs.Plays.{IsReadyForAll, EntersLines}

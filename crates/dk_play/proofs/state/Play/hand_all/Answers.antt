@@ -1,4 +1,4 @@
-use Rattle.std.proofs.Common.{◌+◌, take, refl, sym, ◌∙◌, subst, arith}
+use Rattle.std.proofs.Common.{take, refl, sym, ◌∙◌, subst}
 use Rattle.std.proofs.lemmas.List.{take_all, take_more}
 use Rattle.dk_play.specs.declared.state.Play.{Play}
 use Rattle.dk_play.specs.Plays.{HandsAll}

@@ -1,4 +1,4 @@
-use Rattle.std.proofs.Common.{◌≡◌, Err, refl, subst, ◌++◌, ◌∷◌, [], ap, ◌∙◌, sym, List, ℕ}
+use Rattle.std.proofs.Common.{Err, refl, subst, ◌++◌, ◌∷◌, [], ap, ◌∙◌, List, ℕ}
 use Rattle.dk_types.specs.declared.event.Event.TheVariants as event
 use Rattle.dk_types.specs.declared.event.ConnectReply.TheVariants as reply
 use Rattle.dk_model.specs.declared.script.Line.TheVariants as line

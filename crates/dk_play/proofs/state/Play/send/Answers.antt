@@ -1,8 +1,7 @@
-use Rattle.std.proofs.Common.{◌≡◌, ℕ, Some, List, [], ◌∷◌, ◌++◌, refl, sym, ap, ◌∙◌, subst}
+use Rattle.std.proofs.Common.{ℕ, List, [], ◌∷◌, ◌++◌, refl, sym, ap, ◌∙◌, subst}
 use Rattle.dk_types.specs.declared.job.Input.TheVariants as input
 use Rattle.dk_types.specs.declared.event.Event.TheVariants as event
 use Rattle.dk_core.specs.Cores.{Enters}
-use Rattle.dk_model.proofs.ScriptLimits.{text_body}
 use Rattle.dk_play.specs.declared.state.Play.{Play}
 use Rattle.dk_play.proofs.Entered.{send_entered}
 use Rattle.dk_play.proofs.Meant.{found_means, get-means_of}

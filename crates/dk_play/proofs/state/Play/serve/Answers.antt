@@ -1,5 +1,5 @@
-use Rattle.std.proofs.Common.{◌≡◌, ◌∷◌, [], refl, sym, ap, subst, inl, inr}
-use Rattle.dk_serving.specs.Servings.{Goes, events_of, claim_of, commit_of}
+use Rattle.std.proofs.Common.{refl, subst, inl, inr}
+use Rattle.dk_serving.specs.Servings.{Goes, events_of}
 use Rattle.dk_play.specs.declared.state.Play.{Play}
 use Rattle.dk_play.proofs.Ran.{ran_serves, ran_less, idle_quiet, never_spent, never_exhausted}
 use Rattle.dk_play.proofs.state.Play.serve.Goals as goal
@@ -25,11 +25,10 @@ returns-in_ok-tell-in-Ran g c =
     let rules = g.G.Rules.rules c.args.game.now in
     let lawful = g.G.Rules.lawful c.args.game.now in
     let old = c.args.self.now in
-    let new = c.tell.new.self in
+    let core = c.serve_next.new.core in
     let ran = c.in-Ran.ran in
-    let same = c.in_ok-tell-in-Ran.ensures.same in
-    let goes = subst (λ s. Goes rules old.core c.serve_next.new.core (events_of 0 s)) c.in-Ran.is c.in_ok-ran.ensures in
-    let goes_new = subst (λ k. Goes rules old.core k (claim_of 0 ran ∷ commit_of 0 ran ∷ [])) (sym (ap (λ (p : Play). p.core) same)) goes in (
-      ran_serves rules lawful c.requires.terse old new ran c.requires.going goes_new c.in_ok-tell-in-Ran.ensures.told c.in_ok-tell-in-Ran.ensures.counted (ap (λ (p : Play). p.means.entries) same) (ap (λ (p : Play). p.opened.items) same),
-      ran_less rules lawful c.requires.terse old new ran c.requires.going goes_new c.in_ok-tell-in-Ran.ensures.told c.in_ok-tell-in-Ran.ensures.counted (ap (λ (p : Play). p.means.entries) same) (ap (λ (p : Play). p.opened.items) same),
+    let told = c.in_ok-tell-in-Ran.ensures in
+    let served = subst (λ s. Goes rules old.core core (events_of 0 s)) c.in-Ran.is c.in_ok-ran.ensures in (
+      ran_serves rules lawful c.requires.terse old c.tell.new.self core ran c.requires.going served told.told told.counted told.same,
+      ran_less rules lawful c.requires.terse old c.tell.new.self core ran c.requires.going served told.told told.counted told.same,
     )
