@@ -13,9 +13,9 @@ use Rattle.sword_world.specs.Rules.{sword_rules}
 abbrev pub play_words : List (List ℕ)
 play_words = codes "play" ∷ []
 
--- the bytes are a script of some lines
-abbrev pub HasLines : List ℕ → Type 0
-HasLines bytes = (lines : List Line) × IsScript bytes lines
+-- the bytes have some lines as a script
+abbrev pub IsPlayable : List ℕ → Type 0
+IsPlayable bytes = (lines : List Line) × IsScript bytes lines
 
 -- whatever the lines, the bytes are no script of them; so are more bytes than a script may have
 abbrev pub IsNoScript : List ℕ → Type 0

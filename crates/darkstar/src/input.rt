@@ -18,7 +18,7 @@ pub enum Refused {
     NoMemory,
     /// The source failed.
     ReadFault,
-    /// The bytes are no script that can be played yet.
+    /// The bytes are no script.
     NotYet,
 }
 

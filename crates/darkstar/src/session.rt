@@ -12,7 +12,7 @@ use dk_types::{Blob, NoMemory};
 use std::alloc::Global;
 use sword_world::SwordWorld;
 
-/// The transcript of a play of the script, from the empty world on.
+/// The transcript of a play of the script's lines, from the empty world on.
 pub fn transcript(alloc: Global, lines: Vec<Line>) -> Result<Blob, NoMemory>
     requires stand { AllMayStand sets.empty lines.items }
     requires few { length lines.items ≤ SCRIPT_MOST_BYTES }

@@ -5,6 +5,7 @@ use crate::status::Status;
 use dk_edge::{MemorySink, MemorySource, Source};
 use dk_types::{Failed, NoMemory, Words};
 use std::alloc::{AllocError, Global};
+use std::process::Abort;
 use std::test::Fail;
 
 const EMPTY: &str = "phase 0
@@ -70,31 +71,7 @@ to 1 alice message You carry nothing.
 done commits 7 tasks 0
 ";
 
-const TWO_SESSIONS: &str = "phase 0
-claim 0 at 0 initialize
-commit 1 run 0 ok
-phase 1
-open 1 alice
-open 2 bob
-claim 3 at 0 login alice
-commit 2 run 3 ok
-claim 4 at 0 login bob
-commit 3 run 4 ok
-claim 5 at 0 message alice
-commit 4 run 5 ok
-claim 6 at 0 message bob
-commit 5 run 6 ok
-claim 7 at 0 message bob
-commit 6 run 7 ok
-to 1 alice accepted
-to 1 alice message You take a shiny sword.
-to 2 bob accepted
-to 2 bob message You are in a plain room.\\x0aAlso in here: alice.\\x0a
-to 2 bob message There is nothing to take.
-done commits 6 tasks 0
-";
-
-const SECOND_LOGIN: &str = "phase 0
+const TWICE: &str = "phase 0
 claim 0 at 0 initialize
 commit 1 run 0 ok
 phase 1
@@ -110,28 +87,22 @@ to 2 alice close
 done commits 3 tasks 0
 ";
 
-// N stands for a name of 255 bytes.
-const LONGEST_NAME: &str = "phase 0
-claim 0 at 0 initialize
-commit 1 run 0 ok
-phase 1
-open 1 N
-claim 2 at 0 login N
-commit 2 run 2 fail r4
-to 1 N refused
-to 1 N close
-done commits 2 tasks 0
-";
-
-const FULL: &str = "phase 0
+const PAIR: &str = "phase 0
 claim 0 at 0 initialize
 commit 1 run 0 ok
 phase 1
 open 1 alice
-full 1 alice
-claim 2 at 0 login alice
-commit 2 run 2 ok
-claim 3 at 0 message alice
+open 2 bob
+claim 3 at 0 login alice
+commit 2 run 3 ok
+claim 4 at 0 login bob
+commit 3 run 4 ok
+claim 5 at 0 message alice
+commit 4 run 5 ok
+to 1 alice accepted
+to 1 alice message You are in a plain room.\\x0aAlso in here: bob.\\x0aOn the floor: a shiny sword.\\x0a
+to 2 bob accepted
+done commits 4 tasks 0
 ";
 
 /// A source with no end, which tells nothing of its bytes.
@@ -173,31 +144,13 @@ fn played(alloc: Global, bytes: &[u8], failing: u64) -> Result<(Status, MemorySi
     Ok((status, out))
 }
 
-// A login and so many times a send.
-fn many_sends(
-    alloc: Global,
-    login: &[u8],
-    send: &[u8],
-    sends: usize,
-) -> Result<Vec<u8>, AllocError> {
-    let mut script = login.to_vec(alloc)?;
+// A login and so many sends.
+fn many_sends(alloc: Global, sends: usize) -> Result<Vec<u8>, AllocError> {
+    let mut script = Vec::from_slice(alloc, b"login a\n")?;
     for _ in 0..sends {
-        script.extend_from_slice(send)?;
+        script.extend_from_slice(b"send a hum\n")?;
     }
     Ok(script)
-}
-
-// The text with 255 times `a` in place of each `N`.
-fn with_longest_name(alloc: Global, text: &str) -> Result<Vec<u8>, AllocError> {
-    let mut bytes = Vec::new(alloc);
-    for byte in text.as_bytes() {
-        if *byte == b'N' {
-            bytes.extend_from_slice(&[b'a'; 255])?;
-        } else {
-            bytes.push(*byte)?;
-        }
-    }
-    Ok(bytes)
 }
 
 #[test]
@@ -210,11 +163,8 @@ fn transcripts_are_as_worked(rt: HostRuntime) -> Result<(), Fail> {
             "login alice\nsend alice take\nsend alice look\nsend alice take\nsend alice drop\nsend alice drop\n",
             SWORD,
         ),
-        (
-            "login alice\nlogin bob\nsend bob look\nsend alice take\nsend bob take\n",
-            TWO_SESSIONS,
-        ),
-        ("login alice\nlogin alice\n", SECOND_LOGIN),
+        ("# twice\nlogin alice\n\nlogin alice\n", TWICE),
+        ("login alice\nlogin bob\nsend alice look\n", PAIR),
     ];
     for (script, text) in rows {
         let (status, out) = played(rt.alloc(), script.as_bytes(), 0)?;
@@ -260,34 +210,49 @@ fn other_input_is_not_yet_played(rt: HostRuntime) -> Result<(), Fail> {
 }
 
 #[test]
-fn a_name_that_is_too_long_for_its_record_is_refused(rt: HostRuntime) -> Result<(), Fail> {
-    let alloc = rt.alloc();
-    let script = with_longest_name(alloc, "login N\n")?;
-    let text = with_longest_name(alloc, LONGEST_NAME)?;
-    let (status, out) = played(alloc, script.as_slice(), 0)?;
-    assert_eq!(rt; status, Status::Ok);
-    assert_eq!(rt; out.contents(), text.as_slice());
-    Ok(())
-}
-
-#[test]
-fn one_send_too_many_is_told_and_not_run(rt: HostRuntime) -> Result<(), Fail> {
-    let alloc = rt.alloc();
-    let script = many_sends(alloc, b"login alice\n", b"send alice look\n", 1_024)?;
-    let (status, out) = played(alloc, script.as_slice(), 0)?;
-    assert_eq!(rt; status, Status::Ok);
-    assert!(rt; out.contents().starts_with(FULL.as_bytes()));
-    assert!(rt; out.contents().ends_with(b"\ndone commits 1025 tasks 0\n"));
-    Ok(())
-}
-
-#[test]
 fn too_many_bytes_are_not_yet_played(rt: HostRuntime) -> Result<(), Fail> {
     let alloc = rt.alloc();
     let mut out = MemorySink::new(alloc, Vec::new(alloc));
     let status = run(alloc, &play_word(alloc)?, &mut Flood, &mut out);
     assert_eq!(rt; status, Status::NotYet);
     assert_eq!(rt; out.calls(), 0);
+    Ok(())
+}
+
+// The lines at the end of what `play` writes of these bytes.
+fn ends_so(rt: &impl Abort, alloc: Global, bytes: &[u8], end: &str) -> Result<(), Fail> {
+    let (status, out) = played(alloc, bytes, 0)?;
+    assert_eq!(rt; status, Status::Ok);
+    assert!(rt; out.contents().ends_with(end.as_bytes()), "{end:?}");
+    Ok(())
+}
+
+#[test]
+fn a_name_too_long_for_its_player_is_refused(rt: HostRuntime) -> Result<(), Fail> {
+    let alloc = rt.alloc();
+    let mut name = Vec::new(alloc);
+    for _ in 0..255 {
+        name.push(b'a')?;
+    }
+    let name = name.as_slice();
+    let mut script = Vec::from_slice(alloc, b"login ")?;
+    script.extend_from_slice(name)?;
+    let text = std::str::from_utf8(name).ok().ok_or("a name")?;
+    let end = format!(in alloc;
+        "open 1 {text}\nclaim 2 at 0 login {text}\ncommit 2 run 2 fail r4\nto 1 {text} refused\nto 1 {text} close\ndone commits 2 tasks 0\n"
+    )?;
+    ends_so(&rt, alloc, script.as_slice(), end.as_str())
+}
+
+#[test]
+fn an_input_too_many_is_told(rt: HostRuntime) -> Result<(), Fail> {
+    let alloc = rt.alloc();
+    let script = many_sends(alloc, 1_024)?;
+    let (status, out) = played(alloc, script.as_slice(), 0)?;
+    assert_eq!(rt; status, Status::Ok);
+    let text = std::str::from_utf8(out.contents()).ok().ok_or("text")?;
+    assert!(rt; text.contains("open 1 a\nfull 1 a\nclaim 2 at 0 login a\n"));
+    assert!(rt; text.ends_with("done commits 1025 tasks 0\n"));
     Ok(())
 }
 
@@ -309,7 +274,7 @@ fn each_failing_read_stops_it(rt: HostRuntime) -> Result<(), Fail> {
 #[test]
 fn each_failing_write_leaves_a_prefix(rt: HostRuntime) -> Result<(), Fail> {
     let alloc = rt.alloc();
-    let script = many_sends(alloc, b"login a\n", b"send a hum\n", 400)?;
+    let script = many_sends(alloc, 400)?;
     let (status, whole) = played(alloc, script.as_slice(), 0)?;
     assert_eq!(rt; status, Status::Ok);
     assert_eq!(rt; whole.calls(), 3);
