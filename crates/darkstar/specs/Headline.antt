@@ -3,7 +3,7 @@ use Rattle.std.specs.Prelude.{◌≡◌, ℕ, List, [], ◌∷◌, Option, Some,
 use Rattle.std.specs.Io.KnownBytes.{Appends}
 use Rattle.dk_edge.specs.Streams.{AppendsPrefix}
 use Rattle.dk_model.specs.declared.script.Line.{Line}
-use Rattle.dk_model.specs.Scripts.{IsFirstScript}
+use Rattle.dk_model.specs.Scripts.{IsScript}
 use Rattle.dk_model.specs.Worlds.{fresh_world}
 use Rattle.dk_model.specs.Orders.{order_of}
 use Rattle.dk_model.specs.Transcripts.{IsTranscript}
@@ -14,12 +14,12 @@ abbrev pub play_words : List (List ℕ)
 play_words = codes "play" ∷ []
 
 -- the bytes have some lines as a script
-abbrev pub IsScript : List ℕ → Type 0
-IsScript bytes = (lines : List Line) × IsFirstScript bytes lines
+abbrev pub IsPlayable : List ℕ → Type 0
+IsPlayable bytes = (lines : List Line) × IsScript bytes lines
 
 -- whatever the lines, the bytes are no script of them; so are more bytes than a script may have
 abbrev pub IsNoScript : List ℕ → Type 0
-IsNoScript bytes = (lines : List Line) → IsFirstScript bytes lines → ⊥
+IsNoScript bytes = (lines : List Line) → IsScript bytes lines → ⊥
 
 -- these are all the bytes that were left, and none is left now
 abbrev pub ReadsAll : Option (List ℕ) → Option (List ℕ) → List ℕ → Type 0
@@ -30,7 +30,7 @@ ReadsAll (Some xs) left' bytes = (bytes ≡ xs) × (left' ≡ Some [])
 pub record IsReadScript (left left' : Option (List ℕ)) (lines : List Line) : Type 0 where
   pub bytes : List ℕ
   pub all : ReadsAll left left' bytes
-  pub script : IsFirstScript bytes lines
+  pub script : IsScript bytes lines
 
 -- the text is the transcript of SwordWorld for these lines, from the empty world on, in the order that the text itself tells
 abbrev pub IsToldPlay : List Line → List ℕ → Type 0

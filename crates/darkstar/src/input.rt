@@ -1,11 +1,11 @@
 //! What a command reads.
-ghost use Rattle.std.specs.Prelude.{◌≡◌, ◌<◌, length, IfOk, IfSome, IsErrOf, MatchResult};
+ghost use Rattle.std.specs.Prelude.{◌≡◌, ◌<◌, ◌≤◌, length, IfOk, IfSome, IsErrOf, MatchResult};
 ghost use Rattle.darkstar.specs.Headline.{ReadsAll, IsReadScript, IsNoScript};
 ghost use Rattle.darkstar.specs.Reading.{CountsRead};
 
 use dk_edge::Source;
 use dk_model::limits::SCRIPT_MOST_BYTES;
-use dk_script::{Script, ScriptRefused, parse_first_script};
+use dk_script::{Script, ScriptRefused, parse_script};
 use dk_types::{Failed, NoMemory};
 use std::alloc::{AllocError, Global};
 
@@ -18,7 +18,7 @@ pub enum Refused {
     NoMemory,
     /// The source failed.
     ReadFault,
-    /// The bytes are no script that can be played yet.
+    /// The bytes are no script.
     NotYet,
 }
 
@@ -58,11 +58,12 @@ impl From<Failed> for Refused {
 /// Reads the source to its end as a script. Its bytes are let go before this returns.
 pub fn read_script<S: Source>(alloc: Global, input: &mut S) -> Result<Script, Refused>
     ensures ok { IfOk result (λ script. IsReadScript (S.remaining input.old) (S.remaining input.new) script.lines) }
+    ensures few { IfOk result (λ script. length script.lines ≤ SCRIPT_MOST_BYTES) }
     ensures not_yet { IsErrOf result Refused.NotYet → IfSome (S.remaining input.old) IsNoScript }
     ensures count { CountsRead result (S.counted input.old) (S.counted input.new) }
 {
     let bytes = read_all(alloc, input)?;
-    match parse_first_script(alloc, bytes.as_slice()) {
+    match parse_script(alloc, bytes.as_slice()) {
         Ok(script) => Ok(script),
         Err(ScriptRefused::NotYet) => Err(Refused::NotYet),
         Err(ScriptRefused::NoMemory) => Err(Refused::NoMemory),

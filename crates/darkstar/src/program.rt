@@ -1,7 +1,7 @@
 //! The top call: a whole command.
 ghost use Rattle.std.specs.Prelude.{◌≡◌, ◌≢◌, ◌↔◌, IfOk, IfSome, IsSomeAnd, IsErrOf, IsTrue};
 ghost use Rattle.dk_types.specs.Faults.{HasRisen};
-ghost use Rattle.darkstar.specs.Headline.{play_words, IsReadPlay, IsDone, IsTorn, IsScript, IsNoScript};
+ghost use Rattle.darkstar.specs.Headline.{play_words, IsReadPlay, IsDone, IsTorn, IsPlayable, IsNoScript};
 ghost use Rattle.darkstar.specs.Statuses.{CountsSource, CountsSink, ComesForNoScript, IsOkOrNoMemory};
 ghost use Rattle.darkstar.specs.Reading.{CountsRead};
 
@@ -14,7 +14,7 @@ use dk_types::{Blob, Words};
 use std::alloc::Global;
 
 /// Runs the command of these words. The one command is `play`: it reads the source to its end as a
-/// script of one session, plays it on a world in memory that starts empty, and writes the transcript.
+/// script, plays its sessions on a world in memory that starts empty, and writes the transcript.
 pub fn run<S: Source, K: Sink>(alloc: Global, words: &Words, input: &mut S, out: &mut K) -> Status
     // The words.
     ensures usage { (result ≡ Status.Usage) ↔ (words.now ≢ play_words) }
@@ -33,7 +33,7 @@ pub fn run<S: Source, K: Sink>(alloc: Global, words: &Words, input: &mut S, out:
     ensures no_script { IfSome (S.remaining input.old) (λ bytes. IsNoScript bytes → ComesForNoScript result) }
 
     // A script that no fault meets is played, if there is memory.
-    ensures complete { words.now ≡ play_words → IsSomeAnd (S.remaining input.old) IsScript → ¬ HasRisen (S.counted input.old) (S.counted input.new) → ¬ HasRisen (K.counted out.old) (K.counted out.new) → IsOkOrNoMemory result }
+    ensures complete { words.now ≡ play_words → IsSomeAnd (S.remaining input.old) IsPlayable → ¬ HasRisen (S.counted input.old) (S.counted input.new) → ¬ HasRisen (K.counted out.old) (K.counted out.new) → IsOkOrNoMemory result }
 {
     if !is_play(words) {
         return Status::Usage;

@@ -5,6 +5,7 @@ use crate::status::Status;
 use dk_edge::{MemorySink, MemorySource, Source};
 use dk_types::{Failed, NoMemory, Words};
 use std::alloc::{AllocError, Global};
+use std::process::Abort;
 use std::test::Fail;
 
 const EMPTY: &str = "phase 0
@@ -70,6 +71,40 @@ to 1 alice message You carry nothing.
 done commits 7 tasks 0
 ";
 
+const TWICE: &str = "phase 0
+claim 0 at 0 initialize
+commit 1 run 0 ok
+phase 1
+open 1 alice
+open 2 alice
+claim 3 at 0 login alice
+commit 2 run 3 ok
+claim 4 at 0 login alice
+commit 3 run 4 ok
+to 1 alice accepted
+to 2 alice refused
+to 2 alice close
+done commits 3 tasks 0
+";
+
+const PAIR: &str = "phase 0
+claim 0 at 0 initialize
+commit 1 run 0 ok
+phase 1
+open 1 alice
+open 2 bob
+claim 3 at 0 login alice
+commit 2 run 3 ok
+claim 4 at 0 login bob
+commit 3 run 4 ok
+claim 5 at 0 message alice
+commit 4 run 5 ok
+to 1 alice accepted
+to 1 alice message You are in a plain room.\\x0aAlso in here: bob.\\x0aOn the floor: a shiny sword.\\x0a
+to 2 bob accepted
+done commits 4 tasks 0
+";
+
 /// A source with no end, which tells nothing of its bytes.
 #[derive(Drop)]
 struct Flood;
@@ -128,6 +163,8 @@ fn transcripts_are_as_worked(rt: HostRuntime) -> Result<(), Fail> {
             "login alice\nsend alice take\nsend alice look\nsend alice take\nsend alice drop\nsend alice drop\n",
             SWORD,
         ),
+        ("# twice\nlogin alice\n\nlogin alice\n", TWICE),
+        ("login alice\nlogin bob\nsend alice look\n", PAIR),
     ];
     for (script, text) in rows {
         let (status, out) = played(rt.alloc(), script.as_bytes(), 0)?;
@@ -157,7 +194,6 @@ fn other_words_touch_no_stream(rt: HostRuntime) -> Result<(), Fail> {
 fn other_input_is_not_yet_played(rt: HostRuntime) -> Result<(), Fail> {
     let inputs = [
         "login alice\nsync\n",
-        "login alice\nlogin bob\n",
         "login alice\nsend bob look\n",
         "send bob look\n",
         "login a b\n",
@@ -174,16 +210,49 @@ fn other_input_is_not_yet_played(rt: HostRuntime) -> Result<(), Fail> {
 }
 
 #[test]
-fn too_many_sends_or_bytes_are_not_yet_played(rt: HostRuntime) -> Result<(), Fail> {
+fn too_many_bytes_are_not_yet_played(rt: HostRuntime) -> Result<(), Fail> {
     let alloc = rt.alloc();
-    let script = many_sends(alloc, 1_024)?;
-    let (status, out) = played(alloc, script.as_slice(), 0)?;
-    assert_eq!(rt; status, Status::NotYet);
-    assert_eq!(rt; out.calls(), 0);
     let mut out = MemorySink::new(alloc, Vec::new(alloc));
     let status = run(alloc, &play_word(alloc)?, &mut Flood, &mut out);
     assert_eq!(rt; status, Status::NotYet);
     assert_eq!(rt; out.calls(), 0);
+    Ok(())
+}
+
+// The lines at the end of what `play` writes of these bytes.
+fn ends_so(rt: &impl Abort, alloc: Global, bytes: &[u8], end: &str) -> Result<(), Fail> {
+    let (status, out) = played(alloc, bytes, 0)?;
+    assert_eq!(rt; status, Status::Ok);
+    assert!(rt; out.contents().ends_with(end.as_bytes()), "{end:?}");
+    Ok(())
+}
+
+#[test]
+fn a_name_too_long_for_its_player_is_refused(rt: HostRuntime) -> Result<(), Fail> {
+    let alloc = rt.alloc();
+    let mut name = Vec::new(alloc);
+    for _ in 0..255 {
+        name.push(b'a')?;
+    }
+    let name = name.as_slice();
+    let mut script = Vec::from_slice(alloc, b"login ")?;
+    script.extend_from_slice(name)?;
+    let text = std::str::from_utf8(name).ok().ok_or("a name")?;
+    let end = format!(in alloc;
+        "open 1 {text}\nclaim 2 at 0 login {text}\ncommit 2 run 2 fail r4\nto 1 {text} refused\nto 1 {text} close\ndone commits 2 tasks 0\n"
+    )?;
+    ends_so(&rt, alloc, script.as_slice(), end.as_str())
+}
+
+#[test]
+fn an_input_too_many_is_told(rt: HostRuntime) -> Result<(), Fail> {
+    let alloc = rt.alloc();
+    let script = many_sends(alloc, 1_024)?;
+    let (status, out) = played(alloc, script.as_slice(), 0)?;
+    assert_eq!(rt; status, Status::Ok);
+    let text = std::str::from_utf8(out.contents()).ok().ok_or("text")?;
+    assert!(rt; text.contains("open 1 a\nfull 1 a\nclaim 2 at 0 login a\n"));
+    assert!(rt; text.ends_with("done commits 1025 tasks 0\n"));
     Ok(())
 }
 

@@ -1,7 +1,7 @@
-//! The first path: a script of one session, from bytes to bytes.
+//! The first path: a script of one session, from bytes to bytes, over the core.
 
-use dk_play::play_session;
-use dk_script::{parse_first_script, transcript_of};
+use dk_play::play_script;
+use dk_script::{parse_script, transcript_of};
 use dk_types::NoMemory;
 use std::alloc::Global;
 use sword_world::SwordWorld;
@@ -13,9 +13,9 @@ const TEXT_BYTES: usize = 16_000;
 /// nothing where the script is refused or memory is wanting.
 pub fn first_path(alloc: Global, sends: u32) -> Option<usize> {
     let bytes = script_of(alloc, sends).ok()?;
-    let script = parse_first_script(alloc, bytes.as_slice()).ok()?;
+    let script = parse_script(alloc, bytes.as_slice()).ok()?;
     drop(bytes);
-    let played = play_session(alloc, &SwordWorld::new(), script.lines.into_vec()).ok()?;
+    let played = play_script(alloc, &SwordWorld::new(), script.lines.into_vec()).ok()?;
     let text = transcript_of(
         alloc,
         played.events.as_slice(),

@@ -3,13 +3,16 @@
 #![tactic(auto)]
 
 mod channels;
+mod cores;
 mod disk;
+mod filler;
 mod first_path;
 mod stores;
 mod tasks;
 mod txn;
 
 use channels::{Doing, on_channel};
+use cores::{CoreWork, on_core};
 use disk::{folder_appends, memory_calls};
 use dk_turn_uses::{empty_turns_anew, locked_adds, tally_in_threads};
 use first_path::first_path;
@@ -21,7 +24,6 @@ use std::sync::Wait;
 use std::thread::Threads;
 use std::time::Clock;
 use stores::Timed;
-use tasks::{Work, tasks_in_stores};
 use txn::txn_calls;
 
 /// What is run.
@@ -35,14 +37,14 @@ enum Subcommand {
     EmptyTurns,
     /// So many turns of each of two threads at one tally. The tally is told.
     Tally,
-    /// A million tasks in stores of so many. The calls that found their task are told.
-    Tasks(Work),
     /// Calls of a store. Their nanoseconds are told.
     Store(Timed),
     /// Runs that each make so many objects and read as many. The objects written and the reads are told.
     TxnCalls,
     /// Calls on a channel of so many members.
     Channel(Doing),
+    /// Jobs served on a core. Their nanoseconds are told.
+    Core(CoreWork),
     /// So many appends with two syncs each on the folder `appends`. The file's length is told.
     FolderAppends,
     /// The same on a home in memory.
@@ -52,7 +54,7 @@ enum Subcommand {
 fn main(rt: HostRuntime) -> ExitCode {
     let Some((subcommand, times)) = asked(&rt) else {
         let _ = rt.eprintln(
-            "dk_bench: first-path|locked-adds|empty-turns|tally|STORE-CALL|tasks-WORK|txn-calls|channel-sends|channel-join|channel-leave|folder-appends|memory-calls TIMES",
+            "dk_bench: first-path|locked-adds|empty-turns|tally|STORE-CALL|txn-calls|channel-sends|channel-join|channel-leave|core-tasks|core-counters|core-sessions|folder-appends|memory-calls TIMES",
         );
         return ExitCode::from(2);
     };
@@ -84,8 +86,8 @@ fn named(word: &str) -> Option<Subcommand> {
         "memory-calls" => Some(Subcommand::MemoryCalls),
         _ => stores::named(word)
             .map(Subcommand::Store)
-            .or(Work::named(word).map(Subcommand::Tasks))
-            .or(channels::named(word).map(Subcommand::Channel)),
+            .or(channels::named(word).map(Subcommand::Channel))
+            .or(cores::named(word).map(Subcommand::Core)),
     }
 }
 
@@ -99,10 +101,10 @@ fn run<R: AllocGlobal + Threads + Wait + Sync + Clock + Files<File = File> + Clo
         Subcommand::LockedAdds => Some(locked_adds(rt, times as u64)),
         Subcommand::EmptyTurns => empty_turns_anew(rt, rt.alloc(), times as u64),
         Subcommand::Tally => tally_in_threads(rt, rt.alloc(), times as u64),
-        Subcommand::Tasks(work) => tasks_in_stores(rt.alloc(), work, times),
         Subcommand::Store(timed) => stores::time(rt, timed, times),
         Subcommand::TxnCalls => txn_calls(rt.alloc(), times),
         Subcommand::Channel(doing) => on_channel(rt, doing, times),
+        Subcommand::Core(work) => on_core(rt, work, times),
         Subcommand::FolderAppends => folder_appends(rt.alloc(), rt.clone().ok()?, times),
         Subcommand::MemoryCalls => memory_calls(rt.alloc(), times),
     }

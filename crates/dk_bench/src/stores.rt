@@ -1,6 +1,7 @@
 //! The stores of the world: what a call costs where there are many entries, and what a hand costs.
 //! Each figure is the nanoseconds of all timed calls together.
 
+use crate::tasks::{self, TaskCall, of_tasks};
 use dk_names::Names;
 use dk_objects::Objects;
 use dk_outbox::{Outbox, Ready};
@@ -9,10 +10,10 @@ use std::alloc::Global;
 use std::time::{Clock, Instant};
 
 /// So many calls are timed together.
-const CALLS: u64 = 1_000;
+pub(crate) const CALLS: u64 = 1_000;
 
 /// So often.
-const ROUNDS: u64 = 200;
+pub(crate) const ROUNDS: u64 = 200;
 
 /// So many messages are handed.
 const MESSAGES: u64 = 262_144;
@@ -27,6 +28,8 @@ pub enum Timed {
     Names(Call),
     /// A call of `Objects` with so many objects.
     Objects(Call),
+    /// A call of `Tasks` with so many tasks.
+    Tasks(TaskCall),
     /// Hands of so many messages where 4,096 wait.
     HandOfMany,
     /// Hands of so many messages where no more wait.
@@ -52,7 +55,7 @@ pub fn named(word: &str) -> Option<Timed> {
         "objects-remove" => Some(Timed::Objects(Call::Remove)),
         "hand-of-many" => Some(Timed::HandOfMany),
         "hand-of-all" => Some(Timed::HandOfAll),
-        _ => None,
+        _ => tasks::named(word).map(Timed::Tasks),
     }
 }
 
@@ -61,17 +64,18 @@ pub fn time<R: AllocGlobal + Clock>(rt: &R, timed: Timed, number: u32) -> Option
     match timed {
         Timed::Names(call) => of_names(rt, call, number as u64),
         Timed::Objects(call) => of_objects(rt, call, number as u64),
+        Timed::Tasks(call) => of_tasks(rt, call, number as u64),
         Timed::HandOfMany => of_hands(rt, 4_096, number),
         Timed::HandOfAll => of_hands(rt, number as u64, number),
     }
 }
 
-fn nanoseconds<R: Clock>(rt: &R, start: &Instant) -> Option<u64> {
+pub(crate) fn nanoseconds<R: Clock>(rt: &R, start: &Instant) -> Option<u64> {
     u64::try_from(start.elapsed(rt).ok()?.as_nanos()).ok()
 }
 
 /// The place of a call's key among the entries, scattered over them.
-fn scattered(n: u64, entries: u64) -> u64 {
+pub(crate) fn scattered(n: u64, entries: u64) -> u64 {
     n.wrapping_mul(STRIDE) % entries.max(1)
 }
 

@@ -19,7 +19,6 @@ use dk_types::{Durable, Item, NoMemory, Read, RunNo};
 use std::alloc::Global;
 
 /// The world on one thread.
-#[derive(Drop)]
 pub struct Core {
     pub(crate) world: StampedWorld,
     pub(crate) connections: Connections,
@@ -27,6 +26,20 @@ pub struct Core {
     pub(crate) moment: u64,
     pub(crate) after_task: bool,
     pub(crate) alloc: Global,
+}
+
+// Written out, so that a function which lets a core go proves one call and not the way down its trees.
+impl Drop for Core {
+    fn drop(self) {
+        let Core {
+            world: _,
+            connections: _,
+            claims: _,
+            moment: _,
+            after_task: _,
+            alloc: _,
+        } = self;
+    }
 }
 
 /// The number that is drawn first: one more than the largest committed run, or 0 where none is committed.

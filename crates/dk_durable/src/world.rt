@@ -19,13 +19,25 @@ use std::marker::Model;
 
 /// The durable world, with the stamp of each item: the number of the commit that wrote it last, or how many commits there
 /// were when the world was opened.
-#[derive(Drop)]
 pub struct StampedWorld {
     pub(crate) objects: Objects,
     pub(crate) names: Names,
     pub(crate) tasks: Tasks,
     pub(crate) commits: u64,
     pub(crate) last: Option<RunNo>,
+}
+
+// Written out, so that a function which lets a world go proves one call and not the way down its trees.
+impl Drop for StampedWorld {
+    fn drop(self) {
+        let StampedWorld {
+            objects: _,
+            names: _,
+            tasks: _,
+            commits: _,
+            last: _,
+        } = self;
+    }
 }
 
 impl Model for StampedWorld {

@@ -7,15 +7,15 @@ use Rattle.std.proofs.lemmas.Str.{utf8_valid_len-IsUtf8, IsUtf8-from_ascii}
 use Rattle.std.proofs.lemmas.Str.Ascii.{IsAscii-from_all}
 use Rattle.dk_types.specs.Names.{IsName}
 use Rattle.dk_model.specs.Validity.{IsBody}
-use Rattle.dk_model.specs.Scripts.{IsLoginName, IsText, is_name_byte, is_text_byte}
+use Rattle.dk_model.specs.Scripts.{IsLineName, IsText, is_name_byte, is_text_byte}
 
 -- a visible byte is ASCII
 name_byte_small : (b : ℕ) → is_name_byte b ≡ true → b < 128
 name_byte_small b h = grind (arith, nat_tests)
 
--- a login name is a name
-pub login_name : (name : List ℕ) → IsLoginName name → IsName name
-login_name name h = record {
+-- a name of a line is a name
+pub line_name : (name : List ℕ) → IsLineName name → IsName name
+line_name name h = record {
   some = h.some;
   most = omega (arith, h.most);
   text = utf8_valid_len-IsUtf8 name (IsUtf8-from_ascii name (IsAscii-from_all name (λ k d l. name_byte_small _ (AllPass-from_list_all is_name_byte name h.visible k d l))));

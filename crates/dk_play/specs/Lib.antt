@@ -1,2 +1,2 @@
-pub mod Visits
-pub mod Entering
+pub mod Plays
+pub mod Tried

@@ -2,7 +2,10 @@ pub mod LinesOf
 pub mod Prefixes
 pub mod NamesOf
 pub mod HexBytes
+pub mod SpokenLines
+pub mod LoggedIn
 pub mod Reading
+pub mod LinesFew
 pub mod Written
 pub mod Lacking
 pub mod FirstWords

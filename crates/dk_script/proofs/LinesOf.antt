@@ -33,12 +33,12 @@ lines_of-whole [] some h = absurd (omega arith)
 lines_of-whole (b ∷ bs) some h = whole-cons b bs (eqb b 10) (position_or_len is_end bs) (lines_of-whole bs) h
 
 -- what a position that was found says of its test
-found-at : (t : Bool) (m n : ℕ) → Some n ≡ cond t (Some m) None → (t ≡ true) × (n ≡ m)
+pub found-at : (t : Bool) (m n : ℕ) → Some n ≡ cond t (Some m) None → (t ≡ true) × (n ≡ m)
 found-at true m n e = (refl, cc)
 found-at false m n e = absurd cc
 
 -- what a position that was not found says of it
-found-nowhere : (t : Bool) (m : ℕ) → None ≡ cond t (Some m) None → t ≡ false
+pub found-nowhere : (t : Bool) (m : ℕ) → None ≡ cond t (Some m) None → t ≡ false
 found-nowhere true m e = absurd cc
 found-nowhere false m e = refl
 

@@ -1,116 +1,122 @@
--- A script of one session, read line by line.
-use Rattle.std.proofs.Common.{◌≡◌, ℕ, suc, ◌<◌, ◌≤◌, List, [], ◌∷◌, ◌++◌, length, map, codes, refl, sym, ap, ◌∙◌, subst, arith, append_assoc, length-append}
-use Rattle.std.specs.List.{AllByRecursion}
-use Rattle.std.proofs.lemmas.List.{append-nil, map-append, length-map}
-use Rattle.dk_types.specs.declared.limits.TheConstants.{SCRIPT_MOST_BYTES, INPUTS_MOST_COUNT}
+-- A script, read line by line.
+use Rattle.std.proofs.Common.{◌≡◌, ℕ, ◌≤◌, true, false, cond, not, Option, Some, None, List, [], ◌∷◌, ◌++◌, length, map, filter, refl, sym, ap, ◌∙◌, subst, arith, append_assoc}
+use Rattle.std.specs.FinSet as sets
+use Rattle.std.specs.Option.{option_to_list}
+use Rattle.std.proofs.lemmas.List.{append-nil}
+use Rattle.dk_types.specs.declared.limits.TheConstants.{SCRIPT_MOST_BYTES}
 use Rattle.dk_model.specs.declared.script.Line.{Line}
 use Rattle.dk_model.specs.declared.script.Line.TheVariants.{Login, Send}
 use Rattle.dk_model.specs.Lines.{lines_of}
-use Rattle.dk_model.specs.Scripts.{IsFirstScript, IsOneSession, IsLoginName, IsSendOf, IsText, line_text}
+use Rattle.dk_model.specs.Scripts.{IsScript, AllMayStand, LineNames, MayStand, is_passed_over, line_text}
+use Rattle.dk_script.specs.Spoken.{IsLine, Says, MaySay, names_said}
+use Rattle.dk_script.proofs.SpokenLines.{Says-once, is_passed_over-line_text}
+use Rattle.dk_script.proofs.LoggedIn.{AreLineNames, AreLineNames-empty, AreLineNames-said}
 
--- the text is these lines and the rest: a login, and sends under its name
-pub record IsReading (bytes name : List ℕ) (lines : List Line) (rest : List ℕ) : Type 0 where
-  pub sends : List Line
-  pub named : IsLoginName name
-  pub all : lines ≡ Login name ∷ sends
-  pub few : length sends < INPUTS_MOST_COUNT
-  pub each : AllByRecursion (IsSendOf name) sends
-  pub spelled : lines_of bytes ≡ map line_text lines ++ lines_of rest
+-- the lines that are not passed over
+abbrev kept : List (List ℕ) → List (List ℕ)
+kept lines = filter (λ line. not (is_passed_over line)) lines
 
--- a login line is read
-pub IsReading-login : (bytes name first after : List ℕ) → lines_of bytes ≡ first ∷ lines_of after → first ≡ codes "login " ++ name → IsLoginName name → IsReading bytes name (Login name ∷ []) after
-IsReading-login bytes name first after cut is named = record {
-  sends = [];
-  named = named;
-  all = refl;
-  few = omega arith;
-  each = tt;
-  spelled = cut ∙ ap (λ (line : List ℕ). line ∷ lines_of after) is;
+-- a line that is passed over is not kept
+kept-passed_over : (line : List ℕ) (lines : List (List ℕ)) → is_passed_over line ≡ true → kept (line ∷ lines) ≡ kept lines
+kept-passed_over line lines h = ap (λ t. cond (not t) (line ∷ kept lines) (kept lines)) h
+
+-- any other is
+kept-spoken : (line : List ℕ) (lines : List (List ℕ)) → is_passed_over line ≡ false → kept (line ∷ lines) ≡ line ∷ kept lines
+kept-spoken line lines h = ap (λ t. cond (not t) (line ∷ kept lines) (kept lines)) h
+
+-- the text is these lines, said where these names have logged in
+pub record Tells (names : LineNames) (bytes : List ℕ) (lines : List Line) : Type 0 where
+  pub spelled : filter (λ line. not (is_passed_over line)) (lines_of bytes) ≡ map line_text lines
+  pub stand : AllMayStand names lines
+
+-- one more line stands before a text
+Tells-before : (names : LineNames) (rest line after : List ℕ) (said : Option Line) (others : List Line) → lines_of rest ≡ line ∷ lines_of after → Says line said → MaySay names said → Tells (names_said names said) after others → Tells names rest (option_to_list said ++ others)
+Tells-before names rest line after None others cut says may told = record {
+  spelled = ap kept cut ∙ kept-passed_over line (lines_of after) says ∙ told.spelled;
+  stand = told.stand;
+}
+Tells-before names rest line after (Some l) others cut says may told = record {
+  spelled = ap kept cut ∙ kept-spoken line (lines_of after) (ap is_passed_over says.0 ∙ is_passed_over-line_text l) ∙ ap (λ (x : List ℕ). x ∷ kept (lines_of after)) says.0 ∙ ap (λ (xs : List (List ℕ)). line_text l ∷ xs) told.spelled;
+  stand = (may, told.stand);
 }
 
--- what holds of each, and of one more, holds of each
-AllByRecursion-push : {A : Type 0} (P : A → Type 0) (xs : List A) (y : A) → AllByRecursion P xs → P y → AllByRecursion P (xs ++ y ∷ [])
-AllByRecursion-push P [] y h p = (p, tt)
-AllByRecursion-push P (x ∷ xs) y h p = (h.0, AllByRecursion-push P xs y h.1 p)
+-- what a text says on its first line, and that the lines behind it are a text too
+record Begins (names : LineNames) (line after : List ℕ) : Type 0 where
+  said : Option Line
+  says : Says line said
+  may : MaySay names said
+  others : List Line
+  behind : Tells (names_said names said) after others
 
--- one more send is read
-pub IsReading-send : {bytes name rest : List ℕ} {lines : List Line} (line text after : List ℕ) → IsReading bytes name lines rest → lines_of rest ≡ line ∷ lines_of after → length lines < INPUTS_MOST_COUNT → line ≡ codes "send " ++ name ++ 32 ∷ text → IsText text → IsReading bytes name (lines ++ Send name text ∷ []) after
-IsReading-send {bytes} {name} {rest} {lines} line text after r cut few is sendable = record {
-  sends = r.sends ++ Send name text ∷ [];
-  named = r.named;
-  all = ap (λ (ls : List Line). ls ++ Send name text ∷ []) r.all;
-  few = omega (arith, length-append r.sends (Send name text ∷ []), ap length r.all);
-  each = AllByRecursion-push (IsSendOf name) r.sends (Send name text) r.each (refl, sendable);
-  spelled = r.spelled ∙ ap (λ (ls : List (List ℕ)). map line_text lines ++ ls) (cut ∙ ap (λ (l : List ℕ). l ∷ lines_of after) is) ∙ sym (append_assoc (map line_text lines) (line_text (Send name text) ∷ []) (lines_of after)) ∙ ap (λ (ls : List (List ℕ)). ls ++ lines_of after) (sym (map-append line_text lines (Send name text ∷ [])));
+-- a line that may stand is a line
+IsLine-stands : (names : LineNames) (l : Line) → AreLineNames names → MayStand names l → IsLine l
+IsLine-stands names (Login name) named may = may
+IsLine-stands names (Send name text) named may = (named name may.0, may.1)
+
+-- a text whose first line is spoken
+Begins-spoken : (names : LineNames) (line after : List ℕ) (lines : List Line) → AreLineNames names → line ∷ kept (lines_of after) ≡ map line_text lines → AllMayStand names lines → Begins names line after
+Begins-spoken names line after [] named e stand = absurd cc
+Begins-spoken names line after (l ∷ others) named e stand = record {
+  said = Some l;
+  says = (cc, IsLine-stands names l named stand.0);
+  may = stand.0;
+  others = others;
+  behind = record { spelled = cc; stand = stand.1 };
 }
 
--- no bytes have no lines
-lines_of-nothing : (rest : List ℕ) → length rest ≡ 0 → lines_of rest ≡ []
-lines_of-nothing [] none = refl
-lines_of-nothing (b ∷ rest) none = absurd (omega arith)
+-- a text begins with its first line
+Begins-told : (names : LineNames) (rest line after : List ℕ) (lines : List Line) → AreLineNames names → lines_of rest ≡ line ∷ lines_of after → Tells names rest lines → Begins names line after
+Begins-told names rest line after lines named cut told =
+    elim (is_passed_over line) as (λ t. is_passed_over line ≡ t → Begins names line after) [
+      | true ↦ λ passed. record {
+        said = None;
+        says = passed;
+        may = tt;
+        others = lines;
+        behind = record { spelled = sym (ap kept cut ∙ kept-passed_over line (lines_of after) passed) ∙ told.spelled; stand = told.stand };
+      }
+      | false ↦ λ spoken. Begins-spoken names line after lines named (sym (ap kept cut ∙ kept-spoken line (lines_of after) spoken) ∙ told.spelled) told.stand
+    ] refl
+
+-- the text is these lines and the rest, before which these names have logged in
+pub record IsReading (bytes : List ℕ) (lines : List Line) (names : LineNames) (rest : List ℕ) : Type 0 where
+  pub named : AreLineNames names
+  pub sound : (others : List Line) → Tells names rest others → Tells sets.empty bytes (lines ++ others)
+  pub complete : (whole : List Line) → Tells sets.empty bytes whole → (others : List Line) × Tells names rest others
+
+-- nothing is read yet
+pub IsReading-nothing : (bytes : List ℕ) → IsReading bytes [] sets.empty bytes
+IsReading-nothing bytes = record {
+  named = AreLineNames-empty;
+  sound = λ others told. told;
+  complete = λ whole told. (whole, told);
+}
+
+-- one more line is read
+pub IsReading-more : {bytes rest : List ℕ} {lines : List Line} {names : LineNames} (line after : List ℕ) (said : Option Line) → IsReading bytes lines names rest → lines_of rest ≡ line ∷ lines_of after → Says line said → MaySay names said → IsReading bytes (lines ++ option_to_list said) (names_said names said) after
+IsReading-more {bytes} {rest} {lines} {names} line after said r cut says may = record {
+  named = AreLineNames-said names line said r.named says;
+  sound = λ others told. subst (Tells sets.empty bytes) (sym (append_assoc lines (option_to_list said) others)) (r.sound (option_to_list said ++ others) (Tells-before names rest line after said others cut says may told));
+  complete = λ whole told.
+      let rest_told = r.complete whole told in
+      let b = Begins-told names rest line after rest_told.0 r.named cut rest_told.1 in
+      (b.others, subst (λ (s : Option Line). Tells (names_said names s) after b.others) (Says-once line b.said said b.says says) b.behind);
+}
+
+-- no script has a line that may not be said here
+pub not-script : {bytes rest : List ℕ} {lines : List Line} {names : LineNames} (line after : List ℕ) → IsReading bytes lines names rest → lines_of rest ≡ line ∷ lines_of after → ((said : Option Line) → Says line said → MaySay names said → ⊥) → (whole : List Line) → IsScript bytes whole → ⊥
+not-script {rest = rest} {names = names} line after r cut none whole script =
+    let rest_told = r.complete whole (record { spelled = script.spelled; stand = script.stand }) in
+    let b = Begins-told names rest line after rest_told.0 r.named cut rest_told.1 in
+    none b.said b.says b.may
+
+-- no bytes say nothing
+Tells-nothing : (names : LineNames) (rest : List ℕ) → length rest ≡ 0 → Tells names rest []
+Tells-nothing names [] none = record { spelled = refl; stand = tt }
+Tells-nothing names (b ∷ rest) none = absurd (omega arith)
 
 -- where nothing is left, the lines are the script
-pub IsFirstScript-read : {bytes name rest : List ℕ} {lines : List Line} → IsReading bytes name lines rest → length rest ≡ 0 → length bytes ≤ SCRIPT_MOST_BYTES → IsFirstScript bytes lines
-IsFirstScript-read {rest = rest} {lines = lines} r none short = record {
-  short = short;
-  spelled = r.spelled ∙ ap (λ (ls : List (List ℕ)). map line_text lines ++ ls) (lines_of-nothing rest none) ∙ append-nil (map line_text lines);
-  session = subst IsOneSession (sym r.all) (r.named, r.few, r.each);
-}
-
--- the one line that stands behind so many others
-line-behind : {A : Type 0} (f : A → List ℕ) (P : A → Type 0) (done : List (List ℕ)) (line : List ℕ) (rest : List (List ℕ)) (xs : List A) → map f xs ≡ done ++ line ∷ rest → AllByRecursion P xs → (x : A) × P x × (f x ≡ line)
-line-behind f P [] line rest [] e h = absurd cc
-line-behind f P [] line rest (x ∷ xs) e h = (x, h.0, cc)
-line-behind f P (d ∷ done) line rest [] e h = absurd cc
-line-behind f P (d ∷ done) line rest (x ∷ xs) e h = line-behind f P done line rest xs (cc) h.1
-
--- two ways to write a login's line
-same-name : (a b : List ℕ) → codes "login " ++ a ≡ codes "login " ++ b → a ≡ b
-same-name a b e = cc
-
--- the lines of the whole text, from those of the rest
-spelled-at : {bytes name rest : List ℕ} {lines : List Line} (line : List ℕ) (behind : List (List ℕ)) (r : IsReading bytes name lines rest) → lines_of rest ≡ line ∷ behind → lines_of bytes ≡ (codes "login " ++ name) ∷ (map line_text r.sends ++ line ∷ behind)
-spelled-at {name = name} {rest = rest} line behind r cut =
-    r.spelled ∙ ap (λ (ls : List Line). map line_text ls ++ lines_of rest) r.all ∙ ap (λ (ls : List (List ℕ)). (codes "login " ++ name) ∷ (map line_text r.sends ++ ls)) cut
-
--- a line that tells no send is no send's line
-is-not-send : (n name line : List ℕ) (x : Line) → n ≡ name → IsSendOf n x → line_text x ≡ line → ((text : List ℕ) → line ≡ codes "send " ++ name ++ 32 ∷ text → IsText text → ⊥) → ⊥
-is-not-send n name line (Login m) same send is none = send
-is-not-send n name line (Send m text) same send is none =
-    none text (sym is ∙ ap (λ (k : List ℕ). codes "send " ++ k ++ 32 ∷ text) (send.0 ∙ same)) send.1
-
--- no session has a line that tells no send behind its login
-not-by-line : (name line : List ℕ) (sent behind : List (List ℕ)) (others : List Line) → map line_text others ≡ (codes "login " ++ name) ∷ (sent ++ line ∷ behind) → IsOneSession others → ((text : List ℕ) → line ≡ codes "send " ++ name ++ 32 ∷ text → IsText text → ⊥) → ⊥
-not-by-line name line sent behind [] e session none = cc
-not-by-line name line sent behind (Login n ∷ others) e session none =
-    let found = line-behind line_text (IsSendOf n) sent line behind others (cc) session.2 in
-    is-not-send n name line found.0 (same-name n name (cc)) found.1 found.2 none
-not-by-line name line sent behind (Send n text ∷ others) e session none = session
-
--- no script of one session has this line here
-pub not-first-by-line : {bytes name rest : List ℕ} {lines : List Line} (line after : List ℕ) → IsReading bytes name lines rest → lines_of rest ≡ line ∷ lines_of after → ((text : List ℕ) → line ≡ codes "send " ++ name ++ 32 ∷ text → IsText text → ⊥) → (others : List Line) → IsFirstScript bytes others → ⊥
-not-first-by-line {name = name} line after r cut none others script =
-    not-by-line name line (map line_text r.sends) (lines_of after) others (sym script.spelled ∙ spelled-at line (lines_of after) r cut) script.session none
-
--- no session has more lines than its limit
-not-by-count : (login line : List ℕ) (sent behind : List (List ℕ)) (others : List Line) → map line_text others ≡ login ∷ (sent ++ line ∷ behind) → IsOneSession others → INPUTS_MOST_COUNT ≤ suc (length sent) → ⊥
-not-by-count login line sent behind [] e session many = cc
-not-by-count login line sent behind (Login n ∷ others) e session many =
-    omega (arith, session.1, ap length e, length-map others line_text, length-append sent (line ∷ behind))
-not-by-count login line sent behind (Send n text ∷ others) e session many = session
-
--- no script of one session has so many lines
-pub not-first-by-count : {bytes name rest : List ℕ} {lines : List Line} (line after : List ℕ) → IsReading bytes name lines rest → lines_of rest ≡ line ∷ lines_of after → INPUTS_MOST_COUNT ≤ length lines → (others : List Line) → IsFirstScript bytes others → ⊥
-not-first-by-count {name = name} line after r cut many others script =
-    not-by-count _ line (map line_text r.sends) (lines_of after) others (sym script.spelled ∙ spelled-at line (lines_of after) r cut) script.session (omega (arith, many, ap length r.all, length-map r.sends line_text))
-
--- no session begins with a line that tells no login
-not-by-login : (first : List ℕ) (behind : List (List ℕ)) (others : List Line) → map line_text others ≡ first ∷ behind → IsOneSession others → ((name : List ℕ) → first ≡ codes "login " ++ name → IsLoginName name → ⊥) → ⊥
-not-by-login first behind [] e session none = cc
-not-by-login first behind (Login name ∷ others) e session none = none name (cc) session.0
-not-by-login first behind (Send name text ∷ others) e session none = session
-
--- no script of one session begins with this line
-pub not-first-by-login : {bytes : List ℕ} (first after : List ℕ) → lines_of bytes ≡ first ∷ lines_of after → ((name : List ℕ) → first ≡ codes "login " ++ name → IsLoginName name → ⊥) → (others : List Line) → IsFirstScript bytes others → ⊥
-not-first-by-login first after cut none others script =
-    not-by-login first (lines_of after) others (sym script.spelled ∙ cut) script.session none
+pub IsScript-read : {bytes rest : List ℕ} {lines : List Line} {names : LineNames} → IsReading bytes lines names rest → length rest ≡ 0 → length bytes ≤ SCRIPT_MOST_BYTES → IsScript bytes lines
+IsScript-read {bytes} {rest} {lines} {names} r none short =
+    let told = subst (Tells sets.empty bytes) (append-nil lines) (r.sound [] (Tells-nothing names rest none)) in
+    record { short = short; spelled = told.spelled; stand = told.stand }

@@ -1,2 +1,3 @@
 pub mod Knowledge
 pub mod OrderLaw
+pub mod Spoken

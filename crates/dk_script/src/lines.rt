@@ -1,13 +1,38 @@
-//! A script's lines, and the words that they are made of.
-ghost use Rattle.std.specs.Prelude.{◌≡◌, ℕ, ◌<◌, ◌∷◌, ◌++◌, List, [], false, length, codes, IsTrue, ◌↔◌, ◌==◌, IfSome, IfNone, position};
+//! A script's lines, and what one of them says.
+ghost use Rattle.std.specs.Prelude.{◌≡◌, ℕ, ◌<◌, ◌∷◌, ◌++◌, List, Option, length, codes, IsTrue, ◌↔◌, ◌==◌, IfSome, IfNone, position};
 ghost use Rattle.std.specs.List.{list_all};
-ghost use Rattle.dk_model.specs.Lines.{lines_of};
-ghost use Rattle.dk_model.specs.Scripts.{IsLoginName, IsText, is_name_byte, is_text_byte};
+ghost use Rattle.dk_model.specs.Lines.{lines_of, first_word, after_word};
+ghost use Rattle.dk_model.specs.declared.script.Line.{Line};
+ghost use Rattle.dk_model.specs.Scripts.{IsLineName, IsText, is_name_byte, is_text_byte, is_passed_over};
+ghost use Rattle.dk_script.specs.Spoken.{Says, said_by};
 
-use dk_model::limits::BODY_MOST_BYTES;
+use dk_model::limits::{BODY_MOST_BYTES, NAME_MOST_BYTES};
 
-/// The most bytes of a login name: `Player.` before it leaves it a name.
-const LOGIN_NAME_MOST_BYTES: usize = 248;
+/// What a line of a script says.
+#[derive(Clone, Copy)]
+pub(crate) enum Spoken<'a> {
+    /// Nothing: the line is empty or a comment.
+    PassedOver,
+    Login { name: &'a [u8] },
+    Send { name: &'a [u8], text: &'a [u8] },
+}
+
+impl<'a> Spoken<'a> {
+    /// What the line says, or nothing where it is no line of a script.
+    pub(crate) fn of(line: &'a [u8]) -> Option<Spoken<'a>>
+        ensures found { IfSome result (λ spoken. Says line.now (said_by spoken)) }
+        ensures none { IfNone result ((said : Option Line) → Says line.now said → ⊥) }
+    {
+        if is_passed_over(line) {
+            return Some(Spoken::PassedOver);
+        }
+        if let Some(name) = login_name(line) {
+            return Some(Spoken::Login { name });
+        }
+        let (name, text) = send_parts(line)?;
+        Some(Spoken::Send { name, text })
+    }
+}
 
 /// The first line, and what follows it.
 pub(crate) fn cut_line(bytes: &[u8]) -> (&[u8], &[u8])
@@ -15,47 +40,63 @@ pub(crate) fn cut_line(bytes: &[u8]) -> (&[u8], &[u8])
     ensures cut { lines_of bytes.now ≡ result.0.now ∷ lines_of result.1.now }
     ensures shorter { length result.1.now < length bytes.now }
 {
-    match line_end(bytes) {
+    match place_of(bytes, b'\n') {
         None => (bytes, &bytes[bytes.len()..]),
         Some(at) => (&bytes[..at], &bytes[at + 1..]),
     }
 }
 
-/// The place of the first byte 0A.
-fn line_end(bytes: &[u8]) -> Option<usize>
-    ensures { result ≡ position (λ b. b == 10) bytes.now }
+fn is_passed_over(line: &[u8]) -> bool
+    ensures { result ≡ is_passed_over line.now }
 {
-    bytes.iter().position(|b| *b == b'\n')
+    match line.first() {
+        None => true,
+        Some(b) => *b == b'#',
+    }
 }
 
 /// The name of a line `login NAME`.
-pub(crate) fn login_name(line: &[u8]) -> Option<&[u8]>
-    ensures found { IfSome result (λ name. (line.now ≡ codes "login " ++ name.now) × IsLoginName name.now) }
-    ensures none { IfNone result ((name : List ℕ) → line.now ≡ codes "login " ++ name → IsLoginName name → ⊥) }
+fn login_name(line: &[u8]) -> Option<&[u8]>
+    ensures found { IfSome result (λ name. (line.now ≡ codes "login " ++ name.now) × IsLineName name.now) }
+    ensures none { IfNone result ((name : List ℕ) → line.now ≡ codes "login " ++ name → IsLineName name → ⊥) }
 {
     let name = line.strip_prefix(b"login ".as_slice())?;
-    if is_login_name(name) {
-        Some(name)
+    if is_line_name(name) { Some(name) } else { None }
+}
+
+/// The name and the text of a line `send NAME TEXT`.
+fn send_parts(line: &[u8]) -> Option<(&[u8], &[u8])>
+    ensures found { IfSome result (λ parts. (line.now ≡ codes "send " ++ parts.0.now ++ 32 ∷ parts.1.now) × IsLineName parts.0.now × IsText parts.1.now) }
+    ensures none { IfNone result ((name text : List ℕ) → line.now ≡ codes "send " ++ name ++ 32 ∷ text → IsLineName name → IsText text → ⊥) }
+{
+    let (name, text) = cut_word(line.strip_prefix(b"send ".as_slice())?)?;
+    if is_line_name(name) && is_text(text) {
+        Some((name, text))
     } else {
         None
     }
 }
 
-/// The text of a line `send NAME TEXT` of this name, where it has such a text.
-pub(crate) fn send_text<'a>(line: &'a [u8], name: &[u8]) -> Option<&'a [u8]>
-    ensures found { IfSome result (λ text. (line.now ≡ codes "send " ++ name.now ++ 32 ∷ text.now) × IsText text.now) }
-    ensures none { IfNone result ((text : List ℕ) → line.now ≡ codes "send " ++ name.now ++ 32 ∷ text → IsText text → ⊥) }
+/// What stands before the first space, and what stands behind it.
+fn cut_word(bytes: &[u8]) -> Option<(&[u8], &[u8])>
+    ensures found { IfSome result (λ parts. (bytes.now ≡ parts.0.now ++ 32 ∷ parts.1.now) × (parts.0.now ≡ first_word bytes.now) × (parts.1.now ≡ after_word bytes.now)) }
+    ensures none { IfNone result ((word rest : List ℕ) → bytes.now ≡ word ++ 32 ∷ rest → ⊥) }
 {
-    let named = line.strip_prefix(b"send ".as_slice())?;
-    let spaced = named.strip_prefix(name)?;
-    let text = spaced.strip_prefix(b" ".as_slice())?;
-    if is_text(text) { Some(text) } else { None }
+    let at = place_of(bytes, b' ')?;
+    Some((&bytes[..at], &bytes[at + 1..]))
 }
 
-fn is_login_name(name: &[u8]) -> bool
-    ensures { IsTrue result ↔ IsLoginName name.now }
+/// Where the byte first stands.
+fn place_of(bytes: &[u8], byte: u8) -> Option<usize>
+    ensures { result ≡ position (λ b. b == byte) bytes.now }
 {
-    !name.is_empty() && name.len() <= LOGIN_NAME_MOST_BYTES && are_name_bytes(name)
+    bytes.iter().position(|b| *b == byte)
+}
+
+fn is_line_name(name: &[u8]) -> bool
+    ensures { IsTrue result ↔ IsLineName name.now }
+{
+    !name.is_empty() && name.len() as u64 <= NAME_MOST_BYTES && are_name_bytes(name)
 }
 
 fn are_name_bytes(bytes: &[u8]) -> bool

@@ -1,13 +1,13 @@
-//! The script of one session.
-ghost use Rattle.std.specs.Prelude.{◌≡◌, ℕ, ◌∷◌, ◌++◌, List, false, IfOk, IsErrOf, codes};
+//! Scripts of any number of sessions.
+ghost use Rattle.std.specs.Prelude.{◌≤◌, List, length, IfOk, IsErrOf};
 ghost use Rattle.dk_model.specs.declared.script.Line.{Line};
-ghost use Rattle.dk_model.specs.declared.script.Line.TheVariants.{Login, Send};
-ghost use Rattle.dk_model.specs.Scripts.{IsFirstScript, IsLoginName};
+ghost use Rattle.dk_model.specs.Scripts.{IsScript};
 
-use crate::lines::{cut_line, login_name, send_text};
+use crate::lines::cut_line;
+use crate::reader::Reader;
 use dk_model::Line;
-use dk_model::limits::{INPUTS_MOST_COUNT, SCRIPT_MOST_BYTES};
-use dk_types::{Blob, Listed, Name, NameRefused, NoMemory};
+use dk_model::limits::SCRIPT_MOST_BYTES;
+use dk_types::{Listed, NoMemory};
 use std::alloc::{AllocError, AllocFailed, Global};
 
 /// The lines of a script, in their order.
@@ -19,7 +19,7 @@ pub struct Script {
 /// Why bytes are not read as a script.
 #[derive(Clone, Copy, Debug, PartialEq, Eq)]
 pub enum ScriptRefused {
-    /// They are no script that can be played yet.
+    /// They are no script.
     NotYet,
     NoMemory,
 }
@@ -46,69 +46,29 @@ impl<T: Drop> From<AllocFailed<T>> for ScriptRefused {
     }
 }
 
-/// Reads the bytes as a script of one session: nothing, or one `login NAME` and at most 1,023 lines
-/// `send NAME TEXT` of the same name.
-pub fn parse_first_script(alloc: Global, bytes: &[u8]) -> Result<Script, ScriptRefused>
-    ensures ok { IfOk result (λ script. IsFirstScript bytes.now script.lines) }
-    ensures refused { IsErrOf result ScriptRefused.NotYet → (lines : List Line) → IsFirstScript bytes.now lines → ⊥ }
+/// Reads the bytes as a script: any number of lines `login NAME` and `send NAME TEXT`, at most
+/// 16,777,216 bytes in all.
+///
+/// Empty lines and lines that begin with `#` are passed over. A NAME is 1 to 255 visible bytes, so it
+/// ends at the first space or with its line; a TEXT is at most 65,535 visible bytes and spaces, and
+/// goes on to the end of its line. The NAME of a `send` has to have logged in on an earlier line.
+/// `NotYet` is told of bytes that are no script, and of those alone; the only other refusal is that
+/// there is no memory. The bytes are read once, line by line, and a name is looked up in an index.
+/// The script has at most as many lines as a script may have bytes.
+pub fn parse_script(alloc: Global, bytes: &[u8]) -> Result<Script, ScriptRefused>
+    ensures ok { IfOk result (λ script. IsScript bytes.now script.lines) }
+    ensures refused { IsErrOf result ScriptRefused.NotYet → (lines : List Line) → IsScript bytes.now lines → ⊥ }
+    ensures few { IfOk result (λ script. length script.lines ≤ SCRIPT_MOST_BYTES) }
 {
     if bytes.len() as u64 > SCRIPT_MOST_BYTES {
         return Err(ScriptRefused::NotYet);
     }
-    let mut lines = Vec::new(alloc);
-    if bytes.is_empty() {
-        return Ok(Script {
-            lines: Listed::from_vec(lines),
-        });
-    }
-    let (first, after) = cut_line(bytes);
-    let Some(name) = login_name(first) else {
-        return Err(ScriptRefused::NotYet);
-    };
-    lines.push(login_line(alloc, name)?)?;
-    let mut rest = after;
-    'sends: while !rest.is_empty() {
+    let mut reader = Reader::new(alloc);
+    let mut rest = bytes;
+    'lines: while !rest.is_empty() {
         let (line, after) = cut_line(rest);
-        if lines.len() as u64 >= INPUTS_MOST_COUNT {
-            return Err(ScriptRefused::NotYet);
-        }
-        let Some(text) = send_text(line, name) else {
-            return Err(ScriptRefused::NotYet);
-        };
-        lines.push(send_line(alloc, name, text)?)?;
+        reader.read(alloc, line)?;
         rest = after;
     }
-    Ok(Script {
-        lines: Listed::from_vec(lines),
-    })
-}
-
-fn login_line(alloc: Global, name: &[u8]) -> Result<Line, NoMemory>
-    requires { IsLoginName name.now }
-    ensures { IfOk result (λ line. line ≡ Login name.now) }
-{
-    let name = copied_name(alloc, name)?;
-    Ok(Line::Login { name })
-}
-
-fn send_line(alloc: Global, name: &[u8], text: &[u8]) -> Result<Line, NoMemory>
-    requires { IsLoginName name.now }
-    ensures { IfOk result (λ line. line ≡ Send name.now text.now) }
-{
-    let name = copied_name(alloc, name)?;
-    let text = Blob::copy_of(alloc, text)?;
-    Ok(Line::Send { name, text })
-}
-
-fn copied_name(alloc: Global, bytes: &[u8]) -> Result<Name, NoMemory>
-    requires { IsLoginName bytes.now }
-    ensures { IfOk result (λ name. name ≡ bytes.now) }
-{
-    match Name::new(alloc, bytes) {
-        Ok(name) => Ok(name),
-        Err(NameRefused::NoMemory) => Err(NoMemory),
-        Err(NameRefused::Empty) => unreachable!(),
-        Err(NameRefused::TooLong { .. }) => unreachable!(),
-        Err(NameRefused::NotUtf8 { .. }) => unreachable!(),
-    }
+    Ok(reader.into_script())
 }

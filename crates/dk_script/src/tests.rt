@@ -1,6 +1,6 @@
 //! Scripts that are read or refused, and transcripts of histories made by hand.
 
-use crate::{ScriptRefused, parse_first_script, transcript_of};
+use crate::{ScriptRefused, parse_script, transcript_of};
 use dk_model::Line;
 use dk_types::{
     AppFault, Blob, ClaimReply, ConnNo, ConnectReply, Event, Input, Job, Listed, Name, Out,
@@ -10,34 +10,66 @@ use std::alloc::Global;
 use std::test::Fail;
 
 fn is_refused(alloc: Global, text: &[u8]) -> bool {
-    match parse_first_script(alloc, text) {
+    match parse_script(alloc, text) {
         Err(ScriptRefused::NotYet) => true,
         _ => false,
     }
 }
 
-fn line_count(alloc: Global, text: &[u8]) -> Result<usize, ScriptRefused> {
-    let script = parse_first_script(alloc, text)?;
-    Ok(script.lines.as_slice().len())
+/// The lines as the parser read them: `+NAME` for a login, and `NAME:TEXT` for a send.
+fn read_back(alloc: Global, text: &[u8]) -> Result<Vec<u8>, Fail> {
+    let script = parse_script(alloc, text)?;
+    let mut told = Vec::new(alloc);
+    for line in script.lines.as_slice() {
+        match line {
+            Line::Login { name } => {
+                told.push(b'+')?;
+                told.extend_from_slice(name.as_slice())?;
+            }
+            Line::Send { name, text } => {
+                told.extend_from_slice(name.as_slice())?;
+                told.push(b':')?;
+                told.extend_from_slice(text.as_slice())?;
+            }
+        }
+        told.push(b'\n')?;
+    }
+    Ok(told)
+}
+
+/// The text with so many bytes more of one kind.
+fn padded(alloc: Global, text: &[u8], byte: u8, count: usize) -> Result<Vec<u8>, Fail> {
+    let mut all = Vec::from_slice(alloc, text)?;
+    for _ in 0..count {
+        all.push(byte)?;
+    }
+    Ok(all)
 }
 
 #[test]
 fn other_texts_are_refused(rt: HostRuntime) -> Result<(), Fail> {
     let refused = [
-        "login alice\nlogin bob\n",
-        "send bob look\n",
+        "login\n",
+        "login \n",
         "login a b\n",
         "login a\tb\n",
+        "login a\r\n",
         "login a\u{7F}\n",
-        "login alice\nsend alice a\u{7F}\n",
-        "login alice\nsend alice\n",
-        "login alice\nsend bob look\n",
-        "login alice\n\nsend alice look\n",
-        "login alice\nsync\n",
-        "# nothing\n",
-        "login \n",
-        "login",
-        "\n",
+        " login a\n",
+        "Login a\n",
+        " # nothing\n",
+        "send al look\n",
+        "send al look\nlogin al\n",
+        "login al\nsend ali look\n",
+        "login ali\nsend al look\n",
+        "login al\n# login bob\nsend bob look\n",
+        "login al\nsend al\n",
+        "login al\nsend  look\n",
+        "login al\nsend al a\u{7F}\n",
+        "login al\nsync\n",
+        "login al\nlogout al\n",
+        "login al\nchannel al Foo look\n",
+        "tick 1\n",
     ];
     for text in refused {
         assert!(rt; is_refused(rt.alloc(), text.as_bytes()), "{text:?}");
@@ -46,47 +78,34 @@ fn other_texts_are_refused(rt: HostRuntime) -> Result<(), Fail> {
 }
 
 #[test]
+fn scripts_of_several_sessions_are_read(rt: HostRuntime) -> Result<(), Fail> {
+    let script = concat!(
+        "# two players\nlogin al\n\nlogin ali\nsend ali take it\n#\n",
+        "send al \nsend al  look \nlogin al\nsend ali # no comment",
+    );
+    let told = "+al\n+ali\nali:take it\nal:\nal: look \n+al\nali:# no comment\n";
+    let lines = read_back(rt.alloc(), script.as_bytes())?;
+    assert_eq!(rt; lines.as_slice(), told.as_bytes());
+    for text in ["", "\n", "\n\n", "#", "# nothing\n"] {
+        let lines = read_back(rt.alloc(), text.as_bytes())?;
+        assert_eq!(rt; lines.len(), 0, "{text:?}");
+    }
+    Ok(())
+}
+
+#[test]
 fn scripts_are_read_up_to_their_limits(rt: HostRuntime) -> Result<(), Fail> {
-    assert_eq!(rt; line_count(rt.alloc(), b"")?, 0);
-    assert_eq!(rt; line_count(rt.alloc(), b"login alice")?, 1);
-    let mut text = Vec::from_slice(rt.alloc(), b"login a\n")?;
-    for _ in 0..1_023 {
-        text.extend_from_slice(b"send a look\n")?;
+    let limits = [
+        ("login ", 255, 257),
+        ("login al\nsend al ", 65_535, 65_543),
+        ("#", 16_777_215, 0),
+    ];
+    for (text, most, told) in limits {
+        let mut text = padded(rt.alloc(), text.as_bytes(), b'~', most)?;
+        assert_eq!(rt; read_back(rt.alloc(), text.as_slice())?.len(), told);
+        text.push(b'~')?;
+        assert!(rt; is_refused(rt.alloc(), text.as_slice()));
     }
-    assert_eq!(rt; line_count(rt.alloc(), text.as_slice())?, 1_024);
-    text.extend_from_slice(b"send a look\n")?;
-    assert!(rt; is_refused(rt.alloc(), text.as_slice()));
-    let mut login = Vec::from_slice(rt.alloc(), b"login ")?;
-    for _ in 0..248 {
-        login.push(b'~')?;
-    }
-    assert_eq!(rt; line_count(rt.alloc(), login.as_slice())?, 1);
-    login.push(b'!')?;
-    assert!(rt; is_refused(rt.alloc(), login.as_slice()));
-    Ok(())
-}
-
-#[test]
-fn commands_of_either_case_are_read(rt: HostRuntime) -> Result<(), Fail> {
-    let script = b"login alice\nsend alice take\nsend alice TAKE\nsend alice dRop";
-    assert_eq!(rt; line_count(rt.alloc(), script)?, 4);
-    Ok(())
-}
-
-#[test]
-fn a_text_goes_on_to_the_end_of_its_line(rt: HostRuntime) -> Result<(), Fail> {
-    let script = parse_first_script(
-        rt.alloc(),
-        b"login al\nsend al \nsend al  look\nsend al take it",
-    )?;
-    let mut texts = Vec::new(rt.alloc());
-    for line in script.lines.as_slice() {
-        if let Line::Send { text, .. } = line {
-            texts.extend_from_slice(text.as_slice())?;
-            texts.push(b'.')?;
-        }
-    }
-    assert_eq!(rt; texts.as_slice(), b". look.take it.".as_slice());
     Ok(())
 }
 

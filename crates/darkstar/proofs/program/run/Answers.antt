@@ -1,9 +1,9 @@
 use Rattle.std.proofs.Common.{ap, List, ℕ, Err, Option, None, Some, IfSome, IsSomeAnd}
-use Rattle.darkstar.specs.Headline.{IsScript, IsNoScript}
+use Rattle.darkstar.specs.Headline.{IsPlayable, IsNoScript}
 use Rattle.darkstar.proofs.program.run.Goals as goal
 
 -- told bytes are not both a script and none
-not_both : (bytes : Option (List ℕ)) → IsSomeAnd bytes IsScript → IfSome bytes IsNoScript → ⊥
+not_both : (bytes : Option (List ℕ)) → IsSomeAnd bytes IsPlayable → IfSome bytes IsNoScript → ⊥
 not_both None is isnt = absurd is
 not_both (Some xs) is isnt = isnt is.0 is.1
 

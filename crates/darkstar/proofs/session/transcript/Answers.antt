@@ -19,8 +19,8 @@ told (Ok text) lines events items marks places commits tasks same_events same_ma
 told (Err e) lines events items marks places commits tasks same_events same_marks played is = tt
 
 -- SwordWorld sends at most one message in each job
-pub play_session-requires-clause-terse : goal.play_session-requires-clause-terse
-play_session-requires-clause-terse c = sword-is_terse
+pub play_script-requires-clause-terse : goal.play_script-requires-clause-terse
+play_script-requires-clause-terse c = sword-is_terse
 
 pub returns : goal.returns
 returns c =

@@ -1,0 +1,5 @@
+use Rattle.dk_serving.specs.Servings.{IsStandingFor}
+use Rattle.dk_bench.proofs.cores.serve.Given as goal
+
+abbrev pub invariant-jobs : goal.invariant-jobs
+invariant-jobs g l = IsStandingFor (g.G.Rules.rules l.fn.game) l.core

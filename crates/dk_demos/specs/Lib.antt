@@ -1,0 +1,4 @@
+pub mod Counting
+pub mod CounterLaws
+pub mod Rules
+pub mod Lawful

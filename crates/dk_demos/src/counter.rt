@@ -1,0 +1,82 @@
+//! What the game keeps of a counter.
+
+use dk_refs::{Managed, decode_as};
+use dk_types::{Blob, NoMemory};
+use dk_wire::{Form, PayloadRefused, Reader, Writer, encode};
+use std::alloc::Global;
+
+/// A counter, and how often it was raised.
+#[derive(Debug, Drop, PartialEq, Eq)]
+pub struct Counter {
+    pub count: u64,
+}
+
+/// The count.
+pub struct CounterForm;
+
+impl Form<Counter> for CounterForm {
+    ghost use Rattle.dk_demos.specs.Counting.{IsCounter, counter_bytes, next_counter};
+    ghost use Rattle.dk_demos.specs.CounterLaws.{each_counter_exact};
+
+    ghost fits = { λ _. IsCounter };
+
+    ghost spelling = { counter_bytes };
+
+    ghost reading = { λ _. next_counter };
+
+    ghost exact = { each_counter_exact };
+
+    fn put(writer: &mut Writer, counter: &Counter) -> Result<(), NoMemory> {
+        writer.put_u64(counter.count)
+    }
+
+    #[tactic(auto, unfolding(crate::specs::Counting::next_counter))]
+    fn take(
+        _alloc: Global,
+        reader: &mut Reader<'_>,
+        _: Option<&Counter>,
+    ) -> Result<Counter, PayloadRefused> {
+        let count = reader.next_u64()?;
+        Ok(Counter { count })
+    }
+}
+
+impl Managed for Counter {
+    ghost use Rattle.dk_demos.specs.Counting.{IsCounter, counter_bytes, counter_of};
+    ghost use Rattle.dk_demos.specs.CounterLaws.{counter_reads};
+
+    const KIND: u16 = 1;
+
+    ghost KIND = { 1 };
+
+    ghost fits = { IsCounter };
+
+    ghost bytes = { counter_bytes };
+
+    ghost of = { counter_of };
+
+    fn encode(&self, alloc: Global) -> Result<Blob, NoMemory> {
+        encode::<Counter, CounterForm>(alloc, self)
+    }
+
+    #[tactic(auto, unfolding(crate::specs::Counting::counter_of))]
+    fn decode(alloc: Global, payload: &Blob) -> Result<Option<Counter>, NoMemory> {
+        decode_as::<Counter, CounterForm>(alloc, payload.as_slice())
+    }
+
+    ghost exact = { counter_reads };
+}
+
+impl Counter {
+    ghost use Rattle.std.specs.Prelude.{◌≡◌};
+    ghost use Rattle.dk_demos.specs.Counting.{raised};
+
+    /// The counter raised by one. At the greatest number it stays.
+    pub fn raised(&self) -> Counter
+        ensures { result ≡ raised self.now }
+    {
+        Counter {
+            count: self.count.saturating_add(1),
+        }
+    }
+}

@@ -1,0 +1,9 @@
+pub mod Kept
+pub mod Lefts
+pub mod Sums
+pub mod KeptTasks
+pub mod Picks
+pub mod Fits
+pub mod Entered
+pub mod Ran
+pub mod Granted

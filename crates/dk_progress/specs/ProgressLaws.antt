@@ -1,0 +1,65 @@
+-- What the events of a play do to a world that is fit.
+use Rattle.std.specs.Prelude.{◌≡◌, ℕ, ◌+◌, ◌<◌, ◌≤◌, None, List, [], ◌∷◌, ◌++◌, Bool}
+use Rattle.dk_types.specs.declared.number.RunNo.{RunNo}
+use Rattle.dk_types.specs.declared.number.ConnNo.{ConnNo}
+use Rattle.dk_types.specs.declared.job.Job.{Job}
+use Rattle.dk_types.specs.declared.job.Input.{Input}
+use Rattle.dk_types.specs.declared.job.Out.{Out}
+use Rattle.dk_types.specs.declared.fault.Outcome.{Outcome}
+use Rattle.dk_types.specs.declared.event.Event.TheVariants as event
+use Rattle.dk_types.specs.declared.event.ConnectReply.{ConnectReply}
+use Rattle.dk_types.specs.declared.event.ConnectReply.TheVariants as connected
+use Rattle.dk_types.specs.declared.event.PostReply.{PostReply}
+use Rattle.dk_types.specs.declared.event.ClaimReply.TheVariants as claimed
+use Rattle.dk_types.specs.declared.limits.TheConstants.{NUMBERS_END, OUTS_MOST_COUNT}
+use Rattle.dk_model.specs.Worlds.{World, fresh_world}
+use Rattle.dk_model.specs.Events.{Meaning, Happens, outbox}
+use Rattle.dk_model.specs.Transcripts.{IsQuiet}
+use Rattle.dk_model.specs.Lawful.{AreLawful}
+use Rattle.dk_model.specs.Sendings.{IsTerse}
+use Rattle.dk_progress.specs.Fitness.{IsFit, left}
+
+abbrev pub FreshIsFit : Type 0
+FreshIsFit = (more : ℕ) → 1 + more ≤ NUMBERS_END → IsFit (fresh_world None) [] more
+
+-- a Connect draws a number where four are left, and then its connection is one of those that the world has
+abbrev pub Connected : List ConnNo → ℕ → ConnectReply → World → Type 0
+Connected conns more (connected.Number conn) after = IsFit after (conns ++ conn ∷ []) more
+Connected conns more (connected.Exhausted next) after = ⊥
+
+abbrev pub ConnectsFit : Type 0
+ConnectsFit =
+    (rules : Meaning) (w after : World) (conns : List ConnNo) (more pass : ℕ) (name : List ℕ) (reply : ConnectReply)
+    → IsFit w conns (4 + more) → Happens rules w (event.Connect pass name reply) after → Connected conns more reply after
+
+abbrev pub PostsFit : Type 0
+PostsFit =
+    (rules : Meaning) (w after : World) (conns : List ConnNo) (more pass : ℕ) (conn : ConnNo) (input : Input) (reply : PostReply)
+    → IsFit w conns (4 + more) → Happens rules w (event.Post pass conn input reply) after → IsFit after conns more
+
+-- a run that was claimed and committed: its numbers fit in what is printed, and less is left to run
+pub record IsRun (w : World) (conns : List ConnNo) (more : ℕ) (run : RunNo) (at : ℕ) (after : World) : Type 0 where
+  pub fit : IsFit after conns more
+  pub less : left after conns < left w conns
+  pub number : run.0 < NUMBERS_END
+  pub moment : at ≡ 0
+
+abbrev pub RunsLeaveLess : Type 0
+RunsLeaveLess =
+    (rules : Meaning) (w mid after : World) (conns : List ConnNo) (more pass : ℕ) (run : RunNo) (at : ℕ) (job : Job) (seq : ℕ) (outcome : Outcome)
+    → AreLawful rules → IsTerse rules → IsFit w conns more → Happens rules w (event.Claim pass (claimed.Granted run at job)) mid → Happens rules mid (event.Commit pass run seq outcome) after
+    → IsRun w conns more run at after
+
+-- no claim is refused; where nothing is left to run the world is quiet
+pub record AreGranted (w : World) : Type 0 where
+  pub quiet : (rules : Meaning) (pass : ℕ) (after : World) → Happens rules w (event.Claim pass claimed.Nothing) after → IsQuiet w × (after ≡ w)
+  pub unspent : (rules : Meaning) (pass granted : ℕ) (after : World) → Happens rules w (event.Claim pass (claimed.Spent granted)) after → ⊥
+  pub drawn : (rules : Meaning) (pass next : ℕ) (after : World) → Happens rules w (event.Claim pass (claimed.Exhausted next)) after → ⊥
+
+abbrev pub ClaimsAreGranted : Type 0
+ClaimsAreGranted = (w : World) (conns : List ConnNo) (more : ℕ) → IsFit w conns more → AreGranted w
+
+abbrev pub HandsTakeAll : Type 0
+HandsTakeAll =
+    (rules : Meaning) (w after : World) (conns : List ConnNo) (more pass : ℕ) (conn : ConnNo) (outs : List Out) (end : Bool)
+    → IsFit w conns more → Happens rules w (event.Hand pass conn OUTS_MOST_COUNT outs end) after → (outs ≡ outbox w conn) × IsFit after conns more
