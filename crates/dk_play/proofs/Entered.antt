@@ -1,6 +1,6 @@
 -- The lines of a script are entered one after another.
 use Rattle.std.proofs.Common.{◌≡◌, ℕ, ◌+◌, ◌*◌, ◌≤◌, Some, List, [], ◌∷◌, ◌++◌, length, refl, sym, ap, ◌∙◌, subst, arith, append_assoc}
-use Rattle.std.proofs.lemmas.List.{append-nil, length_push}
+use Rattle.std.proofs.lemmas.List.{length_push}
 use Rattle.std.specs.FinMap as maps
 use Rattle.dk_types.specs.declared.number.ConnNo.{ConnNo}
 use Rattle.dk_types.specs.declared.job.Input.{Input}
@@ -133,11 +133,7 @@ ready_rest old new l lines ready enters =
       stand = ready.stand.1;
     }
 
--- no lines
-pub enters_none : (p : Play) → EntersLines p [] p
-enters_none p rules more lawful going =
-    record { events = []; told = sym (append-nil p.events.items); small = tt; enters = refl; going = going_less rules p (4 * length {A = Line} [] + more) more (omega arith) going }
-
+-- one event more is entered
 enters-push : (rules : Meaning) (a b c : Playing) (lines : List Line) (events : List Event) (l : Line) (e : Event) → EntersAll rules a lines events b → EntersAll rules b (l ∷ []) (e ∷ []) c
     → EntersAll rules a (lines ++ l ∷ []) (events ++ e ∷ []) c
 enters-push rules a b c [] [] l e f g = subst (λ p. EntersAll rules p (l ∷ []) (e ∷ []) c) f g

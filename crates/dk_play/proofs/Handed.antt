@@ -1,6 +1,5 @@
 -- Each connection is handed all that waits for it.
 use Rattle.std.proofs.Common.{◌≡◌, List, [], ◌∷◌, ◌++◌, refl, sym, ap, ◌∙◌, subst, append_assoc}
-use Rattle.std.proofs.lemmas.List.{append-nil}
 use Rattle.dk_types.specs.declared.number.ConnNo.{ConnNo}
 use Rattle.dk_types.specs.declared.event.Event.{Event}
 use Rattle.dk_types.specs.declared.event.Event.TheVariants as event
@@ -18,10 +17,7 @@ use Rattle.dk_play.proofs.Alls.{all-append}
 use Rattle.dk_play.proofs.Led.{goes_happens, enters_goes}
 use Rattle.dk_progress.proofs.Fits.{hands_all}
 
--- no connection
-pub hands_none : (p : Play) → HandsAll p [] p
-hands_none p rules lawful going = record { events = []; told = sym (append-nil p.events.items); small = tt; hands = refl; same_means = refl; same_opened = refl; going = going }
-
+-- one event more is handed
 hands-push : (rules : Meaning) (a b c : World) (conns : List ConnNo) (events : List Event) (conn : ConnNo) (e : Event) → Hands rules a conns events b → Hands rules b (conn ∷ []) (e ∷ []) c
     → Hands rules a (conns ++ conn ∷ []) (events ++ e ∷ []) c
 hands-push rules a b c [] [] conn e f g = subst (λ w. Hands rules w (conn ∷ []) (e ∷ []) c) f g

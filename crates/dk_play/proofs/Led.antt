@@ -8,7 +8,7 @@ use Rattle.dk_model.specs.Lawful.{AreLawful}
 use Rattle.dk_model.specs.Openings.{opening}
 use Rattle.dk_laws.proofs.OneWorld.{events_lead, parted}
 use Rattle.dk_core.specs.declared.world.Core.{Core}
-use Rattle.dk_core.specs.Cores.{world_of, Enters, IsStanding}
+use Rattle.dk_core.specs.Cores.{world_of, Enters}
 use Rattle.dk_serving.specs.Servings.{IsStandingFor, Goes}
 
 -- the events of a call lead from the one world to the other
@@ -39,7 +39,3 @@ goes_both rules old new first second s goes =
 -- what is entered by any lawful rules is entered by these
 pub enters_goes : (rules : Meaning) → AreLawful rules → (old new : Core) (e : Event) → Enters old new e → Goes rules old new (e ∷ [])
 enters_goes rules lawful old new e enters d budget events s = enters rules d budget events lawful s
-
--- the core stands still
-pub standing_for : (rules : Meaning) (c : Core) → AreLawful rules → IsStandingFor rules c → IsStanding c
-standing_for rules c lawful s = record { rules = rules; opened = s.opened; budget = s.budget; events = s.events; lawful = lawful; stands = s.stands }

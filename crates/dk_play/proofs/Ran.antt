@@ -115,6 +115,7 @@ serves_none rules p = record {
   going = λ more going. going;
 }
 
+-- what follows in two parts follows
 follows-append : (rules : Meaning) (a b c : World) (is js : List OrderItem) (es fs : List Event) → Follows rules a is es b → Follows rules b js fs c → Follows rules a (is ++ js) (es ++ fs) c
 follows-append rules a b c [] js [] fs f g = subst (λ w. Follows rules w js fs c) f g
 follows-append rules a b c (i ∷ is) js (e ∷ es) fs f g = (f.0, f.1, f.2, follows-append rules f.0 b c is js es fs f.3 g)
