@@ -111,7 +111,13 @@ fn opened(pair: &Option<Pair>) -> io::Result<&Pair> {
     pair.as_ref().ok_or(io::ErrorKind::NotFound.into())
 }
 
-fn fill(pair: &Pair, lengths: &mut Lengths, side: Side, at: u64, into: &mut [u8]) -> io::Result<()> {
+fn fill(
+    pair: &Pair,
+    lengths: &mut Lengths,
+    side: Side,
+    at: u64,
+    into: &mut [u8],
+) -> io::Result<()> {
     let length = lengths.of(pair, side)?;
     if at > length || into.len() as u64 > length - at {
         return Err(io::ErrorKind::UnexpectedEof.into());
