@@ -1,16 +1,26 @@
 -- The steps of a store that shows the entries es of an `OrderedMap` as the finite map m. `v` is what its opened model
 -- says, as `ap (λ s. s.map) c.self.view_is`, and `h` is its invariant, that the entries are in order.
-use Rattle.std.proofs.Common.{◌≡◌, refl, sym, ap, subst, ◌∙◌, List, length, Option, is_some}
+use Rattle.std.proofs.Common.{◌≡◌, refl, Bool, true, false, cond, not, sym, ap, subst, ◌∙◌, List, [], ◌∷◌, length, Option, None, Some, is_some}
 use Rattle.std.specs.declared.cmp.Ordering.{Ordering}
 use Rattle.std.specs.Cmp.{IsTotalOrder}
 use Rattle.std.specs.Option.{option_map}
 use Rattle.std.specs.FinMap as map
 use Rattle.std.specs.FinMap.{FinMap, IsAntisymmetric}
-use Rattle.dk_map.specs.Entries.{find, put, without, entry_after, IsOrdered}
+use Rattle.dk_map.specs.Entries.{find, put, without, entry_after, IsChanged, IsOrdered}
+use Rattle.std.specs.Ordering.{eq_by_cmp}
 use Rattle.dk_map.specs.AsMap.{map_of, IsNext}
 use Rattle.dk_map.proofs.Counts.{found_of}
 use Rattle.dk_map.proofs.Maps.{get-map_of, len-map_of, entries-map_of, map_of-put, map_of-without}
 use Rattle.dk_map.proofs.Next.{next-map_of}
+
+-- where a key is not found, nothing goes with it
+pub without_absent : {K X : Type 0} (R : K → K → Ordering) (k : K) (es : List (K × X)) → find R k es ≡ None → without R k es ≡ es
+without_absent R k [] f = refl
+without_absent R k (x ∷ es) f =
+    elim (eq_by_cmp R k x.0) as (λ b. cond b (Some x.1) (find R k es) ≡ None → cond (not b) (x ∷ without R k es) (without R k es) ≡ x ∷ es) [
+      | true ↦ λ g. cc
+      | false ↦ λ g. ap (λ t. x ∷ t) (without_absent R k es g)
+    ] f
 
 module _ {K V : Type 0} {R : K → K → Ordering} {m : FinMap R V} (es : List (K × V)) (v : map_of R es ≡ m) (h : IsOrdered R es) where
   -- what `get` finds
@@ -41,3 +51,11 @@ module _ {K V : Type 0} {R : K → K → Ordering} (o : IsTotalOrder R) {m : Fin
   -- what `next_after` and `first` answer, by their clause
   pub next_seen : (after : Option K) (r : Option (K × V)) → r ≡ entry_after R after es → IsNext m after r
   next_seen after r e = subst (λ n. IsNext n after r) v (subst (IsNext (map_of R es) after) (sym e) (next-map_of o es h after))
+
+  -- what `change` leaves, by its clause: `W` is m with what a key has, or without the key
+  pub changed_seen : IsAntisymmetric R → (k : K) (P : V → V → Type 0) (f : V → V) → ((x y : V) → P x y → y ≡ f x) → (there : Bool) (fs : List (K × V)) → IsChanged R k P es fs there
+      → (W : Option V → FinMap R V) → W None ≡ map.remove m k → ((x : V) → W (Some x) ≡ map.insert m k x) → map_of R fs ≡ W (option_map f (map.get m k))
+  changed_seen same k P f is true fs c W none some =
+      put_seen k c.1 fs c.4 ∙ ap (map.insert m k) (is c.0 c.1 c.3) ∙ sym (some (f c.0)) ∙ ap (λ r. W (option_map f r)) (sym c.2 ∙ get_seen es v h k)
+  changed_seen same k P f is false fs c W none some =
+      without_seen same k fs (c.1 ∙ sym (without_absent R k es c.0)) ∙ sym none ∙ ap (λ r. W (option_map f r)) (sym c.0 ∙ get_seen es v h k)

@@ -2,7 +2,8 @@
 ghost use Rattle.std.specs.Prelude.{◌≡◌, ◌+◌, ◌^◌, ◌<◌, ◌≤◌, [], ◌++◌, length, map, None, Some, IfSome, IfOk, OnErr, OnOk, is_some, IsTrue, ◌↔◌, if◌then◌else◌, Ok, vec_len, vec_capacity};
 ghost use Rattle.std.specs.Option.{option_map, option_copied};
 ghost use Rattle.std.specs.declared.cmp.Ordering.TheVariants.{Equal};
-ghost use Rattle.dk_map.specs.Entries.{find, put, without, first_entry, entry_after, IsOrdered, IsReplaced};
+ghost use Rattle.std.specs.Fn.{FnOnceReturnsAtMut};
+ghost use Rattle.dk_map.specs.Entries.{find, put, without, first_entry, entry_after, IsOrdered, IsReplaced, IsChanged};
 
 use crate::tree::{Cell, Tree};
 use std::alloc::{AllocError, Global};
@@ -153,6 +154,16 @@ impl<K: Ord + Drop, V: Drop> OrderedMap<K, V> {
         ensures ordered { IsOrdered K.cmp self.new.entries }
     {
         self.tree.replace(key, value)
+    }
+
+    /// Changes the value at a key where it stands, and tells whether there is one. Nothing is moved.
+    pub fn change<F: FnOnce(&mut V)>(&mut self, key: &K, change: F) -> bool
+        requires callable { F.IsAlwaysCallable change }
+        ensures changed { IsChanged K.cmp key.now (λ old new. FnOnceReturnsAtMut F.FnOnce change old tt new) self.old.entries self.new.entries result }
+        ensures spare { self.new.spare ≡ self.old.spare }
+        ensures ordered { IsOrdered K.cmp self.new.entries }
+    {
+        self.tree.change(key, change)
     }
 
     /// Takes the entry at a key out, if there is one. Its room is spare from then on.

@@ -108,10 +108,7 @@ impl Names {
         ensures names { self.new.names ≡ restamped stamp name.now self.old.names }
         ensures spare { self.new.spare ≡ self.old.spare }
     {
-        let Some((name, binding)) = self.names.remove(name) else {
-            return;
-        };
-        self.names.insert(name, (binding.0, stamp));
+        self.names.change(name, |binding| binding.1 = stamp);
     }
 
     /// All bound names in their order, in one walk. Only the list itself takes memory.

@@ -100,10 +100,7 @@ impl Objects {
         ensures objects { self.new.objects ≡ restamped stamp id self.old.objects }
         ensures spare { self.new.spare ≡ self.old.spare }
     {
-        let Some((id, stamped)) = self.objects.remove(&id) else {
-            return;
-        };
-        self.objects.insert(id, (stamped.0, stamp));
+        self.objects.change(&id, |stamped| stamped.1 = stamp);
     }
 
     /// All objects in the order of their ids, in one walk. Only the list itself takes memory.

@@ -32,6 +32,16 @@ pub All-follows : {X : Type 0} {P Q : X → Type 0} → ((x : X) → P x → Q x
 All-follows f [] a = tt
 All-follows f (x ∷ xs) a = (f x a.0, All-follows f xs a.1)
 
+-- of two values put at a key the second stays
+pub put_again : {K X : Type 0} {R : K → K → Ordering} → IsTotalOrder R → (k : K) (x y : X) (es : List (K × X)) → put R k x (put R k y es) ≡ put R k x es
+put_again o k x y [] = ap (λ c. by_order c ((k, x) ∷ (k, y) ∷ []) ((k, x) ∷ []) ((k, y) ∷ (k, x) ∷ [])) (tied_itself o k)
+put_again {R = R} o k x y (e ∷ es) =
+    elim (R k e.0) as (λ c. R k e.0 ≡ c → put R k x (by_order c ((k, y) ∷ e ∷ es) ((e.0, y) ∷ es) (e ∷ put R k y es)) ≡ by_order c ((k, x) ∷ e ∷ es) ((e.0, x) ∷ es) (e ∷ put R k x es)) [
+      | Less ↦ λ _. ap (λ c. by_order c ((k, x) ∷ (k, y) ∷ e ∷ es) ((k, x) ∷ e ∷ es) ((k, y) ∷ put R k x (e ∷ es))) (tied_itself o k)
+      | Equal ↦ λ t. ap (λ c. by_order c ((k, x) ∷ (e.0, y) ∷ es) ((e.0, x) ∷ es) ((e.0, y) ∷ put R k x es)) t
+      | Greater ↦ λ t. ap (λ c. by_order c ((k, x) ∷ e ∷ put R k y es) ((e.0, x) ∷ put R k y es) (e ∷ put R k x (put R k y es))) t ∙ ap (λ r. e ∷ r) (put_again o k x y es)
+    ] refl
+
 module _ {K X : Type 0} {R : K → K → Ordering} (o : IsTotalOrder R) where
   -- a search without a key
   pub find-without : (k q : K) (es : List (K × X)) → find R q (without R k es) ≡ cond (eq_by_cmp R q k) None (find R q es)

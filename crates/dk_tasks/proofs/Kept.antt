@@ -1,19 +1,17 @@
 -- The map that callers see, beside the entries that the store keeps.
-use Rattle.std.proofs.Common.{◌≡◌, refl, sym, ap, subst, ◌∙◌, Bool, true, false, cond, List, length, None, Some, is_some, map}
+use Rattle.std.proofs.Common.{◌≡◌, refl, sym, ap, subst, ◌∙◌, cond, List, length, None, Some, is_some, map}
 use Rattle.std.specs.Prelude.{T}
 use Rattle.std.specs.Option.{option_map}
-use Rattle.std.specs.Ordering.{is_eq, eq_by_cmp}
+use Rattle.std.specs.Ordering.{is_eq}
 use Rattle.std.specs.Cmp.{tied_itself}
-use Rattle.std.specs.FinMap.{FinMap, entries, get, contains_key, len, insert, remove, get-insert, get-remove, same_map}
+use Rattle.std.specs.FinMap.{FinMap, entries, get, contains_key, len, insert, remove, get-remove}
 use Rattle.dk_types.specs.declared.number.TaskKey.{TaskKey}
 use Rattle.dk_map.specs.Entries.{find, put, without, IsOrdered}
 use Rattle.dk_map.proofs.Counts.{found_of}
 use Rattle.dk_map.proofs.Maps.{entries-map_of}
-use Rattle.dk_map.proofs.PutBack.{insert-remove}
 use Rattle.dk_map.proofs.Seen.{get_seen, len_seen, put_seen, without_seen}
 use Rattle.dk_model.specs.Keys.{key_cmp}
-use Rattle.dk_model.specs.DurableWorlds.{with_value}
-use Rattle.dk_tasks.specs.Tasks.{Kept, stamped, changed_at}
+use Rattle.dk_tasks.specs.Tasks.{Kept, stamped}
 use Rattle.dk_tasks.specs.Places.{kept_of, kept_entry, kept_tasks}
 use Rattle.dk_tasks.specs.declared.stored.Stored.{Stored}
 use Rattle.dk_tasks.proofs.Mapped.{find-changed, put-changed, without-changed, sorted-changed, length-changed}
@@ -60,7 +58,3 @@ stamped-kept_of s k e = λ i. (record { key = sym e i; due = s.task.due; period 
 -- a key that was taken out is not there
 pub get-remove_same : (m : FinMap key_cmp Kept) (k : TaskKey) → get (remove m k) k ≡ None
 get-remove_same m k = get-remove key_total m k k ∙ ap (λ c. cond (is_eq c) None (get m k)) (tied_itself key_total k)
-
--- to take out what stands at a key and then to insert it changed is to change it
-pub changed_again : (m : FinMap key_cmp Kept) (k : TaskKey) (change : Kept → Kept) (t : Kept) → Some t ≡ get m k → insert (remove m k) k (change t) ≡ changed_at change k m
-changed_again m k change t e = insert-remove key_total key_same m k (change t) ∙ ap (λ r. with_value m k (option_map change r)) e

@@ -1,10 +1,13 @@
+pub mod Changes
 pub mod Durable
 pub mod Found
+pub mod Held
 pub mod Kept
 pub mod Leasts
 pub mod Mapped
 pub mod Orders
 pub mod Rooms
 pub mod Soonest
+pub mod Spares
 pub mod Steps
 pub mod Walk

@@ -1,8 +1,8 @@
 -- The orders of keys, places and due tasks are total, and only equal keys and equal places tie.
-use Rattle.std.proofs.Common.{ℕ, refl, true, false}
+use Rattle.std.proofs.Common.{ℕ}
 use Rattle.std.specs.declared.cmp.Ordering.{Ordering}
-use Rattle.std.specs.Ordering.{nat_cmp, bool_cmp, on, then_cmp}
-use Rattle.std.specs.Cmp.{IsTotalOrder, on_total, then_total, nat_cmp_total, bool_cmp_total}
+use Rattle.std.specs.Ordering.{nat_cmp, on, then_cmp}
+use Rattle.std.specs.Cmp.{IsTotalOrder, on_total, then_total, nat_cmp_total}
 use Rattle.std.specs.FinMap.{IsAntisymmetric, nat_cmp-IsAntisymmetric}
 use Rattle.dk_types.specs.declared.number.TaskKey.{TaskKey}
 use Rattle.dk_map.proofs.Keys.{then-IsAntisymmetric}
@@ -27,17 +27,11 @@ moment_total = then_total (on_total (λ (d : ℕ × TaskKey). d.0) nat_cmp_total
 pub moment_same : IsAntisymmetric moment_cmp
 moment_same = then-IsAntisymmetric (λ (d : ℕ × TaskKey). d.0) (λ (d : ℕ × TaskKey). d.1) nat_cmp-IsAntisymmetric key_same (λ x y p q i. (p i, q i))
 
-bool_same : IsAntisymmetric bool_cmp
-bool_same false false e = refl
-bool_same false true e = cc
-bool_same true false e = cc
-bool_same true true e = refl
-
 pub place_total : IsTotalOrder place_cmp
-place_total = then_total (on_total (λ (p : Place). p.claimed) bool_cmp_total) (on_total (λ (p : Place). (p.due, p.key)) moment_total)
+place_total = on_total (λ (p : Place). (p.due, p.key)) moment_total
 
 pub place_same : IsAntisymmetric place_cmp
-place_same = then-IsAntisymmetric (λ (p : Place). p.claimed) (λ (p : Place). (p.due, p.key)) bool_same moment_same (λ x y p q i. record { claimed = p i; due = (q i).0; key = (q i).1 })
+place_same = then-IsAntisymmetric (λ (p : Place). p.due) (λ (p : Place). p.key) nat_cmp-IsAntisymmetric key_same (λ x y p q i. record { due = p i; key = q i })
 
 -- the order of tasks that `is_sooner` tests
 abbrev pub sooner_cmp : TaskKey × Task → TaskKey × Task → Ordering

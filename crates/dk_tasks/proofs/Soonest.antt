@@ -5,7 +5,7 @@ use Rattle.std.specs.List.{AllByRecursion, filter}
 use Rattle.std.specs.Option.{option_map}
 use Rattle.std.specs.declared.cmp.Ordering.{Ordering}
 use Rattle.std.specs.declared.cmp.Ordering.TheVariants.{Less, Equal, Greater}
-use Rattle.std.specs.Ordering.{is_lt, eq_by_cmp, nat_cmp, bool_cmp, ordering_then, ordering_reverse}
+use Rattle.std.specs.Ordering.{is_lt, eq_by_cmp, nat_cmp, ordering_then, ordering_reverse}
 use Rattle.std.specs.Cmp.{ranked}
 use Rattle.std.specs.FinMap.{FinMap, entries, entries_sorted, get, get-entries}
 use Rattle.dk_types.specs.declared.number.TaskKey.{TaskKey}
@@ -138,13 +138,18 @@ le_of a b e = grind (arith, nat_tests)
 le_true : (a b : ℕ) → a ≤ b → nat_le a b ≡ true
 le_true a b h = grind (arith, nat_tests)
 
+-- both tests of a place that is there
+free_and : (claimed b : Bool) → (not claimed && b) ≡ true → (claimed ≡ false) × (b ≡ true)
+free_and true b e = cc
+free_and false b e = (refl, e)
+
 module _ (t : List (TaskKey × Stored)) (p : List (Place × Unit {0})) (i : IsInStep t p) where
-  -- what stands at a place that is there
-  standing : (q : Place) → is_some (find place_cmp q p) ≡ true → (s : Stored) × (find key_cmp q.key t ≡ Some s) × (q ≡ place_of q.key s)
+  -- what stands at a place that is there: no run has it
+  standing : (q : Place) → is_some (find place_cmp q p) ≡ true → (s : Stored) × (find key_cmp q.key t ≡ Some s) × (s.claimed ≡ false) × (q ≡ place_of q.key s)
   standing q e =
-      elim (find key_cmp q.key t) as (λ r. find key_cmp q.key t ≡ r → is_placed q r ≡ true → (s : Stored) × (find key_cmp q.key t ≡ Some s) × (q ≡ place_of q.key s)) [
+      elim (find key_cmp q.key t) as (λ r. find key_cmp q.key t ≡ r → is_placed q r ≡ true → (s : Stored) × (find key_cmp q.key t ≡ Some s) × (s.claimed ≡ false) × (q ≡ place_of q.key s)) [
         | None ↦ λ _ b. cc
-        | Some s ↦ λ f b. (s, f, place_same q (place_of q.key s) (tied _ b))
+        | Some s ↦ λ f b. let parts = free_and s.claimed _ b in (s, f, parts.0, place_same q (place_of q.key s) (tied _ parts.1))
       ] refl (sym (i.placed q) ∙ e)
 
   -- what is seen at a key is kept there
@@ -159,67 +164,55 @@ module _ (t : List (TaskKey × Stored)) (p : List (Place × Unit {0})) (i : IsIn
   next = next-map_of place_total p i.places_ordered None
 
   module _ (at : ℕ) where
-    -- where nothing stands at the front, nothing is pending
+    -- no run has a task that is due
+    free_due : (k : TaskKey) (u : Kept) → get (kept_tasks t) k ≡ Some u → is_due at (k, u) ≡ true → (s : Stored) × (find key_cmp k t ≡ Some s) × (kept_of s ≡ u) × (s.claimed ≡ false)
+    free_due k u g d =
+        let r = kept_there k u g in
+        (r.0, r.1, r.2, ap (λ (x : Kept). x.claimed) r.2 ∙ (due_parts at u.task.due u.claimed d).1)
+
+    -- where nothing stands at the front, each task has a run
     pub soonest_of_none : first_entry p ≡ None → IsSoonest (kept_tasks t) at None
     soonest_of_none e =
         let n = subst (IsNext (map_of place_cmp p) None) e next in
         none_due at (kept_tasks t) (λ k u g d.
-        let s = kept_there k u g in
+        let s = free_due k u g d in
         let absent = sym (get-map_of place_cmp p i.places_ordered (place_of k s.0)) ∙ n (place_of k s.0) tt in
-        let there = sym (ap is_some absent) ∙ placed_there t p i k s.0 s.1 in
+        let there = sym (ap is_some absent) ∙ placed_there t p i k s.0 s.1 s.3 in
         cc)
 
     module _ (q : Place) (v : Unit {0}) (e : first_entry p ≡ Some (q, v)) where
       -- no task's place is before the front
-      front : (k : TaskKey) (s : Stored) → find key_cmp k t ≡ Some s → is_lt (place_cmp (place_of k s) q) ≡ false
-      front k s f =
+      front : (k : TaskKey) (s : Stored) → find key_cmp k t ≡ Some s → s.claimed ≡ false → is_lt (place_cmp (place_of k s) q) ≡ false
+      front k s f free =
           let n = subst (IsNext (map_of place_cmp p) None) e next in
-          n.2 (place_of k s) tt ((ap is_some (get-map_of place_cmp p i.places_ordered (place_of k s)) ∙ placed_there t p i k s f))
+          n.2 (place_of k s) tt ((ap is_some (get-map_of place_cmp p i.places_ordered (place_of k s)) ∙ placed_there t p i k s f free))
 
       -- and a task stands there
-      at_front : (s : Stored) × (find key_cmp q.key t ≡ Some s) × (q ≡ place_of q.key s)
+      at_front : (s : Stored) × (find key_cmp q.key t ≡ Some s) × (s.claimed ≡ false) × (q ≡ place_of q.key s)
       at_front =
           let n = subst (IsNext (map_of place_cmp p) None) e next in
           standing q (ap is_some (sym (get-map_of place_cmp p i.places_ordered q) ∙ n.0))
 
-      -- one that no run has is not before the front either by its moment alone
-      unclaimed_front : (k : TaskKey) (s : Stored) → find key_cmp k t ≡ Some s → s.claimed ≡ false → q.claimed ≡ false → is_lt (ordering_then (nat_cmp s.task.due q.due) (key_cmp k q.key)) ≡ false
-      unclaimed_front k s f a b = subst (λ c. is_lt (ordering_then c (ordering_then (nat_cmp s.task.due q.due) (key_cmp k q.key))) ≡ false) (λ j. bool_cmp (a j) (b j)) (front k s f)
-
-      pub soonest_at_front : q.claimed ≡ false → q.due ≤ at → IsSoonest (kept_tasks t) at (Some q.key)
-      soonest_at_front a b =
+      pub soonest_at_front : q.due ≤ at → IsSoonest (kept_tasks t) at (Some q.key)
+      soonest_at_front b =
           let s = at_front in
           let there = sym (kept_get t refl i.ordered q.key) ∙ ap (option_map kept_of) s.1 in
-          let due : q.due ≡ s.0.task.due = ap (λ (p : Place). p.due) s.2 in
-          let free : q.claimed ≡ s.0.claimed = ap (λ (p : Place). p.claimed) s.2 in
-          let is : is_due at (q.key, kept_of s.0) ≡ true = (λ j. nat_le (sym due j) at && not ((sym free ∙ a) j)) ∙ ap (λ c. c && true) (le_true _ _ b) in (
+          let due : q.due ≡ s.0.task.due = ap (λ (p : Place). p.due) s.3 in
+          let is : is_due at (q.key, kept_of s.0) ≡ true = (λ j. nat_le (sym due j) at && not (s.2 j)) ∙ ap (λ c. c && true) (le_true _ _ b) in (
             kept_of s.0,
             there,
             some_due at (kept_tasks t) q.key (kept_of s.0) there is (λ k u g d.
-                let r = kept_there k u g in
-                let parts = due_parts at u.task.due u.claimed d in
-                let unclaimed : r.0.claimed ≡ false = ap (λ (x : Kept). x.claimed) r.2 ∙ parts.1 in
+                let r = free_due k u g d in
                 subst (λ x. is_sooner (k, x) (q.key, (kept_of s.0).task) ≡ false) (ap (λ (x : Kept). x.task) r.2)
-                (subst (λ x. is_lt (ordering_then (nat_cmp r.0.task.due x) (key_cmp k q.key)) ≡ false) due (unclaimed_front k r.0 r.1 unclaimed a))),
+                (subst (λ x. is_lt (ordering_then (nat_cmp r.0.task.due x) (key_cmp k q.key)) ≡ false) due (front k r.0 r.1 r.3))),
           )
 
-      -- where a run has the one at the front, each has a run
-      pub soonest_of_claimed : q.claimed ≡ true → IsSoonest (kept_tasks t) at None
-      soonest_of_claimed a =
-          none_due at (kept_tasks t) (λ k u g d.
-          let r = kept_there k u g in
-          let unclaimed : r.0.claimed ≡ false = ap (λ (x : Kept). x.claimed) r.2 ∙ (due_parts at u.task.due u.claimed d).1 in
-          let first : is_lt (ordering_then (bool_cmp false true) (ordering_then (nat_cmp r.0.task.due q.due) (key_cmp k q.key))) ≡ false = subst (λ c. is_lt (ordering_then c (ordering_then (nat_cmp r.0.task.due q.due) (key_cmp k q.key))) ≡ false) (λ j. bool_cmp (unclaimed j) (a j)) (front k r.0 r.1) in
-          cc)
-
       -- where the one at the front is later, all are
-      pub soonest_of_later : q.claimed ≡ false → at < q.due → IsSoonest (kept_tasks t) at None
-      soonest_of_later a b =
+      pub soonest_of_later : at < q.due → IsSoonest (kept_tasks t) at None
+      soonest_of_later b =
           none_due at (kept_tasks t) (λ k u g d.
-          let r = kept_there k u g in
-          let parts = due_parts at u.task.due u.claimed d in
-          let unclaimed : r.0.claimed ≡ false = ap (λ (x : Kept). x.claimed) r.2 ∙ parts.1 in
+          let r = free_due k u g d in
           let same : r.0.task.due ≡ u.task.due = ap (λ (x : Kept). x.task.due) r.2 in
-          let order = not_before r.0.task.due q.due (key_cmp k q.key) (unclaimed_front k r.0 r.1 unclaimed a) in
-          let soon : u.task.due ≤ at = le_of _ _ parts.0 in
+          let order = not_before r.0.task.due q.due (key_cmp k q.key) (front k r.0 r.1 r.3) in
+          let soon : u.task.due ≤ at = le_of _ _ (due_parts at u.task.due u.claimed d).0 in
           absurd (omega arith))

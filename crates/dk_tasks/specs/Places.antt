@@ -1,9 +1,9 @@
--- How the store keeps its tasks: in a tree by key, and each once more by its place, which is told by whether a run has it,
--- its due moment and its key. So those that no run has stand first, the soonest at the front.
-use Rattle.std.specs.Prelude.{◌≡◌, Bool, false, is_some, Option, None, Some, List, map}
+-- How the store keeps its tasks: in a tree by key, and each that no run has once more by its place, which is told by its due
+-- moment and its key. So the soonest of them stands at the front.
+use Rattle.std.specs.Prelude.{◌≡◌, ℕ, ◌+◌, ◌&&◌, not, Bool, false, is_some, Option, None, Some, List, length, map, filter}
 use Rattle.std.specs.List.{AllByRecursion}
 use Rattle.std.specs.declared.cmp.Ordering.{Ordering}
-use Rattle.std.specs.Ordering.{nat_cmp, bool_cmp, on, then_cmp, eq_by_cmp}
+use Rattle.std.specs.Ordering.{nat_cmp, on, then_cmp, eq_by_cmp}
 use Rattle.std.specs.FinMap.{FinMap}
 use Rattle.dk_types.specs.declared.number.TaskKey.{TaskKey}
 use Rattle.dk_map.specs.AsMap.{map_of}
@@ -25,26 +25,38 @@ kept_entry e = (e.0, kept_of e.1)
 abbrev pub kept_tasks : List (TaskKey × Stored) → FinMap key_cmp Kept
 kept_tasks es = map_of key_cmp (map kept_entry es)
 
--- by claim, due moment and key, as the derive compares
+-- by due moment and key, as the derive compares
 abbrev pub place_cmp : Place → Place → Ordering
-place_cmp = then_cmp (on (λ p. p.claimed) bool_cmp) (then_cmp (on (λ p. p.due) nat_cmp) (on (λ p. p.key) key_cmp))
+place_cmp = then_cmp (on (λ p. p.due) nat_cmp) (on (λ p. p.key) key_cmp)
 
 -- where a task stands
 abbrev pub place_of : TaskKey → Stored → Place
-place_of key s = record { claimed = s.claimed; due = s.task.due; key = key }
+place_of key s = record { due = s.task.due; key = key }
 
--- whether what was found at a place's key stands there
+-- a task with another due moment, and with another mark of whether a run has it
+abbrev pub due_at : ℕ → Stored → Stored
+due_at due s = record s { task = record s.task { due = due } }
+
+abbrev pub claimed_at : Bool → Stored → Stored
+claimed_at claimed s = record s { claimed = claimed }
+
+-- whether what was found at a place's key stands there: what a run has does not
 abbrev pub is_placed : Place → Option Stored → Bool
 is_placed p None = false
-is_placed p (Some s) = eq_by_cmp place_cmp p (place_of p.key s)
+is_placed p (Some s) = not s.claimed && eq_by_cmp place_cmp p (place_of p.key s)
+
+-- how many of the tasks a run has
+abbrev pub held_count : List (TaskKey × Stored) → ℕ
+held_count tasks = length (filter (λ e. e.1.claimed) tasks)
 
 -- each task is kept at its own key
 abbrev pub IsKeyed : TaskKey × Stored → Type 0
 IsKeyed e = e.1.task.key ≡ e.0
 
--- the two trees keep the same tasks
+-- the one tree keeps the tasks, and the other the places of those that no run has
 pub record IsInStep (tasks : List (TaskKey × Stored)) (places : List (Place × Unit {0})) : Type 0 where
   pub ordered : IsOrdered key_cmp tasks
   pub keyed : AllByRecursion IsKeyed tasks
   pub places_ordered : IsOrdered place_cmp places
   pub placed : (p : Place) → is_some (find place_cmp p places) ≡ is_placed p (find key_cmp p.key tasks)
+  pub counted : length places + held_count tasks ≡ length tasks

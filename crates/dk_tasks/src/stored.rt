@@ -1,4 +1,4 @@
-// How a task is kept, and where it stands among those that are due.
+// How a task is kept, and where it stands among those that wait for a run.
 
 use dk_types::{Pending, TaskKey};
 
@@ -10,10 +10,9 @@ pub struct Stored {
     pub claimed: bool,
 }
 
-/// A task's place: those that no run has come first, then the sooner ones, then those of lesser keys.
+/// The place of a task that no run has: the sooner ones come first, then those of lesser keys.
 #[derive(Clone, Copy, PartialEq, Eq, PartialOrd, Ord)]
 pub struct Place {
-    pub claimed: bool,
     pub due: u64,
     pub key: TaskKey,
 }
@@ -26,7 +25,6 @@ impl Stored {
         ensures { result ≡ place_of self.now.task.key self.now }
     {
         Place {
-            claimed: self.claimed,
             due: self.task.due,
             key: self.task.key,
         }

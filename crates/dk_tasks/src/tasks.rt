@@ -1,5 +1,5 @@
 // The store.
-ghost use Rattle.std.specs.Prelude.{◌≡◌, ◌+◌, ◌<◌, ◌≤◌, ◌↔◌, true, None, Ok, IsTrue, IfOk, IfSome, OnOk, OnErr, map as list_map, if◌then◌else◌};
+ghost use Rattle.std.specs.Prelude.{◌≡◌, ◌+◌, ◌<◌, ◌≤◌, ◌↔◌, true, false, None, Some, Ok, IsTrue, IfOk, IfSome, OnOk, OnErr, map as list_map, if◌then◌else◌};
 ghost use Rattle.std.specs.Option.{option_map};
 ghost use Rattle.std.specs.FinMap as map;
 ghost use Rattle.dk_model.specs.Effects.{pending_of, task_of};
@@ -7,6 +7,10 @@ ghost use Rattle.dk_model.specs.Picks.{pick_task};
 ghost use Rattle.dk_model.specs.Worlds.{World};
 ghost use Rattle.dk_tasks.specs.Tasks.{unclaimed, with_due, with_stamp, with_claim, changed_at, stamped, durable_tasks};
 ghost use Rattle.dk_tasks.specs.Due.{least_due as soonest, HasTasks, job_at};
+ghost use Rattle.dk_tasks.specs.Places.{due_at, claimed_at};
+ghost use Rattle.dk_tasks.specs.declared.stored.Stored.{Stored};
+ghost use Rattle.dk_map.specs.Entries.{find, put};
+ghost use Rattle.dk_model.specs.Keys.{key_cmp};
 
 use crate::stored::{Place, Stored};
 use dk_map::OrderedMap;
@@ -14,7 +18,8 @@ use dk_types::{NoMemory, Pending, TaskKey};
 use std::alloc::Global;
 use std::marker::Model;
 
-/// The pending tasks by their keys. The room that was made stays until the store is dropped.
+/// The pending tasks by their keys, and the places of those that no run has. The room that was made stays until the
+/// store is dropped.
 #[derive(Drop)]
 pub struct Tasks {
     tasks: OrderedMap<TaskKey, Stored>,
@@ -22,17 +27,33 @@ pub struct Tasks {
 }
 
 impl Model for Tasks {
-    ghost use Rattle.std.specs.Prelude.{min};
+    ghost use Rattle.std.specs.Prelude.{◌-◌, ◌≤◌, min};
     ghost use Rattle.dk_tasks.specs.Tasks.{Shown, shown_code};
-    ghost use Rattle.dk_tasks.specs.Places.{kept_tasks, IsInStep};
+    ghost use Rattle.dk_tasks.specs.Places.{kept_tasks, held_count, IsInStep};
 
     ghost Value = { Shown };
 
     ghost coded = { shown_code };
 
-    ghost view = { λ a. record { tasks = kept_tasks a.tasks.entries; spare = min a.tasks.spare a.places.spare } };
+    ghost view = { λ a. record { tasks = kept_tasks a.tasks.entries; spare = min a.tasks.spare (a.places.spare - held_count a.tasks.entries) } };
 
-    ghost invariant = { λ a. IsInStep a.tasks.entries a.places.entries };
+    ghost invariant = { λ a. IsInStep a.tasks.entries a.places.entries × (held_count a.tasks.entries ≤ a.places.spare) };
+}
+
+/// Gives a task another due moment. Its place is not moved.
+fn set_due(tasks: &mut OrderedMap<TaskKey, Stored>, key: TaskKey, due: u64)
+    ensures entries { (s : Stored) → find key_cmp key tasks.old.entries ≡ Some s → tasks.new.entries ≡ put key_cmp key (due_at due s) tasks.old.entries }
+    ensures spare { tasks.new.spare ≡ tasks.old.spare }
+{
+    tasks.change(&key, |stored| stored.task.due = due);
+}
+
+/// Marks whether a claimed run has a task. Its place is not moved.
+fn set_claim(tasks: &mut OrderedMap<TaskKey, Stored>, key: TaskKey, claimed: bool)
+    ensures entries { (s : Stored) → find key_cmp key tasks.old.entries ≡ Some s → tasks.new.entries ≡ put key_cmp key (claimed_at claimed s) tasks.old.entries }
+    ensures spare { tasks.new.spare ≡ tasks.old.spare }
+{
+    tasks.change(&key, |stored| stored.claimed = claimed);
 }
 
 impl Tasks {
@@ -57,13 +78,19 @@ impl Tasks {
         ensures had_room { more ≤ self.old.spare → (self.new ≡ self.old) × (result ≡ Ok tt) }
         ensures refused { OnErr result (self.new ≡ self.old) }
     {
+        let more = more as usize;
+        // What a run has needs its place when it is given back.
+        let held = self.tasks.len() - self.places.len();
+        let Some(places) = more.checked_add(held) else {
+            return Err(NoMemory);
+        };
         // The tree with more room comes first: `spare` is that of the other, so that a refusal leaves it.
-        if self.tasks.spare() < self.places.spare() {
-            self.places.reserve(more as usize)?;
-            self.tasks.reserve(more as usize)?;
+        if self.tasks.spare() < self.places.spare() - held {
+            self.places.reserve(places)?;
+            self.tasks.reserve(more)?;
         } else {
-            self.tasks.reserve(more as usize)?;
-            self.places.reserve(more as usize)?;
+            self.tasks.reserve(more)?;
+            self.places.reserve(places)?;
         }
         Ok(())
     }
@@ -72,7 +99,8 @@ impl Tasks {
     pub fn spare(&self) -> u64
         ensures { result ≡ self.now.spare }
     {
-        self.tasks.spare().min(self.places.spare()) as u64
+        let held = self.tasks.len() - self.places.len();
+        self.tasks.spare().min(self.places.spare() - held) as u64
     }
 
     /// How many tasks are pending.
@@ -115,7 +143,7 @@ impl Tasks {
         let Some((place, _)) = self.places.first() else {
             return None;
         };
-        if place.claimed || place.due > at {
+        if place.due > at {
             return None;
         }
         Some(place.key)
@@ -164,11 +192,16 @@ impl Tasks {
         ensures tasks { self.new.tasks ≡ changed_at (with_due due) key self.old.tasks }
         ensures spare { self.new.spare ≡ self.old.spare }
     {
-        let Some(mut stored) = self.take(key) else {
+        let Some(stored) = self.tasks.get(&key) else {
             unreachable!()
         };
-        stored.task.due = due;
-        self.add(stored);
+        let free = !stored.claimed;
+        let place = stored.place();
+        set_due(&mut self.tasks, key, due);
+        if free {
+            self.places.remove(&place);
+            self.places.insert(Place { due, key }, ());
+        }
     }
 
     /// Gives a task another stamp, if it is pending. It takes no memory, and the task is not copied.
@@ -176,11 +209,7 @@ impl Tasks {
         ensures tasks { self.new.tasks ≡ changed_at (with_stamp stamp) key self.old.tasks }
         ensures spare { self.new.spare ≡ self.old.spare }
     {
-        let Some(mut stored) = self.take(key) else {
-            return;
-        };
-        stored.stamp = stamp;
-        self.add(stored);
+        self.tasks.change(&key, |stored| stored.stamp = stamp);
     }
 
     /// Marks whether a claimed run has a task. It takes no memory.
@@ -189,14 +218,22 @@ impl Tasks {
         ensures tasks { self.new.tasks ≡ changed_at (with_claim claimed) key self.old.tasks }
         ensures spare { self.new.spare ≡ self.old.spare }
     {
-        let Some(mut stored) = self.take(key) else {
+        let Some(stored) = self.tasks.get(&key) else {
             unreachable!()
         };
-        stored.claimed = claimed;
-        self.add(stored);
+        if stored.claimed == claimed {
+            return;
+        }
+        let place = stored.place();
+        set_claim(&mut self.tasks, key, claimed);
+        if claimed {
+            self.places.remove(&place);
+        } else {
+            self.places.insert(place, ());
+        }
     }
 
-    /// Takes a task out of both trees, if there is one.
+    /// Takes a task out, with its place, if there is one.
     fn take(&mut self, key: TaskKey) -> Option<Stored>
         ensures found { option_map kept_of result ≡ map.get self.old.tasks key }
         ensures same_key { IfSome result (λ stored. stored.task.key ≡ key) }
@@ -206,13 +243,16 @@ impl Tasks {
         let Some((_, stored)) = self.tasks.remove(&key) else {
             return None;
         };
-        self.places.remove(&stored.place());
+        if !stored.claimed {
+            self.places.remove(&stored.place());
+        }
         Some(stored)
     }
 
-    /// Adds a task to both trees, at a key that is not there.
+    /// Adds a task that no run has, with its place, at a key that is not there.
     fn add(&mut self, stored: Stored)
         requires absent { map.get self.old.tasks stored.task.key ≡ None }
+        requires free { stored.claimed ≡ false }
         requires room { 0 < self.old.spare }
         ensures tasks { self.new.tasks ≡ map.insert self.old.tasks stored.task.key (kept_of stored) }
         ensures spare { self.new.spare + 1 ≡ self.old.spare }

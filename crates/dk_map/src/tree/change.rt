@@ -3,7 +3,8 @@ ghost use Rattle.std.specs.Prelude.{◌≡◌, ◌∷◌, ◌++◌, ◌+◌, ◌
 ghost use Rattle.std.specs.Option.{option_map};
 ghost use Rattle.std.specs.declared.cmp.Ordering.TheVariants.{Equal};
 ghost use Rattle.dk_map.specs.Balance.{DifferByAtMost};
-ghost use Rattle.dk_map.specs.Entries.{find, put, without, IsOrdered, IsReplaced};
+ghost use Rattle.std.specs.Fn.{FnOnceReturnsAtMut};
+ghost use Rattle.dk_map.specs.Entries.{find, put, without, IsOrdered, IsReplaced, IsChanged};
 
 use super::balance::settle;
 use super::{Cell, Node, Tree};
@@ -68,6 +69,30 @@ impl<K: Ord + Drop, V: Drop> Tree<K, V> {
                     Ordering::Less => node.left.replace(key, value),
                     Ordering::Equal => Ok(mem::replace(&mut node.value, value)),
                     Ordering::Greater => node.right.replace(key, value),
+                },
+            },
+        }
+    }
+
+    /// Changes the value at a key where it stands, and tells whether there is one.
+    pub(crate) fn change<F: FnOnce(&mut V)>(&mut self, key: &K, change: F) -> bool
+        requires ordered { IsOrdered K.cmp self.old.0 }
+        requires callable { F.IsAlwaysCallable change }
+        ensures changed { IsChanged K.cmp key.now (λ old new. FnOnceReturnsAtMut F.FnOnce change old tt new) self.old.0 self.new.0 result }
+        ensures len { length self.new.0 ≡ length self.old.0 }
+        ensures height { self.new.1 ≡ self.old.1 }
+    {
+        match &mut self.root {
+            None => false,
+            Some(cell) => match &mut **cell {
+                None => unreachable!(),
+                Some(node) => match key.cmp(&node.key) {
+                    Ordering::Less => node.left.change(key, change),
+                    Ordering::Equal => {
+                        change(&mut node.value);
+                        true
+                    }
+                    Ordering::Greater => node.right.change(key, change),
                 },
             },
         }

@@ -9,11 +9,11 @@ use Rattle.dk_tasks.proofs.tasks.Tasks.get.Goals as goal
 
 pub returns-in_default : goal.returns-in_default
 returns-in_default c =
-    ap (option_map (stamped c.args.key)) (ap (option_map kept_of) c.in_default.ensures ∙ kept_get _ (ap (λ s. s.tasks) c.self.view_is) c.self.invariant.ordered c.args.key)
+    ap (option_map (stamped c.args.key)) (ap (option_map kept_of) c.in_default.ensures ∙ kept_get _ (ap (λ s. s.tasks) c.self.view_is) c.self.invariant.0.ordered c.args.key)
 
 pub returns : goal.returns
 returns c =
     let stored = c.in-Some.stored.now in
-    let key = found_of_all key_same IsKeyed _ c.self.invariant.keyed c.args.key stored (sym c.in-Some.ensures) in
+    let key = found_of_all key_same IsKeyed _ c.self.invariant.0.keyed c.args.key stored (sym c.in-Some.ensures) in
     ap Some (sym (stamped-kept_of stored c.args.key key))
-    ∙ ap (option_map (stamped c.args.key)) (ap (option_map kept_of) c.in-Some.ensures ∙ kept_get _ (ap (λ s. s.tasks) c.self.view_is) c.self.invariant.ordered c.args.key)
+    ∙ ap (option_map (stamped c.args.key)) (ap (option_map kept_of) c.in-Some.ensures ∙ kept_get _ (ap (λ s. s.tasks) c.self.view_is) c.self.invariant.0.ordered c.args.key)
