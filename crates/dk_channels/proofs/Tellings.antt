@@ -64,7 +64,7 @@ leave_avoids name session c r = if_avoids (platform.is_member session c.1.member
     (both_avoids c.0 r.0 (channel_bytes (record (c.1) { members = platform.without_member session c.1.members })) (session_bytes (record (r.1) { channels = platform.without_channel name r.1.channels })))
     (give_avoids 3 tt)
 
-first_is : (o second : Option ℕ) (k : ℕ) → o ≡ Some k → (o ≡ Some CHANNEL_KIND → ⊥) → other_kind o second ≡ Some k
+pub first_is : (o second : Option ℕ) (k : ℕ) → o ≡ Some k → (o ≡ Some CHANNEL_KIND → ⊥) → other_kind o second ≡ Some k
 first_is None second k e other = cc
 first_is (Some j) second k e other = by (j == CHANNEL_KIND) refl
   where
@@ -72,7 +72,7 @@ first_is (Some j) second k e other = by (j == CHANNEL_KIND) refl
     by true is = let same : j ≡ CHANNEL_KIND = grind (arith, nat_tests, is) in absurd (other (ap (λ n. Some n) same))
     by false is = e
 
-second_is : (o second : Option ℕ) → o ≡ Some CHANNEL_KIND → other_kind o second ≡ second
+pub second_is : (o second : Option ℕ) → o ≡ Some CHANNEL_KIND → other_kind o second ≡ second
 second_is o second e = ap (λ (o : Option ℕ). other_kind o second) e
 
 -- a session's own record stands under its name

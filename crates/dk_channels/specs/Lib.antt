@@ -1,3 +1,4 @@
 pub mod Channels
 pub mod Sendings
 pub mod BothRecords
+pub mod AllMembers

@@ -1,12 +1,14 @@
 //! Leaving a channel.
 ghost use Rattle.std.specs.Prelude.{◌≡◌, [], IfOk, IfErr};
-ghost use Rattle.dk_model.specs.Records.{channel_bytes, session_bytes};
+ghost use Rattle.dk_model.specs.Records.{channel_bytes};
 ghost use Rattle.dk_model.specs.Platforms as platform;
 ghost use Rattle.dk_model.specs.Runs as act;
 ghost use Rattle.dk_txn.specs.Does.{Does};
-ghost use Rattle.dk_txn.specs.Refusals.{refusal_fault};
+ghost use Rattle.dk_txn.specs.declared.refusal.Refusal.TheVariants as refusal;
+ghost use Rattle.dk_txn.specs.Refusals.{refusal_fault, TellsLength};
 ghost use Rattle.dk_refs.specs.Telling.{TellsKindOf, TellsLengthIn, TellsLengthOf};
 ghost use Rattle.dk_channels.specs.BothRecords.{kind_of_records, records_after, left};
+ghost use Rattle.dk_channels.specs.AllMembers.{first_of, wrong_kind_of, bytes_without, long_record_of, kind_of_all, length_of_all, TellsFound, NeverTooLong, IsChannel};
 
 use crate::channel::{Channel, record_of};
 use crate::lists::{is_member, without_channel, without_member};
@@ -80,13 +82,16 @@ fn leave_records<V: View>(
 }
 
 /// Every member leaves, in joining order (`Channel.leaveAll`). A member whose session is not recorded with its number loses its
-/// place among the members alone. Refuses 1.
+/// place among the members alone. Refuses 1, and 4 over a record that is too long even without the channel.
 pub fn leave_all<V: View>(
     alloc: Global,
     txn: &mut Txn<'_, V>,
     channel: &Channel,
 ) -> Result<(), Refusal>
-    ensures { Does V.gave refusal_fault txn.old txn.new (platform.leave_all channel.now.name) result }
+    ensures does { Does V.gave refusal_fault txn.old txn.new (platform.leave_all channel.now.name) result }
+    ensures kind { IfErr result (TellsFound refusal.WrongKind txn.old.log txn.new.log (kind_of_all channel.now.name)) }
+    ensures length { IfErr result (TellsFound refusal.TooLong txn.old.log txn.new.log (length_of_all channel.now.name)) }
+    ensures never { IfErr result (NeverTooLong txn.old.log txn.new.log) }
 {
     let before = txn.set_mode(Mode::Platform);
     let end = empty_out(alloc, txn, &channel.name);
@@ -95,7 +100,9 @@ pub fn leave_all<V: View>(
 }
 
 fn empty_out<V: View>(alloc: Global, txn: &mut Txn<'_, V>, name: &Name) -> Result<(), Refusal>
-    ensures { Does V.gave refusal_fault txn.old txn.new (act.and_then (platform.channel_under name.now) (λ c. platform.leave_members name.now c c.1.members)) result }
+    ensures does { Does V.gave refusal_fault txn.old txn.new (act.and_then (platform.channel_under name.now) (λ c. platform.leave_members name.now c c.1.members)) result }
+    ensures kind { IfErr result (TellsFound refusal.WrongKind txn.old.log txn.new.log (kind_of_all name.now)) }
+    ensures length { IfErr result (TellsFound refusal.TooLong txn.old.log txn.new.log (length_of_all name.now)) }
 {
     let channel = record_of(alloc, txn, name)?;
     leave_members(alloc, txn, name, channel)
@@ -119,7 +126,9 @@ fn leave_members<V: View>(
     name: &Name,
     channel: (ManagedRef<ChannelRecord>, ChannelRecord),
 ) -> Result<(), Refusal>
-    ensures { Does V.gave refusal_fault txn.old txn.new (platform.leave_members name.now channel channel.1.members) result }
+    ensures does { Does V.gave refusal_fault txn.old txn.new (platform.leave_members name.now channel channel.1.members) result }
+    ensures kind { IfErr result (TellsFound refusal.WrongKind txn.old.log txn.new.log (first_of wrong_kind_of channel.1.members)) }
+    ensures length { IsChannel txn.old.log txn.new.log channel.0 → IfErr result (TellsFound refusal.TooLong txn.old.log txn.new.log (first_of (long_record_of name.now) channel.1.members)) }
 {
     let (place, record) = channel;
     let members = record.members;
@@ -137,7 +146,9 @@ fn drop_each<V: View>(
     name: &Name,
     members: &[Session],
 ) -> Result<(), Refusal>
-    ensures { Does V.gave refusal_fault txn.old txn.new (platform.drop_each name.now members.now) result }
+    ensures does { Does V.gave refusal_fault txn.old txn.new (platform.drop_each name.now members.now) result }
+    ensures kind { IfErr result (TellsFound refusal.WrongKind txn.old.log txn.new.log (first_of wrong_kind_of members.now)) }
+    ensures length { IfErr result (TellsFound refusal.TooLong txn.old.log txn.new.log (first_of (long_record_of name.now) members.now)) }
 {
     for member in members {
         drop_channel(alloc, txn, name, member)?;
@@ -152,7 +163,9 @@ fn drop_channel<V: View>(
     name: &Name,
     session: &Session,
 ) -> Result<(), Refusal>
-    ensures { Does V.gave refusal_fault txn.old txn.new (platform.drop_channel name.now session.now) result }
+    ensures does { Does V.gave refusal_fault txn.old txn.new (platform.drop_channel name.now session.now) result }
+    ensures kind { IfErr result (TellsFound refusal.WrongKind txn.old.log txn.new.log (wrong_kind_of session.now)) }
+    ensures length { IfErr result (TellsFound refusal.TooLong txn.old.log txn.new.log (long_record_of name.now session.now)) }
 {
     match record_if_connected(alloc, txn, session)? {
         None => Ok(()),
@@ -166,7 +179,8 @@ fn drop_from<V: View>(
     name: &Name,
     own: (ManagedRef<SessionRecord>, SessionRecord),
 ) -> Result<(), Refusal>
-    ensures { Does V.gave refusal_fault txn.old txn.new (act.save own.0 (session_bytes (record (own.1) { channels = platform.without_channel name.now own.1.channels }))) result }
+    ensures does { Does V.gave refusal_fault txn.old txn.new (act.save own.0 (bytes_without name.now own.1)) result }
+    ensures length { IfErr result (TellsLength (bytes_without name.now own.1)) }
 {
     let (place, sessions) = own;
     let sessions = SessionRecord {

@@ -2,7 +2,10 @@
 //! 12, and one for each channel beside its name.
 
 use super::steps::{Step, run};
-use super::{ConnNo, Reads, Session, Who, add_channel, add_name, add_session, begun, name, placed};
+use super::{
+    ALICE, BOB, CAROL, ConnNo, Reads, Session, Who, add_channel, add_name, add_session, begun,
+    name, session,
+};
 use dk_txn::{ListView, Refusal};
 use dk_types::Name;
 use std::alloc::Global;
@@ -85,4 +88,46 @@ fn records_may_have_65535_bytes(rt: HostRuntime) -> Result<(), Fail> {
     join_answers(&rt, alloc, 49, 242, too_long(65_536))?;
     join_answers(&rt, alloc, 48, 244, too_long(65_537))?;
     join_answers(&rt, alloc, 51, 243, too_long(65_538))
+}
+
+/// A session under its name, on so many channels with names of 255 bytes, and last on this one.
+fn add_on(
+    alloc: Global,
+    reads: &mut Reads,
+    k: u32,
+    who: Who<'_>,
+    count: u64,
+    channel: &str,
+) -> Result<(), Fail> {
+    let own = who.name;
+    let key = format!(in alloc; "$s.{own}")?;
+    add_name(alloc, reads, key.as_str(), k)?;
+    let mut channels = many(alloc, count)?;
+    channels.push(name(alloc, channel)?)?;
+    add_session(alloc, reads, k, who.conn, channels)
+}
+
+/// All records are too long. Without the channel alice's has 65,292 bytes, bob's 65,548 and carol's 65,804.
+#[test]
+fn the_first_record_that_stays_too_long_is_told(rt: HostRuntime) -> Result<(), Fail> {
+    let alloc = rt.alloc();
+    let text = "d".repeat(alloc, 243)?;
+    let channel = text.as_str();
+    let mut reads = Vec::new(alloc);
+    add_on(alloc, &mut reads, 1, ALICE, 255, channel)?;
+    add_on(alloc, &mut reads, 2, BOB, 256, channel)?;
+    add_on(alloc, &mut reads, 3, CAROL, 257, channel)?;
+    let members = vec![in alloc;
+        session(alloc, ALICE)?,
+        session(alloc, BOB)?,
+        session(alloc, CAROL)?,
+    ]?;
+    let key = format!(in alloc; "$c.{channel}")?;
+    add_name(alloc, &mut reads, key.as_str(), 4)?;
+    add_channel(alloc, &mut reads, 4, members)?;
+    let mut view = ListView::new(reads);
+    let mut txn = begun(alloc, &mut view);
+    let told = Err(Refusal::TooLong { len: 65_548 });
+    let steps = [Step::LeaveAll(channel, told)];
+    run(&rt, alloc, &mut txn, steps.as_slice())
 }

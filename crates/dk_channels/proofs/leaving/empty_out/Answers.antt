@@ -1,8 +1,25 @@
 use Rattle.dk_txn.proofs.Kit.{then_does, stops}
+use Rattle.dk_channels.specs.AllMembers.{length_of_all}
+use Rattle.dk_channels.proofs.Tellings.{under_avoids}
+use Rattle.dk_channels.proofs.Findings.{length_unfound, channel_kind, found_channel, all_kind, all_length}
 use Rattle.dk_channels.proofs.leaving.empty_out.Goals as goal
 
-pub returns-in_err-channel : goal.returns-in_err-channel
-returns-in_err-channel g c = stops _ c.in_err-channel.ensures.does c.from_residual.ensures.1
+pub returns-in_err-channel-clause-does : goal.returns-in_err-channel-clause-does
+returns-in_err-channel-clause-does g c = stops _ c.in_err-channel.ensures.does c.from_residual.ensures.1
 
-pub returns : goal.returns
-returns g c = then_does _ c.in_ok-channel.ensures.does c.leave_members.ensures
+pub returns-in_err-channel-clause-kind : goal.returns-in_err-channel-clause-kind
+returns-in_err-channel-clause-kind g c = channel_kind _ c.args.name.now c.in_err-channel.ensures.does c.in_err-channel.ensures.kind c.from_residual.ensures.1
+
+pub returns-in_err-channel-clause-length : goal.returns-in_err-channel-clause-length
+returns-in_err-channel-clause-length g c = length_unfound _ c.args.txn.now.log (length_of_all c.args.name.now) (under_avoids c.args.name.now) c.in_err-channel.ensures.does c.from_residual.ensures.1
+
+pub returns-clause-does : goal.returns-clause-does
+returns-clause-does g c = then_does _ c.in_ok-channel.ensures.does c.leave_members.ensures.does
+
+pub returns-clause-kind : goal.returns-clause-kind
+returns-clause-kind g c = all_kind c.args.name.now _ c.in_ok-channel.ensures.does c.leave_members.ensures.does.keeps _ c.leave_members.ensures.kind
+
+pub returns-clause-length : goal.returns-clause-length
+returns-clause-length g c =
+    let keeps = c.leave_members.ensures.does.keeps in
+    all_length c.args.name.now _ c.in_ok-channel.ensures.does keeps _ (c.leave_members.ensures.length (found_channel c.args.name.now _ c.in_ok-channel.ensures.does keeps))
