@@ -16,4 +16,5 @@ pub mod SoundCommits
 pub mod SoundEvents
 pub mod SoundOpenings
 pub mod SoundHistories
+pub mod ShortBodies
 pub mod Lawfuls

@@ -26,11 +26,12 @@ lesser_has P before x (Some z) p h y e =
     ] e
 
 -- the least of items that have the property has it
-least_has : {A : Type 0} (P : A → Type 0) (before : A → A → Bool) (xs : List A) → AllByRecursion P xs → If P (least before xs)
+pub least_has : {A : Type 0} (P : A → Type 0) (before : A → A → Bool) (xs : List A) → AllByRecursion P xs → If P (least before xs)
 least_has P before [] h y e = absurd cc
 least_has P before (x ∷ xs) h y e = lesser_has P before x (least before xs) h.0 (least_has P before xs h.1) y e
 
-mapped_has : {A B : Type 0} (P : B → Type 0) (f : A → B) (o : Option A) → If (λ x. P (f x)) o → If P (mapped f o)
+-- what is true of an item as it is mapped
+pub mapped_has : {A B : Type 0} (P : B → Type 0) (f : A → B) (o : Option A) → If (λ x. P (f x)) o → If P (mapped f o)
 mapped_has P f None h y e = absurd cc
 mapped_has P f (Some x) h y e = subst P (some_is (f x) y e) (h x refl)
 
@@ -38,7 +39,8 @@ or_else_has : {A : Type 0} (P : A → Type 0) (a b : Option A) → If P a → If
 or_else_has P None b p q y e = q y e
 or_else_has P (Some x) b p q y e = p y e
 
-either : {A : Type 0} (P : A → Type 0) (b : Bool) (x y : Option A) → If P x → If P y → If P (if b then x else y)
+-- what is true of both options is true of either
+pub either : {A : Type 0} (P : A → Type 0) (b : Bool) (x y : Option A) → If P x → If P y → If P (if b then x else y)
 either P true x y p q = p
 either P false x y p q = q
 
@@ -72,7 +74,7 @@ module _ (P : Job → Type 0) (w : World) where
       let late : nat_le e.1.due w.moment ≡ true = left_of _ (not (is_claimed (is_task_of e.0) w)) both.1 in
       h e.0 e.1 both.0 (leb-true _ _ late) (not_true _ (right_of (nat_le e.1.due w.moment) _ both.1)))
 
-  turn_has : (turn : ℕ) (o : Option Job) → If P o → If (λ (t : Turn). P t.job) (turn_of turn o)
+  pub turn_has : (turn : ℕ) (o : Option Job) → If P o → If (λ (t : Turn). P t.job) (turn_of turn o)
   turn_has turn None h t e = absurd cc
   turn_has turn (Some j) h t e = subst (λ (t : Turn). P t.job) (some_is _ t e) (h j refl)
 

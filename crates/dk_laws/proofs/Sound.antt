@@ -1,5 +1,5 @@
 -- What holds of the world after every history.
-use Rattle.std.proofs.Common.{◌≡◌, ℕ, ◌+◌, ◌<◌, ◌≤◌, Some}
+use Rattle.std.proofs.Common.{◌≡◌, ℕ, ◌+◌, ◌<◌, ◌≤◌, All, Some}
 use Rattle.std.specs.FinMap.{get}
 use Rattle.std.specs.List.{AllByRecursion}
 use Rattle.dk_types.specs.declared.number.RunNo.{RunNo}
@@ -16,7 +16,7 @@ use Rattle.dk_model.specs.Validity.{IsValid, next_of}
 use Rattle.dk_model.specs.Worlds.{World, Connection, Claim}
 use Rattle.dk_model.specs.Deliveries.{Connections}
 use Rattle.dk_model.specs.Finishes.{HasOwnTask}
-use Rattle.dk_model.specs.Lawful.{IsJob, IsInput}
+use Rattle.dk_model.specs.Lawful.{HasShortBody, IsJob, IsInput}
 use Rattle.dk_model.proofs.Works.{IsDueBy, IsOwnKey}
 use Rattle.dk_laws.proofs.OpenClaims.{TheClaims, open_below}
 
@@ -34,6 +34,7 @@ pub record IsSoundConnection (conn : ConnNo) (c : Connection) : Type 0 where
   pub number : conn.0 < NUMBERS_END
   pub name : IsName c.name
   pub queue : AllByRecursion IsWaiting c.queue
+  pub outbox : All HasShortBody c.outbox
 
 abbrev pub AreSound : Connections → Type 0
 AreSound all = (conn : ConnNo) (c : Connection) → get all conn ≡ Some c → IsSoundConnection conn c

@@ -155,7 +155,7 @@ sound_claim w pass j s few may =
               ];
             }
       ];
-      connections = for_conn_sound (conn_of j) (λ c. record c { turn = w.next }) w.connections s.connections (λ conn c sound. same_sound (record c { turn = w.next }) refl refl sound);
+      connections = for_conn_sound (conn_of j) (λ c. record c { turn = w.next }) w.connections s.connections (λ conn c sound. same_sound (record c { turn = w.next }) refl refl refl sound);
     }
 
 -- a claim goes, and the other numbers stay spent

@@ -14,7 +14,7 @@ use Rattle.dk_model.specs.Lawful.{AreLawful}
 use Rattle.dk_model.proofs.Maps.{runs_total, exact_runs, get-remove_cases, get-remove_here, not_both}
 use Rattle.dk_model.proofs.Works.{IsOwnKey}
 use Rattle.dk_model.proofs.StepLaws.{StepGoesOn, step_goes_on}
-use Rattle.dk_model.proofs.StepValid.{IsReady, step_valid, step_leaves}
+use Rattle.dk_model.proofs.StepValid.{IsReady, step_valid, step_short, step_leaves}
 use Rattle.dk_laws.proofs.NumberedMaps.{one_run}
 use Rattle.dk_laws.proofs.OpenClaims.{TheClaims, open_below, next_of_with, commit_counted}
 use Rattle.dk_laws.proofs.Sound.{IsSpent, IsSound}
@@ -105,5 +105,5 @@ module _ (w : World) (run : RunNo) (claim : Claim) (s : IsSound w) (held : get w
                 spent = λ key own. spent_remove w.claims run w.next key.run.0 (is.spent key own);
                 alone = λ key other o own f its. is.alone key other o own (get-remove_cases runs_total exact_runs w.claims run other o f) its;
               };
-          connections = delivered_sound claim.job (step_of rules w run claim).outs w.connections s.connections;
+          connections = delivered_sound claim.job (step_of rules w run claim).outs w.connections (step_short rules lawful claim.job run claim.at w.durable s.valid claim_ready) s.connections;
         }

@@ -1,6 +1,7 @@
 -- Each event leaves a sound world sound.
 use Rattle.std.proofs.Common.{ℕ, ◌+◌, ◌<◌, drop, List, [], ◌∷◌, refl, sym, subst, arith}
 use Rattle.std.specs.List.{AllByRecursion}
+use Rattle.std.proofs.lemmas.List.Elements.{All-drop}
 use Rattle.dk_types.specs.declared.number.ConnNo.{ConnNo}
 use Rattle.dk_types.specs.declared.limits.TheConstants.{NUMBERS_END}
 use Rattle.dk_types.specs.declared.event.Event.{Event}
@@ -14,10 +15,10 @@ use Rattle.dk_model.specs.Worlds.{World, new_connection}
 use Rattle.dk_model.specs.Deliveries.{change_connection, without_done}
 use Rattle.dk_model.specs.Events.{Meaning, Happens, swept, with_connection, with_handed, ticked, put_last}
 use Rattle.dk_model.specs.Histories.{Leads}
-use Rattle.dk_model.specs.Lawful.{AreLawful, IsWithinLimits}
+use Rattle.dk_model.specs.Lawful.{HasShortBody, AreLawful, IsWithinLimits}
 use Rattle.dk_laws.proofs.OpenClaims.{TheClaims}
 use Rattle.dk_laws.proofs.Sound.{IsSpent, IsSound, sound_with}
-use Rattle.dk_laws.proofs.SoundConnections.{insert_sound, change_sound, same_sound, swept_sound, put_sound, new_sound}
+use Rattle.dk_laws.proofs.SoundConnections.{insert_sound, change_sound, outbox_sound, swept_sound, put_sound, new_sound}
 use Rattle.dk_laws.proofs.SoundClaims.{pick_claimable, sound_claim, sound_release}
 use Rattle.dk_laws.proofs.SoundCommits.{sound_commit}
 
@@ -66,7 +67,7 @@ sound_tick w moment s = let now = s.moment in record {
 
 sound_hand : (w : World) (conn : ConnNo) (most : ℕ) → IsSound w → IsSound (with_handed w conn most)
 sound_hand w conn most s =
-    sound_with (change_connection conn (λ c. record c { outbox = drop most c.outbox }) w.connections) (change_sound conn (λ c. record c { outbox = drop most c.outbox }) w.connections s.connections (λ c h. same_sound (record c { outbox = drop most c.outbox }) refl refl h)) s
+    sound_with (change_connection conn (λ c. record c { outbox = drop most c.outbox }) w.connections) (change_sound conn (λ c. record c { outbox = drop most c.outbox }) w.connections s.connections (λ c h. outbox_sound (record c { outbox = drop most c.outbox }) refl refl (All-drop HasShortBody most c.outbox h.outbox) h)) s
 
 -- what an event leads to
 pub happens_sound : (rules : Meaning) → AreLawful rules → (w : World) (e : Event) (after : World) → IsSound w → IsWithinLimits e → Happens rules w e after → IsSound after

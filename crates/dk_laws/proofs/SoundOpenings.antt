@@ -5,6 +5,7 @@ use Rattle.std.specs.List.{AllByRecursion, list_any}
 use Rattle.std.specs.FinMap.{get, insert, empty, entries, get-empty}
 use Rattle.std.specs.Cmp.Lexicographic.{pointwise}
 use Rattle.std.proofs.lemmas.List.{get_or-take}
+use Rattle.std.proofs.lemmas.List.Elements.{All-nil}
 use Rattle.std.proofs.lemmas.Str.{IsUtf8-drop, IsCharBoundary-after_ascii, utf8_valid_len-IsUtf8}
 use Rattle.dk_types.specs.declared.number.RunNo.{RunNo}
 use Rattle.dk_types.specs.declared.number.ObjectId.{ObjectId}
@@ -17,6 +18,7 @@ use Rattle.dk_model.specs.Validity.{IsValid, IsCommitted, next_of}
 use Rattle.dk_model.specs.Worlds.{Claim, Connection}
 use Rattle.dk_model.specs.Deliveries.{Connections}
 use Rattle.dk_model.specs.Openings.{login_of, record_in, counted, session_at, recorded, has_number, first_of_each, counting, ended_connection, with_sessions, opening}
+use Rattle.dk_model.specs.Lawful.{HasShortBody}
 use Rattle.dk_model.proofs.Maps.{names_total, some_is, not_both}
 use Rattle.dk_model.proofs.Bytes.{name_text}
 use Rattle.dk_laws.proofs.Entries.{all_filter_map, all_entries}
@@ -82,7 +84,7 @@ sessions_sound d v [] all h sound = sound
 sessions_sound d v (s ∷ sessions) all h sound =
     let below = h.0.below in
     let last = v.last in
-    sessions_sound d v sessions (insert all s.conn (ended_connection s)) h.1 (insert_sound all s.conn (ended_connection s) sound record { number = omega arith; name = h.0.named; queue = (tt, tt) })
+    sessions_sound d v sessions (insert all s.conn (ended_connection s)) h.1 (insert_sound all s.conn (ended_connection s) sound record { number = omega arith; name = h.0.named; queue = (tt, tt); outbox = All-nil HasShortBody })
 
 committed_below : (o : Option RunNo) (run : RunNo) → IsCommitted o run → run.0 < next_of o
 committed_below None run h = absurd h

@@ -88,9 +88,9 @@ lawful_within {f = f} mode p = record {
   at = λ s.
       let q = p.at (record s { mode = mode }) in record {
         goes = goes_within s mode ((f (record s { mode = mode })).1) q.goes;
-        fit = λ n h. let g = q.fit n (fit_with s h mode s.outs) in fit_with _ g s.mode ((f (record s { mode = mode })).1.outs);
-        leaves = λ n h. q.leaves n (fit_with s h mode s.outs);
-        has = λ n h. q.has n (fit_with s h mode s.outs);
+        fit = λ n h. let g = q.fit n (fit_with s h mode s.outs h.bodies) in fit_with _ g s.mode ((f (record s { mode = mode })).1.outs) g.bodies;
+        leaves = λ n h. q.leaves n (fit_with s h mode s.outs h.bodies);
+        has = λ n h. q.has n (fit_with s h mode s.outs h.bodies);
       };
 }
 

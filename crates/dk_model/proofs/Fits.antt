@@ -12,18 +12,19 @@ use Rattle.dk_model.specs.declared.mode.Mode.{Mode}
 use Rattle.dk_model.specs.DurableWorlds.{Task, with_value}
 use Rattle.dk_model.specs.Validity.{IsCommitted, IsNumbered, IsObject, IsTask}
 use Rattle.dk_model.specs.Runs.{Run, with_object, with_name, with_task}
-use Rattle.dk_model.specs.Lawful.{IsMade, GoesOn, IsFit, LeavesTasks}
+use Rattle.dk_model.specs.Lawful.{IsMade, GoesOn, HaveShortBodies, IsFit, LeavesTasks}
 use Rattle.dk_model.proofs.Maps.{ids_total, exact_ids, names_total, exact_names, keys_total, exact_keys, get-with_value_cases, some_is}
 
--- the mode and the messages do not matter
-pub fit_with : (s : Run) → IsFit s → (mode : Mode) (outs : List (ConnNo × Out)) → IsFit (record s { mode = mode; outs = outs })
-fit_with s f mode outs = record {
+-- the mode does not matter, nor do messages with short bodies
+pub fit_with : (s : Run) → IsFit s → (mode : Mode) (outs : List (ConnNo × Out)) → HaveShortBodies outs → IsFit (record s { mode = mode; outs = outs })
+fit_with s f mode outs short = record {
   world = f.world;
   number = f.number;
   committed = f.committed;
   at = f.at;
   few_objects = f.few_objects;
   few_tasks = f.few_tasks;
+  bodies = short;
   objects = f.objects;
   tasks = f.tasks;
 }
@@ -56,6 +57,7 @@ fit_object s f id new made more most owes = record {
   at = f.at;
   few_objects = most;
   few_tasks = f.few_tasks;
+  bodies = f.bodies;
   objects = λ q object e own. elim (get-with_value_cases ids_total exact_ids s.world.objects id new q object e) [
     | inl p ↦
         let o : IsPlaced s made q object = subst (λ (i : ObjectId). IsPlaced s made i object) (sym p.0) (owes object p.1) in
@@ -83,6 +85,7 @@ fit_name s f name new owes = record {
   at = f.at;
   few_objects = f.few_objects;
   few_tasks = f.few_tasks;
+  bodies = f.bodies;
   objects = f.objects;
   tasks = f.tasks;
 }
@@ -116,6 +119,7 @@ fit_tasks s f key new made more most owes = record {
   at = f.at;
   few_objects = f.few_objects;
   few_tasks = most;
+  bodies = f.bodies;
   objects = f.objects;
   tasks = λ q task e own. elim (get-with_value_cases keys_total exact_keys s.world.tasks key new q task e) [
     | inl p ↦
@@ -135,6 +139,7 @@ fit_task s f key new made more most owes = let t = fit_tasks s f key new made mo
   at = t.at;
   few_objects = t.few_objects;
   few_tasks = t.few_tasks;
+  bodies = t.bodies;
   objects = t.objects;
   tasks = t.tasks;
 }

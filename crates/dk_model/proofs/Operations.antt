@@ -1,8 +1,9 @@
 -- Each operation on objects, names, tasks and messages is lawful.
-use Rattle.std.proofs.Common.{◌≡◌, ℕ, ◌+◌, ◌^◌, ◌<◌, ◌≤◌, Bool, true, false, cond, nat_le, nat_lt, ◌||◌, ◌==◌, Option, Some, None, List, [], ◌∷◌, length, Ok, refl, sym, ap, subst, ◌∙◌, arith, inl, inr, le_refl, ltb-false, leb-false, is_eq}
+use Rattle.std.proofs.Common.{◌≡◌, ℕ, ◌+◌, ◌^◌, ◌<◌, ◌≤◌, Bool, true, false, cond, nat_le, nat_lt, ◌||◌, ◌==◌, Option, Some, None, List, [], ◌∷◌, ◌++◌, length, Ok, refl, sym, ap, subst, ◌∙◌, arith, inl, inr, le_refl, ltb-false, leb-false, is_eq}
 use Rattle.std.specs.declared.cmp.Ordering.{Ordering}
 use Rattle.std.specs.Cmp.{IsTotalOrder, tied_itself}
 use Rattle.std.specs.FinMap as map
+use Rattle.std.proofs.lemmas.List.Elements.{All-push}
 use Rattle.dk_types.specs.declared.number.ConnNo.{ConnNo}
 use Rattle.dk_types.specs.declared.number.ObjectId.{ObjectId}
 use Rattle.dk_types.specs.declared.number.TaskKey.{TaskKey}
@@ -14,7 +15,7 @@ use Rattle.dk_model.specs.DurableWorlds.{Task, is_above, first_key, next_name}
 use Rattle.dk_model.specs.Validity.{IsObject, IsTask, IsBody}
 use Rattle.dk_model.specs.Runs as act
 use Rattle.dk_model.specs.Runs.{Run, found, with_name}
-use Rattle.dk_model.specs.Lawful.{IsFit}
+use Rattle.dk_model.specs.Lawful.{HasShortBody, HaveShortBodies, IsFit}
 use Rattle.dk_model.proofs.Maps.{names_total, keys_total, exact_keys, get-with_value_cases, not_both, some_is}
 use Rattle.dk_model.proofs.Goings.{goes_sending, goes_object, goes_name, goes_task}
 use Rattle.dk_model.proofs.Fits.{fit_with, fit_object, fit_name, fit_task}
@@ -215,11 +216,11 @@ pub lawful_cancel : {Needs : Type 0} (key : TaskKey) → IsLawful Needs Anything
 unfolding act.cancel
 lawful_cancel key = record { at = λ s. cancelled_at s key (map.get s.world.tasks key) refl }
 
--- messages, however many
-pub sent_at : {Needs : Type 0} (s : Run) (outs : List (ConnNo × Out)) → LawfulAt Needs (Anything {A = Unit {0}}) s (Ok tt, record s { outs = outs })
-sent_at s outs = record {
+-- messages with short bodies, however many
+pub sent_at : {Needs : Type 0} (s : Run) (outs : List (ConnNo × Out)) → (Needs → IsFit s → HaveShortBodies outs) → LawfulAt Needs (Anything {A = Unit {0}}) s (Ok tt, record s { outs = outs })
+sent_at s outs short = record {
   goes = goes_sending s outs;
-  fit = λ n f. fit_with s f s.mode outs;
+  fit = λ n f. fit_with s f s.mode outs (short n f);
   leaves = λ n f key x y e g. same_left _ x y e g;
   has = λ n f. tt;
 }
@@ -227,4 +228,7 @@ sent_at s outs = record {
 -- `send` needs nothing
 pub lawful_send : {Needs : Type 0} (to : ConnNo) (message : Out) → IsLawful Needs Anything (act.send to message)
 unfolding act.send
-lawful_send to message = record { at = λ s. at_if (act.is_too_long (act.body_of message)) (λ _. refused s _) (λ _. at_if (nat_le MESSAGES_MOST_COUNT (length s.outs)) (λ _. refused s _) (λ _. sent_at s _)) }
+lawful_send to message = record {
+  at = λ s. at_if (act.is_too_long (act.body_of message)) (λ _. refused s _) (λ short. at_if (nat_le MESSAGES_MOST_COUNT (length s.outs)) (λ _. refused s _) (λ _.
+      sent_at s (s.outs ++ (to, message) ∷ []) (λ n f. All-push (λ o. HasShortBody o.1) s.outs (to, message) f.bodies (ltb-false _ _ short))));
+}

@@ -1,7 +1,7 @@
 -- Each of the platform's calls on sessions and channels is lawful.
-use Rattle.std.proofs.Common.{◌≡◌, ℕ, ◌+◌, ◌<◌, ◌^◌, arith, Bool, true, false, cond, if◌then◌else◌, All, not, ◌||◌, nat_eq, nat_lt, is_some, Option, Some, None, List, [], ◌∷◌, ◌++◌, length, refl}
+use Rattle.std.proofs.Common.{◌≡◌, ℕ, ◌+◌, ◌<◌, ◌^◌, arith, Bool, true, false, cond, if◌then◌else◌, All, map, not, ◌||◌, nat_eq, nat_lt, is_some, ltb-false, Option, Some, None, List, [], ◌∷◌, ◌++◌, length, refl}
 use Rattle.std.specs.FinMap as maps
-use Rattle.std.proofs.lemmas.List.Elements.{All-nil, All-push, All-filter}
+use Rattle.std.proofs.lemmas.List.Elements.{All-nil, All-push, All-append, All-map, All-filter}
 use Rattle.dk_types.specs.declared.number.ObjectId.{ObjectId}
 use Rattle.dk_types.specs.declared.number.ConnNo.{ConnNo}
 use Rattle.dk_types.specs.declared.job.Session.{Session}
@@ -11,7 +11,7 @@ use Rattle.dk_types.specs.declared.limits.TheConstants.{MESSAGES_MOST_COUNT}
 use Rattle.dk_types.specs.Names.{IsName}
 use Rattle.dk_model.specs.declared.mode.Mode.TheVariants.{Platform}
 use Rattle.dk_model.specs.Runs.{Run, and_then, refuse, create, bind, is_too_long, NAME_NOT_BOUND, TOO_LONG, NAME_EXISTS}
-use Rattle.dk_model.specs.Lawful.{IsFit}
+use Rattle.dk_model.specs.Lawful.{HasShortBody, IsFit}
 use Rattle.dk_model.specs.declared.records.SessionRecord.{SessionRecord}
 use Rattle.dk_model.specs.declared.records.ChannelRecord.{ChannelRecord}
 use Rattle.dk_model.specs.declared.records.Delivery.{Delivery}
@@ -186,11 +186,15 @@ pub lawful_members : {Needs : Type 0} (name : List ℕ) → IsLawful Needs (All 
 unfolding does.members
 lawful_members name = lawful_then (lawful_channel_under name) (λ c. lawful_give c.1.members (λ n. n.1.1))
 
-lawful_send_each : {Needs : Type 0} (members : List Session) (message : Out) → IsLawful Needs Anything (does.send_each members message)
-lawful_send_each members message = record { at = λ s. at_if (nat_lt MESSAGES_MOST_COUNT (length s.outs + length members)) (λ _. refused s _) (λ _. sent_at s _) }
+lawful_send_each : {Needs : Type 0} (members : List Session) (message : Out) → (Needs → HasShortBody message) → IsLawful Needs Anything (does.send_each members message)
+lawful_send_each members message short = record {
+  at = λ s. at_if (nat_lt MESSAGES_MOST_COUNT (length s.outs + length members)) (λ _. refused s _) (λ _. sent_at s (s.outs ++ map (λ m. (m.conn, message)) members) (λ n f.
+      All-append (λ o. HasShortBody o.1) s.outs (map (λ m. (m.conn, message)) members) f.bodies
+      (All-map (λ o. HasShortBody o.1) (λ m. (m.conn, message)) members (λ _ _ _. short n))));
+}
 
 -- `channel_send` needs nothing
 pub lawful_channel_send : {Needs : Type 0} (name : List ℕ) (sender : Option Session) (body : List ℕ) → IsLawful Needs Anything (does.channel_send name sender body)
 unfolding does.channel_send
 lawful_channel_send name sender body = lawful_then (lawful_channel_under name) (λ c.
-    lawful_if (is_too_long body) (lawful_refuse TOO_LONG) (lawful_if (is_sender sender c.1.members) (lawful_send_each c.1.members (out.Channel name body)) (lawful_done tt)))
+    lawful_if (is_too_long body) (lawful_refuse TOO_LONG) (lawful_if (is_sender sender c.1.members) (lawful_send_each c.1.members (out.Channel name body) (λ n. ltb-false _ _ n.0.1)) (lawful_done tt)))

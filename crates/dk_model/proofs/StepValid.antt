@@ -1,18 +1,23 @@
--- A step of lawful rules keeps a durable world valid.
-use Rattle.std.proofs.Common.{◌≡◌, ℕ, ◌+◌, ◌<◌, ◌≤◌, Option, Some, None, arith}
+-- A step of lawful rules keeps a durable world valid, and sends no message whose body is too long.
+use Rattle.std.proofs.Common.{◌≡◌, ℕ, ◌+◌, ◌<◌, ◌≤◌, true, false, cond, Option, Some, None, Result, Ok, Err, arith}
 use Rattle.std.specs.FinMap.{get}
+use Rattle.std.proofs.lemmas.List.Elements.{All-nil, All-from_recursion}
+use Rattle.dk_types.specs.declared.fault.AppFault.{AppFault}
+use Rattle.dk_types.specs.declared.fault.AppFault.TheVariants.{TooLarge}
+use Rattle.dk_types.specs.declared.fault.Outcome.TheVariants as outcome
 use Rattle.dk_types.specs.declared.number.RunNo.{RunNo}
 use Rattle.dk_types.specs.declared.number.TaskKey.{TaskKey}
 use Rattle.dk_types.specs.declared.job.Job.{Job}
+use Rattle.dk_types.specs.declared.job.Job.TheVariants as job
 use Rattle.dk_types.specs.declared.limits.TheConstants.{NUMBERS_END, MOMENT_MOST_MS}
 use Rattle.dk_model.specs.declared.mode.Mode.TheVariants.{Game}
 use Rattle.dk_model.specs.DurableWorlds.{DurableWorld, Task, last_with}
 use Rattle.dk_model.specs.Validity.{IsValid, IsCommitted, next_of}
-use Rattle.dk_model.specs.Runs.{begun, within}
-use Rattle.dk_model.specs.Steps.{step, work}
+use Rattle.dk_model.specs.Runs.{Run, begun, within}
+use Rattle.dk_model.specs.Steps.{Stepped, step, work, failed, failed_outs, ended, is_too_large}
 use Rattle.dk_model.specs.Events.{Meaning}
 use Rattle.dk_model.specs.Finishes.{IsNew}
-use Rattle.dk_model.specs.Lawful.{IsFit, IsJob, AreLawful}
+use Rattle.dk_model.specs.Lawful.{HasShortBody, HaveShortBodies, IsFit, IsJob, AreLawful}
 use Rattle.dk_model.proofs.Maps.{not_both}
 use Rattle.dk_model.proofs.Works.{IsDueBy, IsOwnKey}
 use Rattle.dk_model.proofs.StepLaws.{kept_steady, works, ended_has}
@@ -59,9 +64,26 @@ begun_fit j run at d v ready = record {
   at = ready.moment;
   few_objects = omega arith;
   few_tasks = omega arith;
+  bodies = All-nil (λ o. HasShortBody o.1);
   objects = λ id object e own. not_both _ object e (ready.new.objects id own);
   tasks = λ key task e own. not_both _ task e (ready.new.tasks key own);
 }
+
+failed_short : (j : Job) → HaveShortBodies (failed_outs j)
+failed_short (job.Login conn name) = All-from_recursion (λ o. HasShortBody o.1) (failed_outs (job.Login conn name)) (omega arith, (omega arith, tt))
+failed_short job.Initialize = All-nil (λ o. HasShortBody o.1)
+failed_short (job.Message conn name body) = All-nil (λ o. HasShortBody o.1)
+failed_short (job.Channel conn name channel body) = All-nil (λ o. HasShortBody o.1)
+failed_short (job.Disconnect conn name graceful) = All-nil (λ o. HasShortBody o.1)
+failed_short (job.Task key due period kind arg) = All-nil (λ o. HasShortBody o.1)
+
+ended_short : (j : Job) (d : DurableWorld) (start : Run) (r : Result (Unit {0}) AppFault) (t : Run) → HaveShortBodies t.outs → HaveShortBodies (ended j d start (r, t)).outs
+ended_short j d start (Ok x) t short =
+    elim (is_too_large d t.world) as (λ b. HaveShortBodies (cond {A = Stepped} b (failed j start TooLarge) (record { outcome = outcome.Ok; world = t.world; touched = t.touched; outs = t.outs })).outs) [
+      | true ↦ failed_short j
+      | false ↦ short
+    ]
+ended_short j d start (Err fault) t short = failed_short j
 
 -- a step of lawful rules leaves a valid world
 pub step_valid : (rules : Meaning) → AreLawful rules → (j : Job) (run : RunNo) (at : ℕ) (d : DurableWorld) → IsValid d → IsReady j run at d → IsValid (step rules j run at d).world
@@ -70,6 +92,13 @@ step_valid rules lawful j run at d v ready =
     let end = work j (within Game (rules j)) start in
     let fit = begun_fit j run at d v ready in
     ended_has (λ world touched. IsValid world) j d start end.0 end.1 ((kept_steady j start).fit (ready.job, ready.due) fit).world ((works rules lawful j run at d).fit (ready.job, ready.due) fit).world
+
+-- it sends messages with short bodies
+pub step_short : (rules : Meaning) → AreLawful rules → (j : Job) (run : RunNo) (at : ℕ) (d : DurableWorld) → IsValid d → IsReady j run at d → HaveShortBodies (step rules j run at d).outs
+step_short rules lawful j run at d v ready =
+    let start = begun run at d in
+    let end = work j (within Game (rules j)) start in
+    ended_short j d start end.0 end.1 ((works rules lawful j run at d).fit (ready.job, ready.due) (begun_fit j run at d v ready)).bodies
 
 -- and leaves each task that stands before and after, but for the job's own
 pub step_leaves : (rules : Meaning) → AreLawful rules → (j : Job) (run : RunNo) (at : ℕ) (d : DurableWorld) → IsValid d → IsReady j run at d → (key : TaskKey) (before after : Task)

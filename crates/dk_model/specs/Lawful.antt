@@ -1,5 +1,5 @@
 -- What a game's rules may do to a run, and every operation of the platform does.
-use Rattle.std.specs.Prelude.{◌≡◌, ℕ, ◌≤◌, ◌<◌, Some, None, List, ◌++◌}
+use Rattle.std.specs.Prelude.{◌≡◌, ℕ, ◌≤◌, ◌<◌, All, Some, None, List, ◌++◌, length}
 use Rattle.std.specs.List.{AllByRecursion}
 use Rattle.std.specs.FinMap.{get}
 use Rattle.dk_types.specs.declared.number.RunNo.{RunNo}
@@ -13,13 +13,14 @@ use Rattle.dk_types.specs.declared.job.Job.{Job}
 use Rattle.dk_types.specs.declared.job.Job.TheVariants as job
 use Rattle.dk_types.specs.declared.job.Input.{Input}
 use Rattle.dk_types.specs.declared.job.Input.TheVariants as input
+use Rattle.dk_types.specs.declared.job.Out.{Out}
 use Rattle.dk_types.specs.declared.event.Event.{Event}
 use Rattle.dk_types.specs.declared.event.Event.TheVariants as event
-use Rattle.dk_types.specs.declared.limits.TheConstants.{NUMBERS_END, MOMENT_MOST_MS, OBJECTS_MOST_COUNT, TASKS_MOST_COUNT}
+use Rattle.dk_types.specs.declared.limits.TheConstants.{BODY_MOST_BYTES, NUMBERS_END, MOMENT_MOST_MS, OBJECTS_MOST_COUNT, TASKS_MOST_COUNT}
 use Rattle.dk_types.specs.Names.{IsName}
 use Rattle.dk_model.specs.DurableWorlds.{Task, task_answer}
 use Rattle.dk_model.specs.Validity.{IsValid, IsCommitted, IsNumbered, IsBody, IsTask}
-use Rattle.dk_model.specs.Runs.{Run, Act}
+use Rattle.dk_model.specs.Runs.{Run, Act, body_of}
 
 -- none of the items is this one
 unfoldable pub Lacks : List Item → Item → Type 0
@@ -50,6 +51,13 @@ pub record GoesOn (a b : Run) : Type 0 where
 abbrev pub LeavesTasks : Run → Run → Type 0
 LeavesTasks a b = (key : TaskKey) (before after : Task) → get a.world.tasks key ≡ Some before → get b.world.tasks key ≡ Some after → after ≡ before
 
+-- a message whose body is within its limit, and messages
+abbrev pub HasShortBody : Out → Type 0
+HasShortBody message = length (body_of message) ≤ BODY_MOST_BYTES
+
+abbrev pub HaveShortBodies : List (ConnNo × Out) → Type 0
+HaveShortBodies outs = All (λ o. HasShortBody o.1) outs
+
 -- a run on a valid world, within its limits, whose next numbers nothing has yet
 pub record IsFit (s : Run) : Type 0 where
   pub world : IsValid s.world
@@ -58,6 +66,7 @@ pub record IsFit (s : Run) : Type 0 where
   pub at : s.at ≤ MOMENT_MOST_MS
   pub few_objects : s.objects_made ≤ OBJECTS_MOST_COUNT
   pub few_tasks : s.tasks_made ≤ TASKS_MOST_COUNT
+  pub bodies : HaveShortBodies s.outs
   pub objects : (id : ObjectId) (object : Object) → get s.world.objects id ≡ Some object → id.run ≡ s.number → id.k < s.objects_made
   pub tasks : (key : TaskKey) (task : Task) → get s.world.tasks key ≡ Some task → key.run ≡ s.number → key.k < s.tasks_made
 

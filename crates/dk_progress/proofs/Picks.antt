@@ -15,7 +15,7 @@ use Rattle.dk_model.specs.Events.{is_task}
 use Rattle.dk_model.specs.Picks.{is_of, is_claimed, job_of, first_job, Turn, turn_of, input_of, inputs, task_job, is_due, due_tasks, first_runs, runnable, lesser, least, is_sooner, is_earlier, mapped, or_else, pick_task, pick_input, first_of_list, pick}
 use Rattle.dk_model.proofs.Maps.{conns_total, some_is, not_both}
 use Rattle.dk_laws.proofs.Entries.{all_filter_map, all_entries}
-use Rattle.dk_laws.proofs.Picked.{If, picked}
+use Rattle.dk_laws.proofs.Picked.{If, least_has, mapped_has, either, turn_has, picked}
 
 -- a list of length 0 is empty
 list_none : {A : Type 0} (xs : List A) → length xs ≡ 0 → xs ≡ []
@@ -50,26 +50,6 @@ no_task_of conn name (waits.Input (input.Message body)) = refl
 no_task_of conn name (waits.Input (input.Channel channel body)) = refl
 no_task_of conn name (waits.Input (input.Disconnect graceful)) = refl
 
--- what is true of both options is true of either
-either_has : {A : Type 0} (P : A → Type 0) (b : Bool) (x y : Option A) → If P x → If P y → If P (if b then x else y)
-either_has P true x y p q = p
-either_has P false x y p q = q
-
--- the least of items that have a property has it
-lesser_has : {A : Type 0} (P : A → Type 0) (before : A → A → Bool) (x : A) (o : Option A) → P x → If P o → If P (lesser before x o)
-lesser_has P before x None p h y e = subst P (some_is x y e) p
-lesser_has P before x (Some z) p h y e = either_has P (before z x) (Some z) (Some x) h (λ v f. subst P (some_is x v f) p) y e
-
--- the least of several has what all have
-least_has : {A : Type 0} (P : A → Type 0) (before : A → A → Bool) (xs : List A) → AllByRecursion P xs → If P (least before xs)
-least_has P before [] h y e = absurd cc
-least_has P before (x ∷ xs) h y e = lesser_has P before x (least before xs) h.0 (least_has P before xs h.1) y e
-
--- what is true of an item as it is mapped
-mapped_has : {A B : Type 0} (P : B → Type 0) (f : A → B) (o : Option A) → If (λ x. P (f x)) o → If P (mapped f o)
-mapped_has P f None h y e = absurd cc
-mapped_has P f (Some x) h y e = subst P (some_is (f x) y e) (h x refl)
-
 -- one option, where the second is none
 or_none : {A : Type 0} (a b : Option A) → b ≡ None → (x : A) → or_else a b ≡ Some x → a ≡ Some x
 or_none None b none x e = absurd (not_both b x e none)
@@ -79,11 +59,6 @@ or_none (Some y) b none x e = e
 none_or : {A : Type 0} (a b : Option A) → a ≡ None → (x : A) → or_else a b ≡ Some x → b ≡ Some x
 none_or None b none x e = e
 none_or (Some y) b none x e = absurd cc
-
--- a job under a name
-turn_has : (P : Job → Type 0) (turn : ℕ) (o : Option Job) → If P o → If (λ (t : Turn). P t.job) (turn_of turn o)
-turn_has P turn None h t e = absurd cc
-turn_has P turn (Some j) h t e = subst (λ (t : Turn). P t.job) (some_is (record { turn = turn; job = j }) t e) (h j refl)
 
 -- the head of a list is one of those of which something is true
 first_of_all : {A B : Type 0} (P : A → Type 0) (f : A → B) (xs : List A) → AllByRecursion P xs → (map f xs ≢ []) → (x : A) × P x
@@ -107,8 +82,8 @@ module _ (w : World) where
   -- so is the input that a connection offers
   input_has : (conn : ConnNo) (c : Connection) → get w.connections conn ≡ Some c → If (λ (t : Turn). IsFirst w t.job) (input_of w (conn, c))
   input_has conn c there =
-      either_has (λ (t : Turn). IsFirst w t.job) (is_claimed (is_of conn) w) None (turn_of c.turn (first_job conn c.name c.queue)) (λ t f. absurd cc)
-      (turn_has (IsFirst w) c.turn (first_job conn c.name c.queue) (first_input conn c c.queue there refl))
+      either (λ (t : Turn). IsFirst w t.job) (is_claimed (is_of conn) w) None (turn_of c.turn (first_job conn c.name c.queue)) (λ t f. absurd cc)
+      (turn_has (IsFirst w) w c.turn (first_job conn c.name c.queue) (first_input conn c c.queue there refl))
 
   -- each input that can be run is a first one
   inputs_first : AllByRecursion (λ (t : Turn). IsFirst w t.job) (inputs w)
