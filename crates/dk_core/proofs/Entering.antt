@@ -1,6 +1,7 @@
 -- Connect, Post, Hand and Tick lead to the world that the definitions say.
-use Rattle.std.proofs.Common.{◌≡◌, ℕ, ◌+◌, ◌<◌, false, max, min, take, drop, None, List, [], ◌∷◌, ◌++◌, Result, Ok, Err, IfOk, OnOk, OnErr, is_none, is_some, arith, refl, sym, ap, subst, ◌∙◌}
+use Rattle.std.proofs.Common.{◌≡◌, ℕ, ◌+◌, ◌<◌, false, max, min, take, drop, All, None, List, [], ◌∷◌, ◌++◌, Result, Ok, Err, IfOk, OnOk, OnErr, is_none, is_some, arith, refl, sym, ap, subst, ◌∙◌}
 use Rattle.std.specs.FinMap.{get, insert, contains_key}
+use Rattle.std.proofs.lemmas.List.Elements.{All-take}
 use Rattle.dk_types.specs.declared.number.ConnNo.{ConnNo}
 use Rattle.dk_types.specs.declared.job.Input.{Input}
 use Rattle.dk_types.specs.declared.event.Event.{Event}
@@ -14,8 +15,9 @@ use Rattle.dk_model.specs.declared.waiting.Waiting.TheVariants as waits
 use Rattle.dk_model.specs.Worlds.{new_connection}
 use Rattle.dk_model.specs.Deliveries.{change_connection, without_done}
 use Rattle.dk_model.specs.Events.{Meaning, Happens, with_connection, put_last, outbox_at}
-use Rattle.dk_model.specs.Lawful.{IsInput, IsWithinLimits}
+use Rattle.dk_model.specs.Lawful.{HasShortBody, IsInput, IsWithinLimits}
 use Rattle.dk_model.specs.Successors.{step_by}
+use Rattle.dk_laws.proofs.ShortBodies.{bodies_short}
 use Rattle.dk_connections.specs.Linked.{Shown, all_of, change, left, less_first, linked, unclaimed, IsSwept, KeepsMarks}
 use Rattle.dk_connections.specs.Posts.{PostAnswer}
 use Rattle.dk_connections.specs.declared.answers.PostRefused.{PostRefused}
@@ -89,6 +91,14 @@ hands old conn most shown (Ok handed) outs is_linked is_world end swept same = �
     (subst (KeepsMarks all) (sym is_linked) (marks_then (λ q claimed. claimed) all changed (left changed) (keeps_change all conn (linked (less_first most)) (λ _. refl)) (keeps_left changed))) swept old.moment (all_of shown.connections))
     refl refl (λ _. refl)
 hands old conn most shown (Err refused) outs is_linked is_world end swept same = ap (with_connections old) same
+
+-- the first of what waits has bodies within their limit
+pub hands_short : (old : Core) → IsStanding old → (conn : ConnNo) (most : ℕ) (r : Result Handed NoMemory) → IfOk r (λ handed. handed.outs ≡ take most (outbox_at (get (all_of old.connections.connections) conn)))
+    → IfOk r (λ handed. All HasShortBody handed.outs)
+hands_short old s conn most (Ok handed) outs =
+    let waiting = (bodies_short s.rules s.opened s.budget s.events (world_of old) s.lawful s.stands.valid s.stands.within s.stands.leads conn).1 in
+    subst (All HasShortBody) (sym outs) (All-take HasShortBody most _ waiting)
+hands_short old s conn most (Err refused) outs = tt
 
 pub ticks : (old : Core) (given pass moment : ℕ) → moment ≡ max old.moment (min given MOMENT_MOST_MS) → Enters old (record old { moment = moment }) (event.Tick pass given)
 ticks old given pass moment is rules d budget events lawful s =

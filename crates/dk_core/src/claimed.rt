@@ -13,6 +13,7 @@ pub struct Claimed {
 }
 
 impl Claimed {
+    /// The number of the run.
     pub fn run(&self) -> RunNo
         ensures { result ≡ self.now.run }
     {
@@ -26,18 +27,21 @@ impl Claimed {
         self.pass
     }
 
+    /// The moment of the claim, in ms.
     pub fn at(&self) -> u64
         ensures { result ≡ self.now.at }
     {
         self.at
     }
 
+    /// What is to be run.
     pub fn job(&self) -> &Job
         ensures { result.now ≡ self.now.job }
     {
         &self.job
     }
 
+    /// A copy of the job, since it may have to be run again.
     pub fn copy_job(&self) -> Result<Job, NoMemory>
         ensures { IfOk result (λ copy. copy ≡ self.now.job) }
     {

@@ -1,7 +1,7 @@
 // Connect, Post, Hand and Tick.
-ghost use Rattle.std.specs.Prelude.{◌≡◌, ℕ};
+ghost use Rattle.std.specs.Prelude.{◌≡◌, ℕ, All, IfOk};
 ghost use Rattle.dk_types.specs.declared.event.Event.TheVariants as event;
-ghost use Rattle.dk_model.specs.Lawful.{IsInput};
+ghost use Rattle.dk_model.specs.Lawful.{HasShortBody, IsInput};
 ghost use Rattle.dk_core.specs.Answers.{Connected, Posted, Hands};
 ghost use Rattle.dk_core.specs.Cores.{Enters, IsStanding};
 
@@ -37,9 +37,10 @@ impl Core {
         self.connections.post(conn, input)
     }
 
-    /// Hands a connection's first messages, `most` of them or all; `end` says whether it is gone.
+    /// Hands a connection's first messages, `most` of them or all, none with a body that is too long; `end` says whether it is gone.
     pub fn hand(&mut self, conn: ConnNo, most: u32) -> Result<Handed, NoMemory>
-        ensures { Hands self.old self.new conn most result }
+        ensures hands { Hands self.old self.new conn most result }
+        ensures bodies { IsStanding self.old → IfOk result (λ handed. All HasShortBody handed.outs) }
     {
         self.connections.hand(conn, most)
     }

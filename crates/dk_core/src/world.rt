@@ -1,5 +1,6 @@
 //! The core, and what can be read of it.
 ghost use Rattle.std.specs.Prelude.{◌≡◌, ℕ, ◌≤◌, [], List, Option, IfOk};
+ghost use Rattle.std.specs.FinMap as map;
 ghost use Rattle.dk_types.specs.declared.event.Event.{Event};
 ghost use Rattle.dk_model.specs.DurableWorlds.{DurableWorld};
 ghost use Rattle.dk_model.specs.Events.{Meaning};
@@ -71,6 +72,20 @@ impl Core {
             after_task: false,
             alloc,
         })
+    }
+
+    /// How many runs are committed.
+    pub fn commits(&self) -> u64
+        ensures { result ≡ (world_of self.now).durable.commits }
+    {
+        self.world.commits()
+    }
+
+    /// How many tasks are pending.
+    pub fn pending_len(&self) -> u64
+        ensures { result ≡ map.len (world_of self.now).durable.tasks }
+    {
+        self.world.pending_len()
     }
 
     /// What the world answers to an item, and what is seen of it. An object is copied.

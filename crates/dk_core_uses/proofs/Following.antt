@@ -15,11 +15,12 @@ use Rattle.dk_core.specs.declared.answers.PrepareRefused.TheVariants as prepare_
 use Rattle.dk_core.specs.Cores.{Enters, Stays, IsGranted}
 use Rattle.dk_core.specs.Answers.{Posted, CommitsOrTells}
 use Rattle.dk_serving.specs.Servings.{IsStandingFor}
+use Rattle.dk_serving.proofs.Honest.{entered as lawful_entered}
 use Rattle.dk_core_uses.specs.Lawful.{twins_lawful}
 use Rattle.dk_core_uses.specs.Twins.{twins_rules}
 
 pub entered : (old new : Core) (e : Event) → IsStandingFor twins_rules old → Enters old new e → IsStandingFor twins_rules new
-entered old new e s enters = record { opened = s.opened; budget = s.budget; events = s.events ++ e ∷ []; stands = enters twins_rules s.opened s.budget s.events twins_lawful s.stands }
+entered = lawful_entered twins_rules twins_lawful
 
 pub stayed : (old new : Core) → IsStandingFor twins_rules old → Stays old new → IsStandingFor twins_rules new
 stayed old new s stays = record { opened = s.opened; budget = s.budget; events = s.events; stands = stays twins_rules s.opened s.budget s.events s.stands }

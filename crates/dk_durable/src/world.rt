@@ -84,7 +84,7 @@ impl StampedWorld {
 
     /// How many tasks are pending.
     pub fn pending_len(&self) -> u64
-        ensures { result ≡ map.len self.now.tasks }
+        ensures { result ≡ map.len (durable_of self.now).tasks }
     {
         self.tasks.len()
     }

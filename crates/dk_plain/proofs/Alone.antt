@@ -1,8 +1,6 @@
 -- A run that is alone on the world: all that it reads is the world's, and it may be committed next.
 use Rattle.std.proofs.Common.{◌≡◌, ℕ, Result, Ok, Err, IfOk, length, List, [], ◌∷◌, refl, sym, ap, subst, ◌∙◌}
-use Rattle.std.proofs.lemmas.List.{length-map}
 use Rattle.std.specs.List.{AllByRecursion}
-use Rattle.std.specs.FinMap as map
 use Rattle.dk_types.specs.declared.number.RunNo.{RunNo}
 use Rattle.dk_types.specs.declared.item.Item.{Item}
 use Rattle.dk_types.specs.declared.item.Read.{Read}
@@ -21,9 +19,6 @@ use Rattle.dk_overlay.specs.Logged.{Logged, nothing_done}
 use Rattle.dk_overlay.specs.Finishes.{told}
 use Rattle.dk_overlay.specs.Knowing.{JobFits}
 use Rattle.dk_txn.specs.Law.{IsBegun}
-use Rattle.dk_model.specs.Keys.{key_cmp}
-use Rattle.dk_tasks.specs.Tasks.{Kept, bare, durable_tasks}
-use Rattle.dk_tasks.proofs.Durable.{entries-durable}
 use Rattle.dk_durable.specs.StampedWorlds.{Stamped, durable_of, read_now}
 use Rattle.dk_durable.specs.Commits.{StepsFrom, CommitsSteps}
 use Rattle.dk_durable.proofs.LawfulSteps.{steps_from}
@@ -50,7 +45,3 @@ pub commits_step : (rules : Meaning) → AreLawful rules → (j : Job) (run : Ru
 commits_step rules lawful j run at old mid new f valid ready same tells commits =
     let s = step rules j run at (durable_of old) in
     (commits s (subst (λ d. StepsFrom d run s) (sym same) (steps_from rules lawful j run at (durable_of old) valid ready)) (subst (λ d. told f ≡ told_step d s) (sym same) tells)).world
-
--- as many tasks as are kept
-pub len_tasks : (tasks : map.FinMap key_cmp Kept) → map.len tasks ≡ map.len (durable_tasks tasks)
-len_tasks tasks = map.len-entries tasks ∙ sym (map.len-entries (durable_tasks tasks) ∙ ap length (entries-durable tasks) ∙ length-map (map.entries tasks) bare)

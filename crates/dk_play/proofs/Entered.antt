@@ -20,11 +20,11 @@ use Rattle.dk_model.specs.Transcripts.{Playing, EntersAll}
 use Rattle.dk_progress.specs.Fitness.{IsFit}
 use Rattle.dk_core.specs.declared.world.Core.{Core}
 use Rattle.dk_core.specs.Cores.{world_of, Enters}
-use Rattle.dk_serving.proofs.Honest.{standing_then}
+use Rattle.dk_serving.proofs.Honest.{standing_then, enters_goes}
 use Rattle.dk_play.specs.declared.state.Play.{Play}
 use Rattle.dk_play.specs.Plays.{means_of, playing_of, IsGoing, CanBeEntered, IsReadyFor, AllMean, IsReadyForAll, IsEntered, EntersLine, EntersLines}
 use Rattle.dk_play.proofs.Alls.{all-append}
-use Rattle.dk_play.proofs.Led.{goes_happens, enters_goes}
+use Rattle.dk_play.proofs.Led.{goes_happens}
 use Rattle.dk_play.proofs.Meant.{login_means}
 use Rattle.dk_progress.proofs.Entered.{connect_fit, post_fit}
 
@@ -43,13 +43,7 @@ fit_less w conns more less le fit = record {
 }
 
 pub going_less : (rules : Meaning) (p : Play) (more less : ℕ) → less ≤ more → IsGoing rules p more → IsGoing rules p less
-going_less rules p more less le going = record { standing = going.standing; fit = fit_less (world_of p.core) p.opened.items more less le going.fit; commits = going.commits }
-
--- a Post commits nothing
-post_commits : (rules : Meaning) (w after : World) (pass : ℕ) (conn : ConnNo) (i : Input) (reply : PostReply) → Happens rules w (event.Post pass conn i reply) after → after.durable.commits ≡ w.durable.commits
-post_commits rules w after pass conn i posted.Taken h = ap (λ (v : World). v.durable.commits) h.2
-post_commits rules w after pass conn i posted.Closed h = ap (λ (v : World). v.durable.commits) h.1
-post_commits rules w after pass conn i (posted.QueueFull waiting) h = ap (λ (v : World). v.durable.commits) h.3
+going_less rules p more less le going = record { standing = going.standing; fit = fit_less (world_of p.core) p.opened.items more less le going.fit }
 
 -- no Connect of such a play is refused for want of numbers
 pub connect_draws : (p : Play) (l : Line) (new : Core) (name : List ℕ) (next : ℕ) → IsReadyFor p l → ((pass : ℕ) → Enters p.core new (event.Connect pass name (connected.Exhausted next))) → ⊥
@@ -61,8 +55,8 @@ connect_draws p l new name next ready enters =
 -- a login's Connect
 pub login_entered : (old new : Play) (name : List ℕ) (conn : ConnNo) → ((pass : ℕ) → Enters old.core new.core (event.Connect pass name (connected.Number conn)))
     → means_of new.means.entries ≡ maps.insert (means_of old.means.entries) name conn → new.opened.items ≡ old.opened.items ++ conn ∷ []
-    → new.events.items ≡ old.events.items ++ event.Connect 0 name (connected.Number conn) ∷ [] → new.commits ≡ old.commits → EntersLine old (line.Login name) new
-login_entered old new name conn enters means opened told commits rules more lawful going =
+    → new.events.items ≡ old.events.items ++ event.Connect 0 name (connected.Number conn) ∷ [] → EntersLine old (line.Login name) new
+login_entered old new name conn enters means opened told rules more lawful going =
     let e = event.Connect 0 name (connected.Number conn) in
     let goes = enters_goes rules lawful old.core new.core e (enters 0) in
     let h = goes_happens rules old.core new.core e going.standing goes in
@@ -74,15 +68,14 @@ login_entered old new name conn enters means opened told commits rules more lawf
       going = record {
         standing = standing_then rules old.core new.core (e ∷ []) going.standing goes;
         fit = subst (λ conns. IsFit (world_of new.core) conns more) (sym opened) (connect_fit rules (world_of old.core) (world_of new.core) old.opened.items more 0 name (connected.Number conn) going.fit h);
-        commits = commits ∙ going.commits ∙ sym (ap (λ (w : World). w.durable.commits) h.2);
       };
     }
 
 -- a send's Post
 pub send_entered : (old new : Play) (name text : List ℕ) (conn : ConnNo) (reply : PostReply) → ((pass : ℕ) → Enters old.core new.core (event.Post pass conn (input.Message text) reply))
     → maps.get (means_of old.means.entries) name ≡ Some conn → new.means.entries ≡ old.means.entries → new.opened.items ≡ old.opened.items
-    → new.events.items ≡ old.events.items ++ event.Post 0 conn (input.Message text) reply ∷ [] → new.commits ≡ old.commits → EntersLine old (line.Send name text) new
-send_entered old new name text conn reply enters meant means opened told commits rules more lawful going =
+    → new.events.items ≡ old.events.items ++ event.Post 0 conn (input.Message text) reply ∷ [] → EntersLine old (line.Send name text) new
+send_entered old new name text conn reply enters meant means opened told rules more lawful going =
     let e = event.Post 0 conn (input.Message text) reply in
     let goes = enters_goes rules lawful old.core new.core e (enters 0) in
     let h = goes_happens rules old.core new.core e going.standing goes in
@@ -94,7 +87,6 @@ send_entered old new name text conn reply enters meant means opened told commits
       going = record {
         standing = standing_then rules old.core new.core (e ∷ []) going.standing goes;
         fit = subst (λ conns. IsFit (world_of new.core) conns more) (sym opened) (post_fit rules (world_of old.core) (world_of new.core) old.opened.items more 0 conn (input.Message text) reply going.fit h);
-        commits = commits ∙ going.commits ∙ sym (post_commits rules (world_of old.core) (world_of new.core) 0 conn (input.Message text) reply h);
       };
     }
 

@@ -10,11 +10,11 @@ use Rattle.dk_model.specs.Phases.{IsSmall}
 use Rattle.dk_model.specs.Transcripts.{Hands}
 use Rattle.dk_progress.specs.Fitness.{IsFit}
 use Rattle.dk_core.specs.Cores.{world_of}
-use Rattle.dk_serving.proofs.Honest.{standing_then}
+use Rattle.dk_serving.proofs.Honest.{standing_then, enters_goes}
 use Rattle.dk_play.specs.declared.state.Play.{Play}
 use Rattle.dk_play.specs.Plays.{HandsAll, IsHanded}
 use Rattle.dk_play.proofs.Alls.{all-append}
-use Rattle.dk_play.proofs.Led.{goes_happens, enters_goes}
+use Rattle.dk_play.proofs.Led.{goes_happens}
 use Rattle.dk_progress.proofs.Fits.{hands_all}
 
 -- one event more is handed
@@ -27,8 +27,8 @@ hands-push rules a b c (k ∷ conns) [] conn e f g = absurd f
 
 -- one connection more
 pub hands_then : (a b c : Play) (conns : List ConnNo) (conn : ConnNo) → HandsAll a conns b → IsHanded b.core b.events.items conn c.core c.events.items
-    → c.means.entries ≡ b.means.entries → c.opened.items ≡ b.opened.items → c.commits ≡ b.commits → HandsAll a (conns ++ conn ∷ []) c
-hands_then a b c conns conn first next means opened commits rules lawful going =
+    → c.means.entries ≡ b.means.entries → c.opened.items ≡ b.opened.items → HandsAll a (conns ++ conn ∷ []) c
+hands_then a b c conns conn first next means opened rules lawful going =
     let f = first rules lawful going in
     let e = event.Hand 0 conn OUTS_MOST_COUNT next.outs next.end in
     let goes = enters_goes rules lawful b.core c.core e next.enters in
@@ -45,6 +45,5 @@ hands_then a b c conns conn first next means opened commits rules lawful going =
       going = record {
         standing = standing_then rules b.core c.core (e ∷ []) f.going.standing goes;
         fit = subst (λ cs. IsFit (world_of c.core) cs 0) (sym opened) all.1;
-        commits = commits ∙ f.going.commits ∙ sym (ap (λ (w : World). w.durable.commits) h.2);
       };
     }

@@ -4,11 +4,10 @@ use Rattle.dk_types.specs.declared.event.Event.{Event}
 use Rattle.dk_model.specs.Worlds.{World}
 use Rattle.dk_model.specs.Events.{Meaning, Happens}
 use Rattle.dk_model.specs.Histories.{Leads}
-use Rattle.dk_model.specs.Lawful.{AreLawful}
 use Rattle.dk_model.specs.Openings.{opening}
 use Rattle.dk_laws.proofs.OneWorld.{events_lead, parted}
 use Rattle.dk_core.specs.declared.world.Core.{Core}
-use Rattle.dk_core.specs.Cores.{world_of, Enters}
+use Rattle.dk_core.specs.Cores.{world_of}
 use Rattle.dk_serving.specs.Servings.{IsStandingFor, Goes}
 
 -- the events of a call lead from the one world to the other
@@ -35,7 +34,3 @@ pub goes_both : (rules : Meaning) (old new : Core) (first second : Event) → Is
 goes_both rules old new first second s goes =
     let l = goes_leads rules old new (first ∷ second ∷ []) s goes in
     record { mid = l.0; one = l.1; two = subst (Happens rules l.0 second) (sym l.2.2) l.2.1 }
-
--- what is entered by any lawful rules is entered by these
-pub enters_goes : (rules : Meaning) → AreLawful rules → (old new : Core) (e : Event) → Enters old new e → Goes rules old new (e ∷ [])
-enters_goes rules lawful old new e enters d budget events s = enters rules d budget events lawful s

@@ -45,9 +45,8 @@ module _ (d : Durable) (is : d ≡ nothing) (c : Core) (stands : (rules : Meanin
     opened_fresh = λ i. record { world = (ap world_of core ∙ opened_world) i; means = means_of (means i); opened = opened i }
 
     -- it goes on
-    pub opened_going : p.commits ≡ 0 → (rules : Meaning) (more : ℕ) → 1 + more ≤ NUMBERS_END → IsGoing rules p more
-    opened_going commits rules more le = record {
+    pub opened_going : (rules : Meaning) (more : ℕ) → 1 + more ≤ NUMBERS_END → IsGoing rules p more
+    opened_going rules more le = record {
       standing = record { opened = world_in d; budget = None; events = []; stands = subst (StandsFor rules (world_in d) None []) (sym core) (stands rules) };
       fit = subst (λ w. IsFit w p.opened.items more) (sym (ap world_of core ∙ opened_world)) (subst (λ conns. IsFit (fresh_world None) conns more) (sym opened) (fresh_fit more le));
-      commits = commits ∙ sym (ap (λ (w : World). w.durable.commits) (ap world_of core ∙ opened_world));
     }

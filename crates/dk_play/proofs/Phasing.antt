@@ -82,8 +82,9 @@ module _ (rules : Meaning) (b c d e : Play) (lines : List Line) (n : AreEntered 
 
   -- both phases are a play of the script
   pub both_played : (a : Play) (f : Serves rules a b) → IsQuiet (world_of b.core) → playing_of a ≡ playing (fresh_world None) → a.events.items ≡ []
-      → (marks : List ℕ) → marks ≡ 0 ∷ length b.events.items ∷ [] → IsPlayed rules (fresh_world None) (lines ∷ []) (phases_of e.events.items marks) e.commits 0
-  both_played a f still fresh untold marks places =
+      → (marks : List ℕ) → marks ≡ 0 ∷ length b.events.items ∷ [] → (commits tasks : ℕ) → commits ≡ (world_of e.core).durable.commits → tasks ≡ maps.len (world_of e.core).durable.tasks
+      → IsPlayed rules (fresh_world None) (lines ∷ []) (phases_of e.events.items marks) commits tasks
+  both_played a f still fresh untold marks places commits tasks commits_are tasks_are =
       let first : b.events.items ≡ f.events = f.told ∙ ap (λ l. l ++ f.events) untold in
       let cut : phases_of e.events.items marks ≡ b.events.items ∷ later ∷ [] = ap (λ es. phases_of es marks) lines_told ∙ ap (phases_of (b.events.items ++ later)) places ∙ phases-two b.events.items later in
       let small : AreSmall (b.events.items ∷ later ∷ []) = (subst (AllByRecursion IsSmall) (sym first) f.small, (lines_small, tt)) in
@@ -95,8 +96,8 @@ module _ (rules : Meaning) (b c d e : Play) (lines : List Line) (n : AreEntered 
           subst (λ es. PlaysPhase rules (playing (fresh_world None)) [] f.items es (playing_of b)) (sym first) (first_phase rules a b f still fresh),
           (playing_of e, lines_phase, refl),
         );
-        commits_are = h.going.commits;
-        tasks_are = sym (ap maps.len h.going.fit.tasks ∙ maps.len-empty _ _);
+        commits_are = commits_are;
+        tasks_are = tasks_are;
         small = subst AreSmall (sym cut) small;
       }
 

@@ -5,13 +5,12 @@ use Rattle.dk_types.specs.declared.event.Event.{Event}
 use Rattle.dk_types.specs.declared.event.Event.TheVariants as event
 use Rattle.dk_types.specs.declared.event.ClaimReply.TheVariants as reply
 use Rattle.dk_model.specs.Worlds.{World}
-use Rattle.dk_model.specs.Events.{Meaning, Happens}
+use Rattle.dk_model.specs.Events.{Meaning}
 use Rattle.dk_model.specs.Lawful.{AreLawful}
 use Rattle.dk_model.specs.Orders.{OrderItem, Claimed, Committed, job_text, outcome_text}
 use Rattle.dk_model.specs.Phases.{IsSmall}
 use Rattle.dk_model.specs.Sendings.{IsTerse}
 use Rattle.dk_model.specs.Transcripts.{Follows, IsQuiet}
-use Rattle.dk_model.proofs.StepLaws.{step_goes_on}
 use Rattle.dk_progress.specs.Fitness.{IsFit, left}
 use Rattle.dk_core.specs.declared.world.Core.{Core}
 use Rattle.dk_core.specs.Cores.{world_of}
@@ -25,14 +24,9 @@ use Rattle.dk_play.proofs.Led.{goes_happens, goes_both}
 use Rattle.dk_progress.proofs.Granted.{all_granted}
 use Rattle.dk_progress.proofs.Ran.{run_less}
 
--- a commit counts itself
-commit_counts : (rules : Meaning) → AreLawful rules → (w after : World) (pass : ℕ) (ran : Ran) → Happens rules w (commit_of pass ran) after → ran.seq ≡ after.durable.commits
-commit_counts rules lawful w after pass ran h =
-    h.3 ∙ sym (ap (λ (v : World). v.durable.commits) h.5 ∙ (step_goes_on rules lawful h.0.job ran.run h.0.at w.durable).commits)
-
 module _ (rules : Meaning) (lawful : AreLawful rules) (terse : IsTerse rules) (old new : Play) (core : Core) (ran : Ran) (start : IsGoing rules old 0) (served : Goes rules old.core core (claim_of 0 ran ∷ commit_of 0 ran ∷ []))
-    (told : new.events.items ≡ old.events.items ++ claim_of 0 ran ∷ commit_of 0 ran ∷ []) (commits : new.commits ≡ ran.seq)
-    (same : new ≡ record { core = core; means = old.means; opened = old.opened; events = new.events; commits = new.commits }) where
+    (told : new.events.items ≡ old.events.items ++ claim_of 0 ran ∷ commit_of 0 ran ∷ [])
+    (same : new ≡ record { core = core; means = old.means; opened = old.opened; events = new.events }) where
   goes : Goes rules old.core new.core (claim_of 0 ran ∷ commit_of 0 ran ∷ [])
   goes = subst (λ (c : Core). Goes rules old.core c (claim_of 0 ran ∷ commit_of 0 ran ∷ [])) (sym (ap (λ (p : Play). p.core) same)) served
 
@@ -58,7 +52,6 @@ module _ (rules : Meaning) (lawful : AreLawful rules) (terse : IsTerse rules) (o
           standing = standing_then rules old.core new.core (claim_of 0 ran ∷ commit_of 0 ran ∷ []) going.standing goes;
           fit = subst (λ conns. IsFit (world_of new.core) conns more) (sym opened)
               (run_less rules (world_of old.core) two.mid (world_of new.core) old.opened.items more 0 ran.run ran.at ran.job ran.seq ran.outcome lawful terse going.fit two.one two.two).fit;
-          commits = commits ∙ commit_counts rules lawful two.mid (world_of new.core) 0 ran two.two;
         };
       }
 
@@ -81,8 +74,8 @@ module _ (rules : Meaning) (old : Play) (new : Core) (start : IsGoing rules old 
 
 -- nothing is left to run
 pub idle_quiet : (rules : Meaning) (old new : Play) → IsGoing rules old 0 → Goes rules old.core new.core (event.Claim 0 reply.Nothing ∷ [])
-    → new.events.items ≡ old.events.items → new.commits ≡ old.commits → new.means.entries ≡ old.means.entries → new.opened.items ≡ old.opened.items → Serves rules old new × IsQuiet (world_of new.core)
-idle_quiet rules old new start goes told commits means opened =
+    → new.events.items ≡ old.events.items → new.means.entries ≡ old.means.entries → new.opened.items ≡ old.opened.items → Serves rules old new × IsQuiet (world_of new.core)
+idle_quiet rules old new start goes told means opened =
     let h = goes_happens rules old.core new.core (event.Claim 0 reply.Nothing) start.standing goes in
     let q = (all_granted (world_of old.core) old.opened.items 0 start.fit).quiet rules 0 (world_of new.core) h in (
       record {
@@ -96,7 +89,6 @@ idle_quiet rules old new start goes told commits means opened =
         going = λ more going. record {
           standing = standing_then rules old.core new.core (event.Claim 0 reply.Nothing ∷ []) going.standing goes;
           fit = subst (λ w. IsFit w new.opened.items more) (sym q.1) (subst (λ conns. IsFit (world_of old.core) conns more) (sym opened) going.fit);
-          commits = commits ∙ going.commits ∙ sym (ap (λ (w : World). w.durable.commits) q.1);
         };
       },
       subst IsQuiet (sym q.1) q.0,

@@ -40,7 +40,6 @@ left_of p = left (world_of p.core) p.opened.items
 pub record IsGoing (rules : Meaning) (p : Play) (more : ℕ) : Type 0 where
   pub standing : IsStandingFor rules p.core
   pub fit : IsFit (world_of p.core) p.opened.items more
-  pub commits : p.commits ≡ (world_of p.core).durable.commits
 
 -- a line can be entered: the name of a send means a connection, and its text is one
 abbrev pub CanBeEntered : Playing → Line → Type 0

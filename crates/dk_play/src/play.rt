@@ -44,11 +44,12 @@ pub fn play_script<G: Game>(alloc: Global, game: &G, lines: Vec<Line>) -> Result
     let mut marks = Vec::new(alloc);
     marks.push(0)?;
     marks.push(begun)?;
-    let (events, commits) = play.into_events();
+    let commits = play.core.commits();
+    let tasks = play.core.pending_len();
     Ok(Played {
-        events,
+        events: play.into_events(),
         marks,
         commits,
-        tasks: 0,
+        tasks,
     })
 }

@@ -16,8 +16,7 @@ impl Play {
     /// Tells a run's claim and its commit, which are of pass 0.
     fn tell(&mut self, ran: Ran) -> Result<(), NoMemory>
         ensures told { OnOk result (self.new.events.items ≡ self.old.events.items ++ claim_of 0 ran ∷ commit_of 0 ran ∷ []) }
-        ensures counted { OnOk result (self.new.commits ≡ ran.seq) }
-        ensures same { self.new ≡ record (self.old) { events = self.new.events; commits = self.new.commits } }
+        ensures same { self.new ≡ record (self.old) { events = self.new.events } }
     {
         let Ran {
             run,
@@ -26,7 +25,6 @@ impl Play {
             seq,
             outcome,
         } = ran;
-        self.commits = seq;
         self.events.push(Event::Claim {
             pass: 0,
             reply: ClaimReply::Granted { run, at, job },

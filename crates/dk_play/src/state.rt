@@ -11,15 +11,13 @@ use dk_types::{ConnNo, Durable, Event, Listed, Name, NoMemory};
 use std::alloc::Global;
 use std::collections::BTreeMap;
 
-/// The core, the connection that each name means, the connections so far in their order, the events so far, and how many
-/// of them are commits.
+/// The core, the connection that each name means, the connections so far in their order, and the events so far.
 #[derive(Drop)]
 pub(crate) struct Play {
     pub(crate) core: Core,
     pub(crate) means: BTreeMap<Name, ConnNo>,
     pub(crate) opened: Vec<ConnNo>,
     pub(crate) events: Vec<Event>,
-    pub(crate) commits: u64,
 }
 
 /// The durable world before the first run.
@@ -47,15 +45,13 @@ impl Play {
             means: BTreeMap::new(alloc),
             opened: Vec::new(alloc),
             events: Vec::new(alloc),
-            commits: 0,
         })
     }
 
-    /// The events, and how many of them are commits.
-    pub(crate) fn into_events(self) -> (Vec<Event>, u64)
-        ensures events { result.0 ≡ self.events }
-        ensures commits { result.1 ≡ self.commits }
+    /// The events.
+    pub(crate) fn into_events(self) -> Vec<Event>
+        ensures { result ≡ self.events }
     {
-        (self.events, self.commits)
+        self.events
     }
 }

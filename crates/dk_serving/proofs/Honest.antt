@@ -22,7 +22,7 @@ use Rattle.dk_durable.specs.declared.changed.Changed.{Changed}
 use Rattle.dk_game.proofs.Lent.{job_fits}
 use Rattle.dk_core.specs.declared.world.Core.{Core}
 use Rattle.dk_core.specs.declared.claimed.Claimed.{Claimed}
-use Rattle.dk_core.specs.Cores.{world_of, StandsFor, IsStanding, IsGranted}
+use Rattle.dk_core.specs.Cores.{world_of, StandsFor, IsStanding, IsGranted, Enters}
 use Rattle.dk_core.proofs.Opened.{read_at}
 use Rattle.dk_core.proofs.Standing.{sound_of}
 use Rattle.dk_serving.specs.Servings.{AreReadsNow, IsStandingFor, Goes}
@@ -86,3 +86,11 @@ goes_then rules a b c first second g h d budget events s =
 -- the core stands for some history of the rules still
 pub standing_then : (rules : Meaning) (a b : Core) (more : List Event) → IsStandingFor rules a → Goes rules a b more → IsStandingFor rules b
 standing_then rules a b more s g = record { opened = s.opened; budget = s.budget; events = s.events ++ more; stands = g s.opened s.budget s.events s.stands }
+
+-- what is entered by any lawful rules is entered by these
+pub enters_goes : (rules : Meaning) → AreLawful rules → (old new : Core) (e : Event) → Enters old new e → Goes rules old new (e ∷ [])
+enters_goes rules lawful old new e enters d budget events s = enters rules d budget events lawful s
+
+-- so the core stands for some history of them still
+pub entered : (rules : Meaning) → AreLawful rules → (old new : Core) (e : Event) → IsStandingFor rules old → Enters old new e → IsStandingFor rules new
+entered rules lawful old new e s enters = standing_then rules old new (e ∷ []) s (enters_goes rules lawful old new e enters)

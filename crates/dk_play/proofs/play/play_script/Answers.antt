@@ -36,9 +36,8 @@ returns-clause-played g c =
     let marks : c.push-2.new.self.items ≡ 0 ∷ length c.drain.new.self.events.items ∷ [] = c.in_ok-push-2.ensures.items
     ∙ (λ i. (c.in_ok-push.ensures.items ∙ ap (λ (l : List ℕ). l ++ 0 ∷ []) c.new-marks.ensures.items) i ++ (ap length c.as_slice.ensures.value) i ∷ []) in
     let whole = both_played rules c.drain.new.self c.enter_all.new.self c.drain-2.new.self c.hand_all.new.self lines entered then c.in_ok-drain-2.ensures.quiet handed
-    c.in_ok-play.play first c.in_ok-drain.ensures.quiet c.in_ok-play.ensures.fresh c.in_ok-play.ensures.untold c.push-2.new.self.items marks in
-    subst (λ n. IsPlayed rules (fresh_world None) (lines ∷ []) (phases_of c.into_events-events.result.0.items c.push-2.new.self.items) n 0) (sym c.into_events-events.ensures.commits)
-    (subst (λ (es : Vec Event Global). IsPlayed rules (fresh_world None) (lines ∷ []) (phases_of es.items c.push-2.new.self.items) c.hand_all.new.self.commits 0) (sym c.into_events-events.ensures.events) whole)
+    c.in_ok-play.play first c.in_ok-drain.ensures.quiet c.in_ok-play.ensures.fresh c.in_ok-play.ensures.untold c.push-2.new.self.items marks c.commits-commits.result c.pending_len-tasks.result c.commits-commits.ensures c.pending_len-tasks.ensures in
+    subst (λ (es : Vec Event Global). IsPlayed rules (fresh_world None) (lines ∷ []) (phases_of es.items c.push-2.new.self.items) c.commits-commits.result c.pending_len-tasks.result) (sym c.into_events.ensures) whole
 
 pub returns-clause-within : goal.returns-clause-within
 returns-clause-within g c =
@@ -55,5 +54,5 @@ returns-clause-within g c =
     ∙ (λ i. (c.in_ok-push.ensures.items ∙ ap (λ (l : List ℕ). l ++ 0 ∷ []) c.new-marks.ensures.items) i ++ (ap length c.as_slice.ensures.value) i ∷ []) in
     let told = lines_told rules c.drain.new.self c.enter_all.new.self c.drain-2.new.self c.hand_all.new.self lines entered then c.in_ok-drain-2.ensures.quiet handed in
     let more = length-append before (later rules c.drain.new.self c.enter_all.new.self c.drain-2.new.self c.hand_all.new.self lines entered then c.in_ok-drain-2.ensures.quiet handed) in
-    let whole : length c.into_events-events.result.0.items ≡ length c.hand_all.new.self.events.items = ap (λ (es : Vec Event Global). length es.items) c.into_events-events.ensures.events in
-    marks_within c.push-2.new.self.items (length before) (length c.into_events-events.result.0.items) marks (omega (arith, ap length told, more, whole))
+    let whole : length c.into_events.result.items ≡ length c.hand_all.new.self.events.items = ap (λ (es : Vec Event Global). length es.items) c.into_events.ensures in
+    marks_within c.push-2.new.self.items (length before) (length c.into_events.result.items) marks (omega (arith, ap length told, more, whole))

@@ -12,7 +12,7 @@ loop-conn-preserved c =
     let new : Play = record old { core = c.hand.new.core; events = c.hand.new.events } in
     let conns = c.deref-conn-items.result.now in
     let i = c.loop-conn.conn-index in
-    subst (λ ks. HandsAll old ks new) (sym (take_more conns i (record { 0 = 0 }) c.loop-conn-test.true)) (hands_then old mid new (take i conns) _ c.loop-conn.invariant c.in_ok-hand.ensures refl refl refl)
+    subst (λ ks. HandsAll old ks new) (sym (take_more conns i (record { 0 = 0 }) c.loop-conn-test.true)) (hands_then old mid new (take i conns) _ c.loop-conn.invariant c.in_ok-hand.ensures refl refl)
 
 pub returns : goal.returns
 returns c =

@@ -8,8 +8,8 @@ pub returns-in-Idle : goal.returns-in-Idle
 returns-in-Idle g c =
     let rules = g.G.Rules.rules c.args.game.now in
     let old = c.args.self.now in
-    let new : Play = record { core = c.serve_next.new.core; means = old.means; opened = old.opened; events = old.events; commits = old.commits } in
-    idle_quiet rules old new c.requires.going (subst (λ s. Goes rules old.core new.core (events_of 0 s)) c.in-Idle.is c.in_ok-ran.ensures) refl refl refl refl
+    let new : Play = record { core = c.serve_next.new.core; means = old.means; opened = old.opened; events = old.events } in
+    idle_quiet rules old new c.requires.going (subst (λ s. Goes rules old.core new.core (events_of 0 s)) c.in-Idle.is c.in_ok-ran.ensures) refl refl refl
 
 pub unreachable-requires : goal.unreachable-requires
 unreachable-requires g c =
@@ -29,6 +29,6 @@ returns-in_ok-tell-in-Ran g c =
     let ran = c.in-Ran.ran in
     let told = c.in_ok-tell-in-Ran.ensures in
     let served = subst (λ s. Goes rules old.core core (events_of 0 s)) c.in-Ran.is c.in_ok-ran.ensures in (
-      ran_serves rules lawful c.requires.terse old c.tell.new.self core ran c.requires.going served told.told told.counted told.same,
-      ran_less rules lawful c.requires.terse old c.tell.new.self core ran c.requires.going served told.told told.counted told.same,
+      ran_serves rules lawful c.requires.terse old c.tell.new.self core ran c.requires.going served told.told told.same,
+      ran_less rules lawful c.requires.terse old c.tell.new.self core ran c.requires.going served told.told told.same,
     )
