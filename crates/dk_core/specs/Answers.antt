@@ -3,6 +3,7 @@ use Rattle.std.specs.Prelude.{◌≡◌, ℕ, false, ◌+◌, ◌++◌, ◌∷�
 use Rattle.std.specs.List.{AllByRecursion}
 use Rattle.dk_types.specs.declared.number.ConnNo.{ConnNo}
 use Rattle.dk_types.specs.declared.job.Input.{Input}
+use Rattle.dk_types.specs.declared.job.Out.{Out}
 use Rattle.dk_types.specs.declared.event.Event.{Event}
 use Rattle.dk_types.specs.declared.event.Event.TheVariants as event
 use Rattle.dk_types.specs.declared.event.ConnectReply.TheVariants as connected
@@ -60,18 +61,31 @@ abbrev pub Hands : Core → Core → ConnNo → ℕ → Result Handed NoMemory �
 Hands old new conn most (Ok handed) = (pass : ℕ) → Enters old new (event.Hand pass conn most handed.outs handed.end)
 Hands old new conn most (Err refused) = new ≡ old
 
--- the reads of the run stand, and all that its commit needs is made
-pub record IsPrepared (c : Core) (claimed : Claimed) (f : Finished) (p : Prepared) : Type 0 where
+-- the reads of the run stand, and there is room for its effects and its messages
+pub record IsReady (c : Core) (f : Finished) (outs : List (ConnNo × Out)) : Type 0 where
   pub stand : AllByRecursion (Stands c.world) f.reads.items
   pub room : HasRoom c.world.room f.effects
-  pub messages : p.deliveries ≡ f.outs.items
+  pub messages : outs ≡ f.outs.items
+
+-- why nothing is made ready: a read no longer stands, and the first such is told
+abbrev pub TellsRefused : Core → Finished → PrepareRefused → Type 0
+TellsRefused c f (prepare_refused.Retry changed) = IsFirstChanged c.world f.reads.items changed
+TellsRefused c f prepare_refused.NoMemory = Unit {0}
+
+-- what is made ready, or why it is not
+abbrev pub Readies : Core → Core → Finished → Result (List (ConnNo × Out)) PrepareRefused → Type 0
+Readies old new f (Ok messages) = IsReady new f messages
+Readies old new f (Err refused) = TellsRefused old f refused
+
+-- the reads of the run stand, and all that its commit needs is made
+pub record IsPrepared (c : Core) (claimed : Claimed) (f : Finished) (p : Prepared) : Type 0 where
+  pub ready : IsReady c f p.deliveries
   pub entry : p.entry ≡ record { seq = c.world.commits + 1; run = claimed.run; effects = f.effects }
 
--- what is prepared; refused where a read no longer stands, with the first such, and the core is as it was but for its room
+-- what is prepared, or why it is not; the core is as it was but for its room
 abbrev pub Prepares : Core → Core → Claimed → Finished → Result Prepared PrepareRefused → Type 0
 Prepares old new claimed f (Ok p) = IsPrepared new claimed f p
-Prepares old new claimed f (Err (prepare_refused.Retry changed)) = IsFirstChanged old.world f.reads.items changed
-Prepares old new claimed f (Err prepare_refused.NoMemory) = Unit {0}
+Prepares old new claimed f (Err refused) = TellsRefused old f refused
 
 -- an honest run is committed: the event is its Commit
 abbrev pub Commits : Core → Core → Claimed → Finished → ℕ → Type 0

@@ -1,7 +1,7 @@
 // Commits.
 ghost use Rattle.std.specs.Prelude.{◌≡◌, ◌+◌, IfOk};
 ghost use Rattle.dk_durable.specs.StampedWorlds.{with_room};
-ghost use Rattle.dk_core.specs.Answers.{Commits, CommitsOrTells, IsPrepared, Prepares};
+ghost use Rattle.dk_core.specs.Answers.{Commits, CommitsOrTells, IsPrepared, IsReady, Prepares, Readies};
 ghost use Rattle.dk_core.specs.Cores.{IsGranted, IsStanding, Stays};
 
 use crate::answers::PrepareRefused;
@@ -32,17 +32,28 @@ impl Core {
         ensures granted { IsGranted self.new claimed.now }
         ensures stays { Stays self.old self.new }
     {
-        if let Some(changed) = self.world.first_changed(finished.reads())? {
-            return Err(PrepareRefused::Retry(changed));
-        }
+        let deliveries = self.make_ready(finished)?;
         let entry = Entry {
             seq: self.world.commits() + 1,
             run: claimed.run,
             effects: copy_effects(finished.effects())?,
         };
+        Ok(Prepared { entry, deliveries })
+    }
+
+    /// Looks whether all reads of a finished run stand, and makes the room of its commit: that of its messages is told, and
+    /// that of its effects stays in the world.
+    fn make_ready(&mut self, finished: &Finished) -> Result<Deliveries, PrepareRefused>
+        ensures same { self.new ≡ record (self.old) { world = with_room self.new.world.room self.old.world } }
+        ensures ready { Readies self.old self.new finished.now result }
+        ensures stays { Stays self.old self.new }
+    {
+        if let Some(changed) = self.world.first_changed(finished.reads())? {
+            return Err(PrepareRefused::Retry(changed));
+        }
         let deliveries = Deliveries::new(self.alloc, finished.outs())?;
         self.world.reserve_for(finished)?;
-        Ok(Prepared { entry, deliveries })
+        Ok(deliveries)
     }
 
     /// Enters the commit of a finished run for which all was prepared and since whose `prepare` nothing was entered, and
@@ -54,8 +65,19 @@ impl Core {
         ensures number { result ≡ self.old.world.commits + 1 }
         ensures commits { Commits self.old self.new claimed finished result }
     {
-        let Claimed { run, job, .. } = claimed;
         let Prepared { deliveries, .. } = prepared;
+        self.enter(claimed, finished, deliveries)
+    }
+
+    /// Enters the commit of a finished run whose room is made.
+    fn enter(&mut self, claimed: Claimed, finished: Finished, deliveries: Deliveries) -> u64
+        requires granted { IsGranted self.old claimed }
+        requires standing { IsStanding self.old }
+        requires ready { IsReady self.old finished deliveries }
+        ensures number { result ≡ self.old.world.commits + 1 }
+        ensures commits { Commits self.old self.new claimed finished result }
+    {
+        let Claimed { run, job, .. } = claimed;
         let committed = self.world.commit(finished, run);
         self.claims.end(run);
         self.free_task(&job);
@@ -64,7 +86,7 @@ impl Core {
     }
 
     /// Commits a finished run where all its reads stand, and tells the number of the commit. Refused, the claim is handed
-    /// back and nothing is entered.
+    /// back and nothing is entered. It is `prepare` and `publish` in one, without the entry, which no one asks for here.
     pub fn commit(
         &mut self,
         claimed: Claimed,
@@ -74,8 +96,8 @@ impl Core {
         requires standing { IsStanding self.old }
         ensures { CommitsOrTells self.old self.new claimed finished result }
     {
-        match self.prepare(&claimed, &finished) {
-            Ok(prepared) => Ok(self.publish(claimed, finished, prepared)),
+        match self.make_ready(&finished) {
+            Ok(deliveries) => Ok(self.enter(claimed, finished, deliveries)),
             Err(refused) => Err((claimed, refused)),
         }
     }

@@ -1,6 +1,5 @@
 // The effects of a finished run, made in the stores with no memory.
 ghost use Rattle.std.specs.Prelude.{◌≡◌, ◌≤◌, length, map as list_map};
-ghost use Rattle.std.specs.FinMap as map;
 ghost use Rattle.dk_model.specs.Effects.{with_set, without_keys};
 ghost use Rattle.dk_tasks.specs.Tasks.{with_due, changed_at};
 ghost use Rattle.dk_durable.specs.Publishing.{stamped_entry, unclaimed_entry, with_due_at, objects_restamped, names_restamped, tasks_restamped};
@@ -53,21 +52,11 @@ pub(crate) fn add_tasks(tasks: &mut Tasks, added: Listed<Pending>, stamp: u64)
     }
 }
 
-/// Takes a task out, if it is pending.
-fn drop_task(tasks: &mut Tasks, key: TaskKey)
-    ensures { tasks.new.tasks ≡ map.remove tasks.old.tasks key }
-{
-    if !tasks.contains_key(key) {
-        return;
-    }
-    tasks.cancel(key);
-}
-
 pub(crate) fn drop_tasks(tasks: &mut Tasks, dropped: &[TaskKey])
     ensures { tasks.new.tasks ≡ without_keys dropped.now tasks.old.tasks }
 {
     for key in dropped {
-        drop_task(tasks, *key);
+        tasks.remove(*key);
     }
 }
 

@@ -1,6 +1,7 @@
 -- Lists of reads, and the places of their items.
-use Rattle.std.proofs.Common.{◌≡◌, ℕ, zero, suc, ◌⊎◌, inl, inr, Option, Some, None, List, [], ◌∷◌, ◌++◌, length, refl, sym, ap, subst, ◌∙◌}
+use Rattle.std.proofs.Common.{◌≡◌, ℕ, zero, suc, ◌+◌, ◌<◌, ◌⊎◌, inl, inr, Option, Some, None, List, [], ◌∷◌, ◌++◌, length, take, true, false, ◌≤◌, IfNone, Result, Ok, Err, OnOk, refl, sym, ap, subst, ◌∙◌, arith}
 use Rattle.std.specs.List.{AllByRecursion, slice_get}
+use Rattle.std.proofs.lemmas.Bool.Decides.{eqb_tells}
 use Rattle.dk_types.specs.declared.number.ObjectId.{ObjectId}
 use Rattle.dk_types.specs.declared.number.TaskKey.{TaskKey}
 use Rattle.dk_types.specs.declared.item.Item.{Item}
@@ -10,9 +11,12 @@ use Rattle.dk_types.specs.Names.{bytes_cmp}
 use Rattle.dk_map.specs.Entries.{put, IsOrdered}
 use Rattle.dk_model.specs.Keys.{id_cmp, key_cmp}
 use Rattle.dk_model.specs.DurableWorlds.{DurableWorld, Agrees, answer}
-use Rattle.dk_overlay.specs.Asked.{WasRead, WasNotRead, IsOnce, IsIndexed, place_of}
+use Rattle.dk_overlay.specs.Asked.{WasRead, WasNotRead, IsOnce, IsIndexed, Places, no_places, place_in, AddsPlace, IsIndexedLong}
+use Rattle.dk_overlay.specs.declared.reads.TheConstants.{FEW_READS}
 use Rattle.dk_overlay.proofs.Keys.{ids_total, ids_same, keys_total, keys_same, names_total, names_same}
 use Rattle.dk_overlay.proofs.Finding.{found_here, found_others}
+use Rattle.dk_overlay.specs.Items.{same_item}
+use Rattle.dk_overlay.proofs.SameItems.{item_itself}
 use Rattle.dk_overlay.proofs.Tests.{Some_injective}
 
 all_at : {X : Type 0} (P : X → Type 0) (xs : List X) (i : ℕ) (x : X) → slice_get xs i ≡ Some x → AllByRecursion P xs → P x
@@ -69,94 +73,144 @@ module _ (reads : List (Item × Read)) (place next : Item → Option ℕ) (item 
     ];
   }
 
--- no item was read twice
-pub indexed_once : (reads : List (Item × Read)) (place : Item → Option ℕ) → IsIndexed reads place → IsOnce reads
-indexed_once reads place indexed = λ i j a b p q e. Some_injective _ _ (sym (indexed.whole i a p) ∙ ap place e ∙ indexed.whole j b q)
+-- one read more, of an item that was not read
+pub once_push : (reads : List (Item × Read)) (item : Item) (read : Read) → IsOnce reads → WasNotRead reads item → IsOnce (reads ++ (item, read) ∷ [])
+once_push reads item read once fresh i j a b p q e = elim (get_pushed reads (item, read) i a p) [
+  | inl was ↦ elim (get_pushed reads (item, read) j b q) [
+    | inl other ↦ once i j a b was other e
+    | inr last ↦ absurd (fresh a.1 (i, was ∙ ap (λ x. Some (x, a.1)) (e ∙ ap (λ (x : Item × Read). x.0) last.1)))
+  ]
+  | inr here ↦ elim (get_pushed reads (item, read) j b q) [
+    | inl other ↦ absurd (fresh b.1 (j, other ∙ ap (λ x. Some (x, b.1)) (sym e ∙ ap (λ (x : Item × Read). x.0) here.1)))
+    | inr last ↦ here.0 ∙ sym last.0
+  ]
+]
 
 -- an item without a place was not read
 pub indexed_none : (reads : List (Item × Read)) (place : Item → Option ℕ) → IsIndexed reads place → (item : Item) → place item ≡ None → WasNotRead reads item
 indexed_none reads place indexed item none = λ read w. let there = indexed.whole w.0 (item, read) w.1 in cc
 
-module _ (reads : List (Item × Read)) (objects : List (ObjectId × ℕ)) (names : List (List ℕ × ℕ)) (first : Option ℕ) (nexts : List (List ℕ × ℕ)) (tasks : List (TaskKey × ℕ)) (read : Read)
-    (indexed : IsIndexed reads (place_of objects names first nexts tasks)) where
-  pub object_pushed : IsOrdered id_cmp objects → (id : ObjectId) → WasNotRead reads (ask.Object id)
-      → IsIndexed (reads ++ (ask.Object id, read) ∷ []) (place_of (put id_cmp id (length reads) objects) names first nexts tasks)
-  object_pushed h id fresh = indexed_push reads _ (place_of (put id_cmp id (length reads) objects) names first nexts tasks) (ask.Object id) read indexed fresh (found_here ids_total ids_same objects h id (length reads)) others
+less_or_same : (i n : ℕ) → i < n + 1 → (i < n) ⊎ (i ≡ n)
+less_or_same i n h = elim (eqb_tells i n) [ inl e ↦ inr e.1 | inr e ↦ inl (omega (arith, h, e.1)) ]
+
+-- no item of those before is this one, nor that of the next
+pub among_more : (reads : List (Item × Read)) (n : ℕ) (x : Item × Read) (item : Item) → slice_get reads n ≡ Some x → same_item x.0 item ≡ false
+    → ((i : ℕ) (read : Read) → i < n → slice_get reads i ≡ Some (item, read) → ⊥) → (i : ℕ) (read : Read) → i < n + 1 → slice_get reads i ≡ Some (item, read) → ⊥
+among_more reads n x item here other before i read h e = elim (less_or_same i n h) [
+  | inl less ↦ before i read less e
+  | inr same ↦
+      let is : x.0 ≡ item = ap (λ (y : Item × Read). y.0) (Some_injective _ _ (sym here ∙ ap (slice_get reads) (sym same) ∙ e)) in
+      let told : same_item x.0 item ≡ true = ap (λ y. same_item y item) is ∙ item_itself item in
+      absurd cc
+]
+
+-- an item that is added gets its place
+module _ (p : Places) (at : ℕ) where
+  pub adds_object : IsOrdered id_cmp p.objects → (id : ObjectId) → AddsPlace (place_in p) (place_in (record p { objects = put id_cmp id at p.objects })) (ask.Object id) at
+  adds_object h id = (found_here ids_total ids_same p.objects h id at, others)
     where
-      others : (q : Item) → (q ≡ ask.Object id) ⊎ (place_of (put id_cmp id (length reads) objects) names first nexts tasks q ≡ place_of objects names first nexts tasks q)
-      others (ask.Object i) = elim (found_others ids_total ids_same objects h id (length reads) i) [ inl e ↦ inl (ap ask.Object e) | inr e ↦ inr e ]
+      others : (q : Item) → (q ≡ ask.Object id) ⊎ (place_in (record p { objects = put id_cmp id at p.objects }) q ≡ place_in p q)
+      others (ask.Object i) = elim (found_others ids_total ids_same p.objects h id at i) [ inl e ↦ inl (ap ask.Object e) | inr e ↦ inr e ]
       others (ask.Bound name) = inr refl
       others (ask.NextAfter None) = inr refl
       others (ask.NextAfter (Some after)) = inr refl
       others (ask.Task key) = inr refl
 
-  pub name_pushed : IsOrdered bytes_cmp names → (name : List ℕ) → WasNotRead reads (ask.Bound name)
-      → IsIndexed (reads ++ (ask.Bound name, read) ∷ []) (place_of objects (put bytes_cmp name (length reads) names) first nexts tasks)
-  name_pushed h name fresh = indexed_push reads _ (place_of objects (put bytes_cmp name (length reads) names) first nexts tasks) (ask.Bound name) read indexed fresh (found_here names_total names_same names h name (length reads)) others
+  pub adds_name : IsOrdered bytes_cmp p.names → (name : List ℕ) → AddsPlace (place_in p) (place_in (record p { names = put bytes_cmp name at p.names })) (ask.Bound name) at
+  adds_name h name = (found_here names_total names_same p.names h name at, others)
     where
-      others : (q : Item) → (q ≡ ask.Bound name) ⊎ (place_of objects (put bytes_cmp name (length reads) names) first nexts tasks q ≡ place_of objects names first nexts tasks q)
+      others : (q : Item) → (q ≡ ask.Bound name) ⊎ (place_in (record p { names = put bytes_cmp name at p.names }) q ≡ place_in p q)
       others (ask.Object i) = inr refl
-      others (ask.Bound n) = elim (found_others names_total names_same names h name (length reads) n) [ inl e ↦ inl (ap ask.Bound e) | inr e ↦ inr e ]
+      others (ask.Bound n) = elim (found_others names_total names_same p.names h name at n) [ inl e ↦ inl (ap ask.Bound e) | inr e ↦ inr e ]
       others (ask.NextAfter None) = inr refl
       others (ask.NextAfter (Some after)) = inr refl
       others (ask.Task key) = inr refl
 
-  pub first_pushed : WasNotRead reads (ask.NextAfter None)
-      → IsIndexed (reads ++ (ask.NextAfter None, read) ∷ []) (place_of objects names (Some (length reads)) nexts tasks)
-  first_pushed fresh = indexed_push reads _ (place_of objects names (Some (length reads)) nexts tasks) (ask.NextAfter None) read indexed fresh refl others
+  pub adds_first : AddsPlace (place_in p) (place_in (record p { first = Some at })) (ask.NextAfter None) at
+  adds_first = (refl, others)
     where
-      others : (q : Item) → (q ≡ ask.NextAfter None) ⊎ (place_of objects names (Some (length reads)) nexts tasks q ≡ place_of objects names first nexts tasks q)
+      others : (q : Item) → (q ≡ ask.NextAfter None) ⊎ (place_in (record p { first = Some at }) q ≡ place_in p q)
       others (ask.Object i) = inr refl
       others (ask.Bound n) = inr refl
       others (ask.NextAfter None) = inl refl
       others (ask.NextAfter (Some after)) = inr refl
       others (ask.Task key) = inr refl
 
-  pub next_pushed : IsOrdered bytes_cmp nexts → (after : List ℕ) → WasNotRead reads (ask.NextAfter (Some after))
-      → IsIndexed (reads ++ (ask.NextAfter (Some after), read) ∷ []) (place_of objects names first (put bytes_cmp after (length reads) nexts) tasks)
-  next_pushed h after fresh = indexed_push reads _ (place_of objects names first (put bytes_cmp after (length reads) nexts) tasks) (ask.NextAfter (Some after)) read indexed fresh (found_here names_total names_same nexts h after (length reads)) others
+  pub adds_next : IsOrdered bytes_cmp p.nexts → (after : List ℕ) → AddsPlace (place_in p) (place_in (record p { nexts = put bytes_cmp after at p.nexts })) (ask.NextAfter (Some after)) at
+  adds_next h after = (found_here names_total names_same p.nexts h after at, others)
     where
-      others : (q : Item) → (q ≡ ask.NextAfter (Some after)) ⊎ (place_of objects names first (put bytes_cmp after (length reads) nexts) tasks q ≡ place_of objects names first nexts tasks q)
+      others : (q : Item) → (q ≡ ask.NextAfter (Some after)) ⊎ (place_in (record p { nexts = put bytes_cmp after at p.nexts }) q ≡ place_in p q)
       others (ask.Object i) = inr refl
       others (ask.Bound n) = inr refl
       others (ask.NextAfter None) = inr refl
-      others (ask.NextAfter (Some n)) = elim (found_others names_total names_same nexts h after (length reads) n) [ inl e ↦ inl (ap (λ x. ask.NextAfter (Some x)) e) | inr e ↦ inr e ]
+      others (ask.NextAfter (Some n)) = elim (found_others names_total names_same p.nexts h after at n) [ inl e ↦ inl (ap (λ x. ask.NextAfter (Some x)) e) | inr e ↦ inr e ]
       others (ask.Task key) = inr refl
 
-  pub task_pushed : IsOrdered key_cmp tasks → (key : TaskKey) → WasNotRead reads (ask.Task key)
-      → IsIndexed (reads ++ (ask.Task key, read) ∷ []) (place_of objects names first nexts (put key_cmp key (length reads) tasks))
-  task_pushed h key fresh = indexed_push reads _ (place_of objects names first nexts (put key_cmp key (length reads) tasks)) (ask.Task key) read indexed fresh (found_here keys_total keys_same tasks h key (length reads)) others
+  pub adds_task : IsOrdered key_cmp p.tasks → (key : TaskKey) → AddsPlace (place_in p) (place_in (record p { tasks = put key_cmp key at p.tasks })) (ask.Task key) at
+  adds_task h key = (found_here keys_total keys_same p.tasks h key at, others)
     where
-      others : (q : Item) → (q ≡ ask.Task key) ⊎ (place_of objects names first nexts (put key_cmp key (length reads) tasks) q ≡ place_of objects names first nexts tasks q)
+      others : (q : Item) → (q ≡ ask.Task key) ⊎ (place_in (record p { tasks = put key_cmp key at p.tasks }) q ≡ place_in p q)
       others (ask.Object i) = inr refl
       others (ask.Bound n) = inr refl
       others (ask.NextAfter None) = inr refl
       others (ask.NextAfter (Some after)) = inr refl
-      others (ask.Task k) = elim (found_others keys_total keys_same tasks h key (length reads) k) [ inl e ↦ inl (ap ask.Task e) | inr e ↦ inr e ]
+      others (ask.Task k) = elim (found_others keys_total keys_same p.tasks h key at k) [ inl e ↦ inl (ap ask.Task e) | inr e ↦ inr e ]
+
+-- the same by what the code was told
+pub added : (p q old new : Places) (it item : Item) (at : ℕ) → AddsPlace (place_in p) (place_in q) it at → p ≡ old → q ≡ new → it ≡ item → AddsPlace (place_in old) (place_in new) item at
+added p q old new it item at adds was is same =
+    subst (λ o. AddsPlace (place_in o) (place_in new) item at) was (subst (λ n. AddsPlace (place_in p) (place_in n) item at) is (subst (λ i. AddsPlace (place_in p) (place_in q) i at) same adds))
 
 -- with nothing read there are no places
-pub indexed_empty : IsIndexed [] (place_of [] [] None [] [])
+pub indexed_empty : IsIndexed [] (place_in no_places)
 indexed_empty = record { right = none; whole = λ at e h. cc }
   where
-    none : (item : Item) (at : ℕ) → place_of [] [] None [] [] item ≡ Some at → (read : Read) × (slice_get {X = Item × Read} [] at ≡ Some (item, read))
+    none : (item : Item) (at : ℕ) → place_in no_places item ≡ Some at → (read : Read) × (slice_get {X = Item × Read} [] at ≡ Some (item, read))
     none (ask.Object id) at e = cc
     none (ask.Bound name) at e = cc
     none (ask.NextAfter None) at e = cc
     none (ask.NextAfter (Some after)) at e = cc
     none (ask.Task key) at e = cc
 
--- the same by what the code was told
-pub indexed_in : {K : Type 0} (F : List (K × ℕ) → Item → Option ℕ) (new reads : List (Item × Read)) (item it : Item) (read : Read) (more goal : List (K × ℕ))
-    → IsIndexed (reads ++ (it, read) ∷ []) (F goal) → item ≡ it → new ≡ reads ++ (item, read) ∷ [] → more ≡ goal → IsIndexed new (F more)
-indexed_in F new reads item it read more goal indexed is listed added =
-    subst (λ o. IsIndexed new (F o)) (sym added) (subst (λ l. IsIndexed l (F goal)) (sym (listed ∙ ap (λ i. reads ++ (i, read) ∷ []) is)) indexed)
+front_get : {X : Type 0} (xs : List X) (n i : ℕ) (x : X) → slice_get (take n xs) i ≡ Some x → (slice_get xs i ≡ Some x) × (i < n)
+front_get [] zero i x e = absurd cc
+front_get [] (suc n) i x e = absurd cc
+front_get (y ∷ xs) zero i x e = absurd cc
+front_get (y ∷ xs) (suc n) zero x e = (e, omega arith)
+front_get (y ∷ xs) (suc n) (suc i) x e = let h = front_get xs n i x e in (h.0, omega (arith, h.1))
 
-pub fresh_in : (reads old : List (Item × Read)) (item it : Item) → reads ≡ old → item ≡ it → WasNotRead old item → WasNotRead reads it
-fresh_in reads old item it same is fresh = subst (WasNotRead reads) is (subst (λ l. WasNotRead l item) (sym same) fresh)
+pub front_more : {X : Type 0} (xs : List X) (n : ℕ) (x : X) → slice_get xs n ≡ Some x → take (suc n) xs ≡ take n xs ++ x ∷ []
+front_more [] n x e = cc
+front_more (y ∷ xs) zero x e = ap (λ z. z ∷ []) (Some_injective _ _ e)
+front_more (y ∷ xs) (suc n) x e = ap (λ zs. y ∷ zs) (front_more xs n x e)
 
-pub indexed_first : (objects : List (ObjectId × ℕ)) (names nexts : List (List ℕ × ℕ)) (tasks : List (TaskKey × ℕ)) (new reads : List (Item × Read)) (item : Item) (read : Read) (at : ℕ)
-    → IsIndexed (reads ++ (ask.NextAfter None, read) ∷ []) (place_of objects names (Some (length reads)) nexts tasks) → item ≡ ask.NextAfter None → new ≡ reads ++ (item, read) ∷ [] → at ≡ length reads
-    → IsIndexed new (place_of objects names (Some at) nexts tasks)
-indexed_first objects names nexts tasks new reads item read at indexed is listed len =
-    subst (λ n. IsIndexed new (place_of objects names (Some n) nexts tasks)) (sym len)
-    (subst (λ l. IsIndexed l (place_of objects names (Some (length reads)) nexts tasks)) (sym (listed ∙ ap (λ i. reads ++ (i, read) ∷ []) is)) indexed)
+pub front_length : {X : Type 0} (xs : List X) (n : ℕ) (x : X) → slice_get xs n ≡ Some x → length (take n xs) ≡ n
+front_length [] n x e = cc
+front_length (y ∷ xs) zero x e = refl
+front_length (y ∷ xs) (suc n) x e = ap suc (front_length xs n x e)
+
+-- the next item of a list that has none twice is not among those before it
+pub fresh_next : (reads : List (Item × Read)) (n : ℕ) (e : Item × Read) → IsOnce reads → slice_get reads n ≡ Some e → WasNotRead (take n reads) e.0
+fresh_next reads n e once here read was =
+    let h = front_get reads n was.0 (e.0, read) was.1 in
+    let same = once was.0 n (e.0, read) e h.0 here refl in
+    omega (arith, h.1, same)
+
+pub none_among : {L : Type 0} (now list : List (Item × Read)) (item : Item) (r : Option L) → list ≡ now → IfNone r (WasNotRead list item) → IfNone r (WasNotRead now item)
+none_among now list item None same none = subst (λ l. WasNotRead l item) same none
+none_among now list item (Some x) same none = tt
+
+-- a short list needs no places
+pub short_indexed : (reads : List (Item × Read)) (p : Places) → length reads ≤ FEW_READS → IsIndexedLong reads p
+short_indexed reads p short long = absurd (omega (arith, short, long))
+
+-- one read more, of an item that was not read and has its place
+pub long_indexed : (reads : List (Item × Read)) (p q : Places) (item : Item) (read : Read) (at : ℕ) → IsIndexed reads (place_in p) → WasNotRead reads item → AddsPlace (place_in p) (place_in q) item at → at ≡ length reads
+    → IsIndexedLong (reads ++ (item, read) ∷ []) q
+long_indexed reads p q item read at indexed fresh adds len long = indexed_push reads (place_in p) (place_in q) item read indexed fresh (adds.0 ∙ ap Some len) adds.1
+
+-- the same where the place may be refused
+pub placed : {E : Type 0} (reads : List (Item × Read)) (p q : Places) (item : Item) (r : Result (Unit {0}) E) → IsIndexed reads (place_in p) → OnOk r (AddsPlace (place_in p) (place_in q) item (length reads))
+    → OnOk r ((read : Read) → WasNotRead reads item → IsIndexedLong (reads ++ (item, read) ∷ []) q)
+placed reads p q item (Ok x) indexed adds = λ read fresh. long_indexed reads p q item read (length reads) indexed fresh adds refl
+placed reads p q item (Err e) indexed adds = tt

@@ -12,3 +12,4 @@ pub mod Sound
 pub mod Owning
 pub mod Ending
 pub mod Counting
+pub mod SameItems

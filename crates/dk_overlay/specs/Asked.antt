@@ -1,5 +1,5 @@
 -- What was asked so far: a list of reads, and the places of its items.
-use Rattle.std.specs.Prelude.{◌≡◌, ℕ, Option, Some, None, List, slice_get}
+use Rattle.std.specs.Prelude.{◌≡◌, ◌⊎◌, ℕ, ◌<◌, Option, Some, None, List, [], length, slice_get}
 use Rattle.dk_types.specs.declared.number.ObjectId.{ObjectId}
 use Rattle.dk_types.specs.declared.number.TaskKey.{TaskKey}
 use Rattle.dk_types.specs.declared.item.Item.{Item}
@@ -9,6 +9,7 @@ use Rattle.dk_types.specs.declared.item.Answer.{Answer}
 use Rattle.dk_types.specs.Names.{bytes_cmp}
 use Rattle.dk_map.specs.Entries.{find}
 use Rattle.dk_model.specs.Keys.{id_cmp, key_cmp}
+use Rattle.dk_overlay.specs.declared.reads.TheConstants.{FEW_READS}
 
 -- the item was read so
 abbrev pub WasRead : List (Item × Read) → Item → Read → Type 0
@@ -30,15 +31,34 @@ IsAsked reads item = (read : Read) × WasRead reads item read
 abbrev pub IsOnce : List (Item × Read) → Type 0
 IsOnce reads = (i j : ℕ) (a b : Item × Read) → slice_get reads i ≡ Some a → slice_get reads j ≡ Some b → a.0 ≡ b.0 → i ≡ j
 
--- the place of an item, by the places of objects, names, the first name, next names and tasks
-abbrev pub place_of : List (ObjectId × ℕ) → List (List ℕ × ℕ) → Option ℕ → List (List ℕ × ℕ) → List (TaskKey × ℕ) → Item → Option ℕ
-place_of objects names first nexts tasks (ask.Object id) = find id_cmp id objects
-place_of objects names first nexts tasks (ask.Bound name) = find bytes_cmp name names
-place_of objects names first nexts tasks (ask.NextAfter None) = first
-place_of objects names first nexts tasks (ask.NextAfter (Some after)) = find bytes_cmp after nexts
-place_of objects names first nexts tasks (ask.Task key) = find key_cmp key tasks
+-- the places of objects, names, the first name, next names and tasks
+pub record Places : Type 0 where
+  pub objects : List (ObjectId × ℕ)
+  pub names : List (List ℕ × ℕ)
+  pub first : Option ℕ
+  pub nexts : List (List ℕ × ℕ)
+  pub tasks : List (TaskKey × ℕ)
+
+abbrev pub no_places : Places
+no_places = record { objects = []; names = []; first = None; nexts = []; tasks = [] }
+
+-- the place of an item
+abbrev pub place_in : Places → Item → Option ℕ
+place_in p (ask.Object id) = find id_cmp id p.objects
+place_in p (ask.Bound name) = find bytes_cmp name p.names
+place_in p (ask.NextAfter None) = p.first
+place_in p (ask.NextAfter (Some after)) = find bytes_cmp after p.nexts
+place_in p (ask.Task key) = find key_cmp key p.tasks
+
+-- an item got a place, and each other one has its own
+abbrev pub AddsPlace : (Item → Option ℕ) → (Item → Option ℕ) → Item → ℕ → Type 0
+AddsPlace old new item at = (new item ≡ Some at) × ((q : Item) → (q ≡ item) ⊎ (new q ≡ old q))
 
 -- the places are those of the list's items
 pub record IsIndexed (reads : List (Item × Read)) (place : Item → Option ℕ) : Type 0 where
   pub right : (item : Item) (at : ℕ) → place item ≡ Some at → (read : Read) × (slice_get reads at ≡ Some (item, read))
   pub whole : (at : ℕ) (e : Item × Read) → slice_get reads at ≡ Some e → place e.0 ≡ Some at
+
+-- the places are those of a list that is long
+abbrev pub IsIndexedLong : List (Item × Read) → Places → Type 0
+IsIndexedLong reads p = FEW_READS < length reads → IsIndexed reads (place_in p)

@@ -18,6 +18,7 @@ use Rattle.dk_overlay.specs.declared.change.Change.{Change}
 use Rattle.dk_overlay.specs.declared.change.Scheduled.{Scheduled}
 use Rattle.dk_overlay.specs.declared.change.TaskChange.{TaskChange}
 use Rattle.dk_overlay.specs.declared.change.TaskChange.TheVariants.{Added, Withdrawn, Dropped, Moved}
+use Rattle.dk_overlay.specs.Asked.{Places}
 use Rattle.dk_overlay.specs.Logged.{Logged}
 
 abbrev pub run_code : Coded RunNo
@@ -119,3 +120,11 @@ logged_code item read out =
       mode = p.1.1.1.1;
     })
     (λ _. refl)
+
+-- places are stored as the tuple of their fields
+abbrev pub places_code : Coded Places
+places_code =
+    code_by ((List (ObjectId × ℕ) × List (List ℕ × ℕ)) × (Option ℕ × (List (List ℕ × ℕ) × List (TaskKey × ℕ))))
+    (coded× (coded× (coded_list (coded× id_code coded_ℕ)) (coded_list (coded× (coded_list coded_ℕ) coded_ℕ)))
+    (coded× (coded_option coded_ℕ) (coded× (coded_list (coded× (coded_list coded_ℕ) coded_ℕ)) (coded_list (coded× key_code coded_ℕ)))))
+    (λ p. ((p.objects, p.names), (p.first, (p.nexts, p.tasks)))) (λ t. record { objects = t.0.0; names = t.0.1; first = t.1.0; nexts = t.1.1.0; tasks = t.1.1.1 }) (λ _. refl)

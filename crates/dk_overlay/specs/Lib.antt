@@ -10,3 +10,4 @@ pub mod Codes
 pub mod Knowing
 pub mod Finishes
 pub mod Counting
+pub mod Items

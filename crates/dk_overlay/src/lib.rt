@@ -8,6 +8,7 @@
 pub use answers::{copy_answer, copy_name, says_named, says_next, says_object, says_pending};
 pub use change::{Change, Scheduled, TaskChange, copy_change, copy_object, copy_value};
 pub use finished::{Finished, FinishedParts};
+pub use items::is_same_item;
 pub use log::Log;
 pub use names::NameChanges;
 pub use objects::ObjectChanges;
@@ -18,6 +19,8 @@ pub mod answers;
 pub mod change;
 mod finish;
 pub mod finished;
+mod index;
+pub mod items;
 pub mod log;
 #[cfg(test)]
 mod log_tests;

@@ -1,32 +1,32 @@
 //! What a run has read, in the order in which it first asked.
 ghost use Rattle.std.specs.Prelude.{◌≡◌, ◌++◌, ◌∷◌, [], OnOk, OnErr, IfOk, IfSome, IfNone};
-ghost use Rattle.dk_overlay.specs.Asked.{WasRead, WasNotRead, WasAnswered, IsOnce, place_of};
+ghost use Rattle.dk_types.specs.declared.item.Read.{Read};
+ghost use Rattle.dk_overlay.specs.Asked.{WasRead, WasNotRead, WasAnswered, IsOnce, IsIndexedLong};
 
 use crate::answers::copy_answer;
-use dk_map::OrderedMap;
-use dk_types::{Answer, Item, Name, NoMemory, ObjectId, Read, TaskKey};
+use crate::index::Index;
+use crate::items::is_same_item;
+use dk_types::{Answer, Item, NoMemory, Read};
 use std::alloc::Global;
 use std::marker::Model;
 
-/// Reads in the order in which they were made, and the place of each item among them.
+/// So many reads are looked through one by one. A run of more has an index of them.
+pub(crate) const FEW_READS: usize = 8;
+
+/// Reads in the order in which they were made, and the places of their items among them, once there are many.
 pub struct Reads {
     list: Vec<(Item, Read)>,
-    objects: OrderedMap<ObjectId, usize>,
-    names: OrderedMap<Name, usize>,
-    first: Option<usize>,
-    nexts: OrderedMap<Name, usize>,
-    tasks: OrderedMap<TaskKey, usize>,
+    /// The places, where there are more than `FEW_READS`.
+    index: Index,
+    alloc: Global,
 }
 
 impl Drop for Reads {
     fn drop(self) {
         let Reads {
             list: _,
-            objects: _,
-            names: _,
-            first: _,
-            nexts: _,
-            tasks: _,
+            index: _,
+            alloc: _,
         } = self;
     }
 }
@@ -35,36 +35,49 @@ impl Model for Reads {
     ghost use Rattle.std.specs.Prelude.{List};
     ghost use Rattle.dk_types.specs.declared.item.Item.{Item};
     ghost use Rattle.dk_types.specs.declared.item.Read.{Read};
-    ghost use Rattle.dk_types.specs.Names.{bytes_cmp};
-    ghost use Rattle.dk_model.specs.Keys.{id_cmp, key_cmp};
-    ghost use Rattle.dk_map.specs.Entries.{IsOrdered};
-    ghost use Rattle.dk_overlay.specs.Asked.{IsIndexed, place_of};
+    ghost use Rattle.dk_overlay.specs.Asked.{IsOnce, IsIndexedLong};
 
     ghost Value = { List (Item × Read) };
 
     ghost view = { λ a. a.list.items };
 
-    ghost invariant = { λ a. IsOrdered id_cmp a.objects.entries × IsOrdered bytes_cmp a.names.entries × IsOrdered bytes_cmp a.nexts.entries × IsOrdered key_cmp a.tasks.entries × IsIndexed a.list.items (place_of a.objects.entries a.names.entries a.first a.nexts.entries a.tasks.entries) };
+    ghost invariant = { λ a. IsOnce a.list.items × IsIndexedLong a.list.items a.index };
 }
 
-/// The place of an item, by the places of each kind.
-fn place_in(
-    objects: &OrderedMap<ObjectId, usize>,
-    names: &OrderedMap<Name, usize>,
-    first: Option<usize>,
-    nexts: &OrderedMap<Name, usize>,
-    tasks: &OrderedMap<TaskKey, usize>,
-    item: &Item,
-) -> Option<usize>
-    ensures { result ≡ place_of objects.now.entries names.now.entries first nexts.now.entries tasks.now.entries item.now }
+/// The read of an item among a few.
+fn read_among<'a>(list: &'a [(Item, Read)], item: &Item) -> Option<&'a Read>
+    ensures some { IfSome result (λ read. WasRead list.now item.now read.now) }
+    ensures none { IfNone result (WasNotRead list.now item.now) }
 {
-    match item {
-        Item::Object(id) => objects.get(id).copied(),
-        Item::Bound(name) => names.get(name).copied(),
-        Item::NextAfter(None) => first,
-        Item::NextAfter(Some(after)) => nexts.get(after).copied(),
-        Item::Task(key) => tasks.get(key).copied(),
+    for (known, read) in list {
+        if is_same_item(known, item) {
+            return Some(read);
+        }
     }
+    None
+}
+
+/// Gives the item that comes next in a list its place, where there are many. Where they become many, all get their places.
+fn add_place(
+    index: &mut Index,
+    alloc: Global,
+    list: &[(Item, Read)],
+    item: &Item,
+) -> Result<(), NoMemory>
+    requires once { IsOnce list.now }
+    requires indexed { IsIndexedLong list.now index.old }
+    ensures ok { OnOk result ((read : Read) → WasNotRead list.now item.now → IsIndexedLong (list.now ++ (item.now, read) ∷ []) index.new) }
+    ensures err { OnErr result (IsIndexedLong list.now index.new) }
+{
+    let at = list.len();
+    if at < FEW_READS {
+        return Ok(());
+    }
+    if at > FEW_READS {
+        return index.add(item, at);
+    }
+    *index = Index::of(alloc, list)?;
+    index.add(item, at)
 }
 
 impl Reads {
@@ -73,11 +86,8 @@ impl Reads {
     {
         Reads {
             list: Vec::new(alloc),
-            objects: OrderedMap::new(alloc),
-            names: OrderedMap::new(alloc),
-            first: None,
-            nexts: OrderedMap::new(alloc),
-            tasks: OrderedMap::new(alloc),
+            index: Index::new(alloc),
+            alloc,
         }
     }
 
@@ -86,15 +96,10 @@ impl Reads {
         ensures some { IfSome result (λ read. WasRead self.now item.now read.now) }
         ensures none { IfNone result (WasNotRead self.now item.now) }
     {
-        let place = place_in(
-            &self.objects,
-            &self.names,
-            self.first,
-            &self.nexts,
-            &self.tasks,
-            item,
-        );
-        match place {
+        if self.list.len() <= FEW_READS {
+            return read_among(self.list.as_slice(), item);
+        }
+        match self.index.get(item) {
             None => None,
             Some(at) => Some(&self.list[at].1),
         }
@@ -117,37 +122,9 @@ impl Reads {
         ensures ok { OnOk result (self.new ≡ self.old ++ (item, read) ∷ []) }
         ensures err { OnErr result (self.new ≡ self.old) }
     {
-        let at = self.list.len();
-        match &item {
-            Item::Object(id) => {
-                let id = *id;
-                self.objects.reserve(1)?;
-                self.list.push((item, read))?;
-                self.objects.insert(id, at);
-            }
-            Item::Bound(name) => {
-                let name = name.clone()?;
-                self.names.reserve(1)?;
-                self.list.push((item, read))?;
-                self.names.insert(name, at);
-            }
-            Item::NextAfter(None) => {
-                self.list.push((item, read))?;
-                self.first = Some(at);
-            }
-            Item::NextAfter(Some(after)) => {
-                let after = after.clone()?;
-                self.nexts.reserve(1)?;
-                self.list.push((item, read))?;
-                self.nexts.insert(after, at);
-            }
-            Item::Task(key) => {
-                let key = *key;
-                self.tasks.reserve(1)?;
-                self.list.push((item, read))?;
-                self.tasks.insert(key, at);
-            }
-        }
+        self.list.reserve(1)?;
+        add_place(&mut self.index, self.alloc, self.list.as_slice(), &item)?;
+        self.list.push_reserved((item, read));
         Ok(())
     }
 
@@ -158,11 +135,8 @@ impl Reads {
     {
         let Reads {
             list,
-            objects: _,
-            names: _,
-            first: _,
-            nexts: _,
-            tasks: _,
+            index: _,
+            alloc: _,
         } = self;
         list
     }

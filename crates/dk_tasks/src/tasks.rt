@@ -185,6 +185,14 @@ impl Tasks {
         self.take(key);
     }
 
+    /// Takes a task out, if it is pending. Its room is spare from then on.
+    pub fn remove(&mut self, key: TaskKey)
+        ensures tasks { self.new.tasks ≡ map.remove self.old.tasks key }
+        ensures spare { self.new.spare ≡ self.old.spare + (if map.contains_key self.old.tasks key then 1 else 0) }
+    {
+        self.take(key);
+    }
+
     /// Moves a task to another due moment, in ms. It takes no memory, and the stamp stays: a task that is due again
     /// was not written.
     pub fn requeue(&mut self, key: TaskKey, due: u64)

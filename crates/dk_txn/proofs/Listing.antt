@@ -2,7 +2,8 @@
 use Rattle.std.proofs.Common.{◌≡◌, ℕ, zero, suc, ◌+◌, ◌<◌, ◌≤◌, true, false, if◌then◌else◌, List, [], ◌∷◌, length, drop, get_or, refl, sym, ap, subst, ◌∙◌, arith}
 use Rattle.dk_types.specs.declared.item.Item.{Item}
 use Rattle.dk_types.specs.declared.item.Read.{Read}
-use Rattle.dk_txn.specs.Listing.{read_in, same_item, absent}
+use Rattle.dk_overlay.specs.Items.{same_item}
+use Rattle.dk_txn.specs.Listing.{read_in, absent}
 
 turn : (reads : List (Item × Read)) (i : ℕ) (x : Item × Read) (item : Item) → i < length reads
     → read_in (drop i reads) item ≡ (if same_item (get_or reads i x).0 item then (get_or reads i x).1 else read_in (drop (suc i) reads) item)

@@ -1,11 +1,11 @@
 -- The read that a list has for an item.
-use Rattle.std.specs.Prelude.{ℕ, ◌&&◌, Bool, true, false, nat_eq, if◌then◌else◌, Option, Some, None, List, [], ◌∷◌}
-use Rattle.std.specs.Cmp.Lexicographic.{pointwise}
+use Rattle.std.specs.Prelude.{if◌then◌else◌, None, List, [], ◌∷◌}
 use Rattle.dk_types.specs.declared.item.Item.{Item}
 use Rattle.dk_types.specs.declared.item.Item.TheVariants as ask
 use Rattle.dk_types.specs.declared.item.Answer.TheVariants as said
 use Rattle.dk_types.specs.declared.item.Seen.TheVariants as seen
 use Rattle.dk_types.specs.declared.item.Read.{Read}
+use Rattle.dk_overlay.specs.Items.{same_item}
 
 -- the absent form of an item's read
 abbrev pub absent : Item → Read
@@ -13,31 +13,6 @@ absent (ask.Object id) = record { answer = said.NoObject; seen = seen.Absent }
 absent (ask.Bound name) = record { answer = said.NoName; seen = seen.Absent }
 absent (ask.NextAfter after) = record { answer = said.Next None; seen = seen.Next None }
 absent (ask.Task key) = record { answer = said.NoTask; seen = seen.Absent }
-
-abbrev pub same_after : Option (List ℕ) → Option (List ℕ) → Bool
-same_after None None = true
-same_after None (Some b) = false
-same_after (Some a) None = false
-same_after (Some a) (Some b) = pointwise nat_eq a b
-
--- whether two items are one
-abbrev pub same_item : Item → Item → Bool
-same_item (ask.Object a) (ask.Object b) = nat_eq a.run.0 b.run.0 && nat_eq a.k b.k
-same_item (ask.Object a) (ask.Bound b) = false
-same_item (ask.Object a) (ask.NextAfter b) = false
-same_item (ask.Object a) (ask.Task b) = false
-same_item (ask.Bound a) (ask.Object b) = false
-same_item (ask.Bound a) (ask.Bound b) = pointwise nat_eq a b
-same_item (ask.Bound a) (ask.NextAfter b) = false
-same_item (ask.Bound a) (ask.Task b) = false
-same_item (ask.NextAfter a) (ask.Object b) = false
-same_item (ask.NextAfter a) (ask.Bound b) = false
-same_item (ask.NextAfter a) (ask.NextAfter b) = same_after a b
-same_item (ask.NextAfter a) (ask.Task b) = false
-same_item (ask.Task a) (ask.Object b) = false
-same_item (ask.Task a) (ask.Bound b) = false
-same_item (ask.Task a) (ask.NextAfter b) = false
-same_item (ask.Task a) (ask.Task b) = nat_eq a.run.0 b.run.0 && nat_eq a.k b.k
 
 -- the first read of the item, or its absent form
 abbrev pub read_in : List (Item × Read) → Item → Read

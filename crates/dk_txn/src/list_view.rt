@@ -1,9 +1,9 @@
 //! A view that answers from a list.
 ghost use Rattle.std.specs.Prelude.{◌≡◌, ◌∷◌, [], IfOk, IfSome};
-ghost use Rattle.dk_txn.specs.Listing.{read_in, absent, same_item, same_after};
+ghost use Rattle.dk_txn.specs.Listing.{read_in, absent};
 
 use crate::view::View;
-use dk_overlay::{copy_answer, copy_name};
+use dk_overlay::{copy_answer, copy_name, is_same_item};
 use dk_types::{Answer, Item, Name, NoMemory, Read, Seen};
 
 /// A view that gives the first read that its list has for an item, and else the absent form.
@@ -54,29 +54,6 @@ fn copy_seen(seen: &Seen) -> Result<Seen, NoMemory>
     }
 }
 
-fn is_same_after(a: &Option<Name>, b: &Option<Name>) -> bool
-    ensures { result ≡ same_after a.now b.now }
-{
-    match (a, b) {
-        (None, None) => true,
-        (Some(a), Some(b)) => a == b,
-        (None, Some(_)) | (Some(_), None) => false,
-    }
-}
-
-/// Whether two items are one.
-fn is_same(a: &Item, b: &Item) -> bool
-    ensures { result ≡ same_item a.now b.now }
-{
-    match (a, b) {
-        (Item::Object(a), Item::Object(b)) => a == b,
-        (Item::Bound(a), Item::Bound(b)) => a == b,
-        (Item::NextAfter(a), Item::NextAfter(b)) => is_same_after(a, b),
-        (Item::Task(a), Item::Task(b)) => a == b,
-        _ => false,
-    }
-}
-
 fn copy_read(read: &Read) -> Result<Read, NoMemory>
     ensures { IfOk result (λ copy. copy ≡ read.now) }
 {
@@ -93,7 +70,7 @@ impl View for ListView {
 
     fn read(&mut self, item: &Item) -> Result<Read, NoMemory> {
         for (known, read) in &self.reads {
-            if is_same(known, item) {
+            if is_same_item(known, item) {
                 return copy_read(read);
             }
         }
