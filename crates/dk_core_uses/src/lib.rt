@@ -7,5 +7,9 @@
 pub use twins::Twins;
 
 #[cfg(test)]
+mod driving;
+#[cfg(test)]
+mod sword_tests;
+#[cfg(test)]
 mod tests;
 pub mod twins;

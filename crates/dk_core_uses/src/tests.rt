@@ -6,119 +6,26 @@ ghost use Rattle.dk_serving.specs.Servings.{IsStandingFor};
 ghost use Rattle.dk_core_uses.specs.Twins.{twins_rules};
 
 use crate::Twins;
-use dk_core::{Changed, Claimed, Core, Handed, PostRefused, PrepareRefused};
-use dk_serving::{Ran, Served, serve_next};
+use crate::driving::{
+    claim, commit, commit_stale, connect, hand, opened, post, serve, serve_beside, text,
+};
+use dk_core::{Changed, Claimed, Core, PostRefused};
 use dk_txn::{Finished, ListView, Txn, View};
 use dk_types::limits::{MOMENT_MOST_MS, OUTS_MOST_COUNT};
 use dk_types::{
-    AppFault, Blob, ConnNo, Durable, Input, Item, Job, Listed, Name, Object, ObjectId, Out,
-    Outcome, Read, RunNo, Seen, TaskKey,
+    AppFault, Blob, ConnNo, Input, Item, Job, Name, Object, ObjectId, Out, Outcome, Read, RunNo,
+    Seen, TaskKey,
 };
 use std::alloc::Global;
 use std::process::Abort;
 use std::test::Fail;
 
-/// The pass of every call.
-const PASS: u32 = 7;
-
-fn text(alloc: Global, bytes: &[u8]) -> Result<Name, Fail> {
-    Ok(Name::new(alloc, bytes).ok().ok_or("a name")?)
-}
-
-/// A core on the world before the first run.
-fn opened(alloc: Global) -> Result<Core, Fail>
-    ensures { IfOk result (IsStandingFor twins_rules) }
-{
-    let durable = Durable {
-        commits: 0,
-        last: None,
-        objects: Listed::from_vec(Vec::new(alloc)),
-        names: Listed::from_vec(Vec::new(alloc)),
-        tasks: Listed::from_vec(Vec::new(alloc)),
-    };
-    match Core::open(alloc, durable, None) {
-        Ok(core) => Ok(core),
-        Err(_) => Err(Fail::from("a core")),
-    }
-}
-
-/// The job that comes next, run and committed.
-fn serve(alloc: Global, core: &mut Core) -> Result<Ran, Fail>
-    requires { IsStandingFor twins_rules core.old }
-    ensures { IfOk result (λ _. IsStandingFor twins_rules core.new) }
-{
-    let Ok(Served::Ran(ran)) = serve_next(alloc, &Twins, core, PASS) else {
-        return Err(Fail::from("a run"));
-    };
-    Ok(ran)
-}
-
-/// The same beside a claim, which stays.
-fn serve_beside(alloc: Global, core: &mut Core, held: &Claimed) -> Result<Ran, Fail>
-    requires standing { IsStandingFor twins_rules core.old }
-    requires granted { IsGranted core.old held.now }
-    ensures standing { IfOk result (λ _. IsStandingFor twins_rules core.new) }
-    ensures granted { IfOk result (λ _. IsGranted core.new held.now) }
-{
-    let Ok(Served::Ran(ran)) = serve_next(alloc, &Twins, core, PASS) else {
-        return Err(Fail::from("a run"));
-    };
-    Ok(ran)
-}
-
-/// A claim, which is granted.
-fn claim(core: &mut Core) -> Result<Claimed, Fail>
-    requires { IsStandingFor twins_rules core.old }
-    ensures standing { IfOk result (λ _. IsStandingFor twins_rules core.new) }
-    ensures granted { IfOk result (IsGranted core.new) }
-{
-    match core.claim(PASS) {
-        Ok(Some(claimed)) => Ok(claimed),
-        Ok(None) | Err(_) => Err(Fail::from("a claim")),
-    }
-}
-
-fn changed_of(refused: PrepareRefused) -> Result<Changed, Fail> {
-    match refused {
-        PrepareRefused::Retry(changed) => Ok(changed),
-        PrepareRefused::NoMemory => Err(Fail::from("memory")),
-    }
-}
-
-/// A commit that is refused, as a read no longer stands. The claim is handed back.
-fn commit_stale(
-    core: &mut Core,
-    claimed: Claimed,
-    finished: Finished,
-) -> Result<(Claimed, Changed), Fail>
-    requires standing { IsStandingFor twins_rules core.old }
-    requires granted { IsGranted core.old claimed }
-    ensures standing { IfOk result (λ _. IsStandingFor twins_rules core.new) }
-    ensures granted { IfOk result (λ back. IsGranted core.new back.0) }
-{
-    let Err((back, refused)) = core.commit(claimed, finished) else {
-        return Err(Fail::from("a stale read"));
-    };
-    let changed = changed_of(refused)?;
-    Ok((back, changed))
-}
-
-fn commit(core: &mut Core, claimed: Claimed, finished: Finished) -> Result<u64, Fail>
-    requires standing { IsStandingFor twins_rules core.old }
-    requires granted { IsGranted core.old claimed }
-{
-    match core.commit(claimed, finished) {
-        Ok(seq) => Ok(seq),
-        Err(_) => Err(Fail::from("a commit")),
-    }
-}
-
 /// A core after the first run.
 fn begun(alloc: Global) -> Result<Core, Fail>
     ensures { IfOk result (IsStandingFor twins_rules) }
 {
-    let mut core = opened(alloc)?;
-    serve(alloc, &mut core)?;
+    let mut core = opened(alloc, &Twins)?;
+    serve(alloc, &Twins, &mut core)?;
     Ok(core)
 }
 
@@ -230,10 +137,10 @@ fn stale_names(rt: &impl Abort, alloc: Global) -> Result<(Core, Claimed, Changed
     ensures granted { IfOk result (λ made. IsGranted made.0 made.1) }
 {
     let mut core = begun(alloc)?;
-    let reader = claim(&mut core)?;
+    let reader = claim(&Twins, &mut core)?;
     let finished = reads_names(rt, alloc, &core, &reader)?;
-    serve_beside(alloc, &mut core, &reader)?;
-    let (back, changed) = commit_stale(&mut core, reader, finished)?;
+    serve_beside(alloc, &Twins, &mut core, &reader)?;
+    let (back, changed) = commit_stale(&Twins, &mut core, reader, finished)?;
     Ok((core, back, changed))
 }
 
@@ -252,7 +159,7 @@ fn a_name_bound_between_is_told(rt: HostRuntime) -> Result<(), Fail> {
     let told = name_between(alloc)?;
     assert!(rt; changed == told);
     let again = reads_names(&rt, alloc, &core, &reader)?;
-    let seq = commit(&mut core, reader, again)?;
+    let seq = commit(&Twins, &mut core, reader, again)?;
     assert_eq!(rt; seq, 3);
     Ok(())
 }
@@ -273,7 +180,7 @@ fn torn_reads(alloc: Global, core: &mut Core, reader: &Claimed) -> Result<Vec<(I
     let (key, _) = own_task(reader)?;
     let own = read_pair(core, Item::Task(key))?;
     let first = read_pair(core, Item::Object(twin(0)))?;
-    serve_beside(alloc, core, reader)?;
+    serve_beside(alloc, &Twins, core, reader)?;
     let second = read_pair(core, Item::Object(twin(1)))?;
     let mut reads = Vec::new(alloc);
     reads.push(own)?;
@@ -288,11 +195,11 @@ fn stale_objects(rt: &impl Abort, alloc: Global) -> Result<(Core, Claimed, Chang
     ensures granted { IfOk result (λ made. IsGranted made.0 made.1) }
 {
     let mut core = begun(alloc)?;
-    let reader = claim(&mut core)?;
+    let reader = claim(&Twins, &mut core)?;
     let reads = torn_reads(alloc, &mut core, &reader)?;
     let torn = compares_torn(rt, alloc, reads, &reader)?;
     assert!(rt; *torn.outcome() == Outcome::Fail(AppFault::Game(1)));
-    let (back, changed) = commit_stale(&mut core, reader, torn)?;
+    let (back, changed) = commit_stale(&Twins, &mut core, reader, torn)?;
     Ok((core, back, changed))
 }
 
@@ -308,20 +215,9 @@ fn a_run_that_saw_two_worlds_is_refused(rt: HostRuntime) -> Result<(), Fail> {
     assert!(rt; changed == told);
     let again = compares_now(&rt, alloc, &core, &reader)?;
     assert!(rt; *again.outcome() == Outcome::Ok);
-    let seq = commit(&mut core, reader, again)?;
+    let seq = commit(&Twins, &mut core, reader, again)?;
     assert_eq!(rt; seq, 3);
     Ok(())
-}
-
-fn connect(alloc: Global, core: &mut Core, bytes: &[u8]) -> Result<ConnNo, Fail>
-    requires { IsStandingFor twins_rules core.old }
-    ensures { IfOk result (λ _. IsStandingFor twins_rules core.new) }
-{
-    let name = text(alloc, bytes)?;
-    match core.connect(&name) {
-        Ok(conn) => Ok(conn),
-        Err(_) => Err(Fail::from("a connection")),
-    }
 }
 
 /// A message of so many bytes.
@@ -333,7 +229,7 @@ fn message(rt: &impl Abort, alloc: Global, len: usize) -> Result<Input, Fail>
     Ok(Input::Message(Blob::from_vec(bytes)))
 }
 
-fn post(
+fn post_bytes(
     rt: &impl Abort,
     alloc: Global,
     core: &mut Core,
@@ -344,29 +240,19 @@ fn post(
     ensures { IfOk result (λ _. IsStandingFor twins_rules core.new) }
 {
     let input = message(rt, alloc, len)?;
-    Ok(core.post(conn, input))
-}
-
-fn hand(core: &mut Core, conn: ConnNo, most: u32) -> Result<Handed, Fail>
-    requires { IsStandingFor twins_rules core.old }
-    ensures { IfOk result (λ _. IsStandingFor twins_rules core.new) }
-{
-    match core.hand(conn, most) {
-        Ok(handed) => Ok(handed),
-        Err(_) => Err(Fail::from("a list")),
-    }
+    post(&Twins, core, conn, input)
 }
 
 /// A core on which alice is logged in and both tasks have run.
 fn with_alice(alloc: Global) -> Result<(Core, ConnNo), Fail>
     ensures { IfOk result (λ made. IsStandingFor twins_rules made.0) }
 {
-    let mut core = opened(alloc)?;
-    let conn = connect(alloc, &mut core, b"alice")?;
-    serve(alloc, &mut core)?;
-    serve(alloc, &mut core)?;
-    serve(alloc, &mut core)?;
-    serve(alloc, &mut core)?;
+    let mut core = opened(alloc, &Twins)?;
+    let conn = connect(alloc, &Twins, &mut core, b"alice")?;
+    serve(alloc, &Twins, &mut core)?;
+    serve(alloc, &Twins, &mut core)?;
+    serve(alloc, &Twins, &mut core)?;
+    serve(alloc, &Twins, &mut core)?;
     Ok((core, conn))
 }
 
@@ -375,14 +261,14 @@ fn with_full_outbox(rt: &impl Abort, alloc: Global) -> Result<(Core, ConnNo), Fa
     ensures { IfOk result (λ made. IsStandingFor twins_rules made.0) }
 {
     let (mut core, conn) = with_alice(alloc)?;
-    let accepted = hand(&mut core, conn, 1)?;
+    let accepted = hand(&Twins, &mut core, conn, 1)?;
     assert!(rt; accepted.outs.as_slice() == [Out::Accepted].as_slice());
-    let most = post(rt, alloc, &mut core, conn, 4096)?;
+    let most = post_bytes(rt, alloc, &mut core, conn, 4096)?;
     assert_eq!(rt; most, Ok(()));
-    serve(alloc, &mut core)?;
-    let first = post(rt, alloc, &mut core, conn, 1)?;
+    serve(alloc, &Twins, &mut core)?;
+    let first = post_bytes(rt, alloc, &mut core, conn, 1)?;
     assert_eq!(rt; first, Ok(()));
-    let second = post(rt, alloc, &mut core, conn, 1)?;
+    let second = post_bytes(rt, alloc, &mut core, conn, 1)?;
     assert_eq!(rt; second, Ok(()));
     Ok((core, conn))
 }
@@ -391,7 +277,7 @@ fn with_full_outbox(rt: &impl Abort, alloc: Global) -> Result<(Core, ConnNo), Fa
 fn assert_cut_off(rt: &impl Abort, alloc: Global, core: &mut Core, conn: ConnNo) -> Result<(), Fail>
     requires { IsStandingFor twins_rules core.old }
 {
-    let last = claim(core)?;
+    let last = claim(&Twins, core)?;
     let end = Job::Disconnect {
         conn,
         name: text(alloc, b"alice")?,
@@ -405,11 +291,11 @@ fn assert_cut_off(rt: &impl Abort, alloc: Global, core: &mut Core, conn: ConnNo)
 fn one_message_too_many_cuts_a_connection_off(rt: HostRuntime) -> Result<(), Fail> {
     let alloc = rt.alloc();
     let (mut core, conn) = with_full_outbox(&rt, alloc)?;
-    serve(alloc, &mut core)?;
-    let closed = post(&rt, alloc, &mut core, conn, 1)?;
+    serve(alloc, &Twins, &mut core)?;
+    let closed = post_bytes(&rt, alloc, &mut core, conn, 1)?;
     assert_eq!(rt; closed, Err(PostRefused::Closed));
-    serve(alloc, &mut core)?;
-    let handed = hand(&mut core, conn, 5000)?;
+    serve(alloc, &Twins, &mut core)?;
+    let handed = hand(&Twins, &mut core, conn, 5000)?;
     assert_eq!(rt; handed.outs.as_slice().len() as u64, OUTS_MOST_COUNT);
     assert!(rt; !handed.end);
     assert_cut_off(&rt, alloc, &mut core, conn)

@@ -1,9 +1,10 @@
 //! The game in one run on an empty world. Bytes and texts are worked by hand.
 
-use crate::SwordWorld;
 use crate::texts::look_body;
+use crate::{SwordWorld, Thing};
 use dk_game::{Game, Halt};
-use dk_txn::{ListView, Mode, Txn};
+use dk_refs::ManagedRef;
+use dk_txn::{ListView, Mode, Refusal, Txn};
 use dk_types::{AppFault, Blob, ConnNo, Job, Listed, Name, ObjectId, Out, RunNo};
 use std::alloc::Global;
 use std::test::*;
@@ -76,6 +77,18 @@ fn a_sword_lies_in_the_first_room(rt: HostRuntime) -> Result<(), Fail> {
     assert_eq!(rt; bytes_of(&mut txn, 1)?.as_slice(), FIRST_ROOM);
     let room = text(alloc, b"Room")?;
     assert_eq!(rt; txn.bound(&room), Ok(id(1)));
+    Ok(())
+}
+
+#[test]
+fn a_room_is_no_thing(rt: HostRuntime) -> Result<(), Fail> {
+    let alloc = rt.alloc();
+    let mut view = ListView::new(Vec::new(alloc));
+    let mut txn = Txn::begin(alloc, &mut view, RunNo(RUN), 0);
+    txn.set_mode(Mode::Game);
+    assert_eq!(rt; play(alloc, &mut txn, &Job::Initialize), Ok(()));
+    let thing = ManagedRef::<Thing>::of(id(1)).get(alloc, &mut txn);
+    assert_eq!(rt; thing.err(), Some(Refusal::WrongKind { found: 1 }));
     Ok(())
 }
 
