@@ -1,5 +1,5 @@
 -- Lists of reads, and the places of their items.
-use Rattle.std.proofs.Common.{◌≡◌, ℕ, zero, suc, ◌+◌, ◌<◌, ◌⊎◌, inl, inr, Option, Some, None, List, [], ◌∷◌, ◌++◌, length, take, true, false, ◌≤◌, IfNone, Result, Ok, Err, OnOk, refl, sym, ap, subst, ◌∙◌, arith}
+use Rattle.std.proofs.Common.{◌≡◌, ℕ, zero, suc, ◌+◌, ◌<◌, ◌⊎◌, inl, inr, Option, Some, None, List, [], ◌∷◌, ◌++◌, length, take, true, false, IfNone, Result, Ok, Err, OnOk, refl, sym, ap, subst, ◌∙◌, arith}
 use Rattle.std.specs.List.{AllByRecursion, slice_get}
 use Rattle.std.proofs.lemmas.Bool.Decides.{eqb_tells}
 use Rattle.dk_types.specs.declared.number.ObjectId.{ObjectId}
@@ -11,8 +11,7 @@ use Rattle.dk_types.specs.Names.{bytes_cmp}
 use Rattle.dk_map.specs.Entries.{put, IsOrdered}
 use Rattle.dk_model.specs.Keys.{id_cmp, key_cmp}
 use Rattle.dk_model.specs.DurableWorlds.{DurableWorld, Agrees, answer}
-use Rattle.dk_overlay.specs.Asked.{WasRead, WasNotRead, IsOnce, IsIndexed, Places, no_places, place_in, AddsPlace, IsIndexedLong}
-use Rattle.dk_overlay.specs.declared.reads.TheConstants.{FEW_READS}
+use Rattle.dk_overlay.specs.Asked.{WasRead, WasNotRead, IsOnce, IsIndexed, Places, place_in, AddsPlace, IsIndexedLong}
 use Rattle.dk_overlay.proofs.Keys.{ids_total, ids_same, keys_total, keys_same, names_total, names_same}
 use Rattle.dk_overlay.proofs.Finding.{found_here, found_others}
 use Rattle.dk_overlay.specs.Items.{same_item}
@@ -90,6 +89,7 @@ once_push reads item read once fresh i j a b p q e = elim (get_pushed reads (ite
 pub indexed_none : (reads : List (Item × Read)) (place : Item → Option ℕ) → IsIndexed reads place → (item : Item) → place item ≡ None → WasNotRead reads item
 indexed_none reads place indexed item none = λ read w. let there = indexed.whole w.0 (item, read) w.1 in cc
 
+-- a place before the next one is before this one, or is this one
 less_or_same : (i n : ℕ) → i < n + 1 → (i < n) ⊎ (i ≡ n)
 less_or_same i n h = elim (eqb_tells i n) [ inl e ↦ inr e.1 | inr e ↦ inl (omega (arith, h, e.1)) ]
 
@@ -126,16 +126,6 @@ module _ (p : Places) (at : ℕ) where
       others (ask.NextAfter (Some after)) = inr refl
       others (ask.Task key) = inr refl
 
-  pub adds_first : AddsPlace (place_in p) (place_in (record p { first = Some at })) (ask.NextAfter None) at
-  adds_first = (refl, others)
-    where
-      others : (q : Item) → (q ≡ ask.NextAfter None) ⊎ (place_in (record p { first = Some at }) q ≡ place_in p q)
-      others (ask.Object i) = inr refl
-      others (ask.Bound n) = inr refl
-      others (ask.NextAfter None) = inl refl
-      others (ask.NextAfter (Some after)) = inr refl
-      others (ask.Task key) = inr refl
-
   pub adds_next : IsOrdered bytes_cmp p.nexts → (after : List ℕ) → AddsPlace (place_in p) (place_in (record p { nexts = put bytes_cmp after at p.nexts })) (ask.NextAfter (Some after)) at
   adds_next h after = (found_here names_total names_same p.nexts h after at, others)
     where
@@ -161,17 +151,7 @@ pub added : (p q old new : Places) (it item : Item) (at : ℕ) → AddsPlace (pl
 added p q old new it item at adds was is same =
     subst (λ o. AddsPlace (place_in o) (place_in new) item at) was (subst (λ n. AddsPlace (place_in p) (place_in n) item at) is (subst (λ i. AddsPlace (place_in p) (place_in q) i at) same adds))
 
--- with nothing read there are no places
-pub indexed_empty : IsIndexed [] (place_in no_places)
-indexed_empty = record { right = none; whole = λ at e h. cc }
-  where
-    none : (item : Item) (at : ℕ) → place_in no_places item ≡ Some at → (read : Read) × (slice_get {X = Item × Read} [] at ≡ Some (item, read))
-    none (ask.Object id) at e = cc
-    none (ask.Bound name) at e = cc
-    none (ask.NextAfter None) at e = cc
-    none (ask.NextAfter (Some after)) at e = cc
-    none (ask.Task key) at e = cc
-
+-- what stands in a front of a list stands there in the list
 front_get : {X : Type 0} (xs : List X) (n i : ℕ) (x : X) → slice_get (take n xs) i ≡ Some x → (slice_get xs i ≡ Some x) × (i < n)
 front_get [] zero i x e = absurd cc
 front_get [] (suc n) i x e = absurd cc
@@ -179,11 +159,13 @@ front_get (y ∷ xs) zero i x e = absurd cc
 front_get (y ∷ xs) (suc n) zero x e = (e, omega arith)
 front_get (y ∷ xs) (suc n) (suc i) x e = let h = front_get xs n i x e in (h.0, omega (arith, h.1))
 
+-- a front that goes on by one item
 pub front_more : {X : Type 0} (xs : List X) (n : ℕ) (x : X) → slice_get xs n ≡ Some x → take (suc n) xs ≡ take n xs ++ x ∷ []
 front_more [] n x e = cc
 front_more (y ∷ xs) zero x e = ap (λ z. z ∷ []) (Some_injective _ _ e)
 front_more (y ∷ xs) (suc n) x e = ap (λ zs. y ∷ zs) (front_more xs n x e)
 
+-- the length of a front
 pub front_length : {X : Type 0} (xs : List X) (n : ℕ) (x : X) → slice_get xs n ≡ Some x → length (take n xs) ≡ n
 front_length [] n x e = cc
 front_length (y ∷ xs) zero x e = refl
@@ -196,13 +178,10 @@ fresh_next reads n e once here read was =
     let same = once was.0 n (e.0, read) e h.0 here refl in
     omega (arith, h.1, same)
 
+-- the answer of a look through a list, as one about the list that it shows
 pub none_among : {L : Type 0} (now list : List (Item × Read)) (item : Item) (r : Option L) → list ≡ now → IfNone r (WasNotRead list item) → IfNone r (WasNotRead now item)
 none_among now list item None same none = subst (λ l. WasNotRead l item) same none
 none_among now list item (Some x) same none = tt
-
--- a short list needs no places
-pub short_indexed : (reads : List (Item × Read)) (p : Places) → length reads ≤ FEW_READS → IsIndexedLong reads p
-short_indexed reads p short long = absurd (omega (arith, short, long))
 
 -- one read more, of an item that was not read and has its place
 pub long_indexed : (reads : List (Item × Read)) (p q : Places) (item : Item) (read : Read) (at : ℕ) → IsIndexed reads (place_in p) → WasNotRead reads item → AddsPlace (place_in p) (place_in q) item at → at ≡ length reads

@@ -23,6 +23,7 @@ after_itself : (a : Option (List ℕ)) → same_after a a ≡ true
 after_itself None = refl
 after_itself (Some a) = (bytes_decides a a).1 refl
 
+-- items that pass the test are one
 pub item_equal : (a b : Item) → same_item a b ≡ true → a ≡ b
 item_equal (ask.Object a) (ask.Object b) h =
     let r : a.run.0 ≡ b.run.0 = number_equal _ _ (and_left _ _ h) in
@@ -47,6 +48,7 @@ item_equal (ask.Task a) (ask.Task b) h =
     let k : a.k ≡ b.k = number_equal _ _ (and_right _ _ h) in
     λ i. ask.Task (record { run = record { 0 = r i }; k = k i })
 
+-- an item passes the test with itself
 pub item_itself : (a : Item) → same_item a a ≡ true
 item_itself (ask.Object a) = rw (number_itself a.run.0, number_itself a.k) refl
 item_itself (ask.Bound a) = (bytes_decides a a).1 refl

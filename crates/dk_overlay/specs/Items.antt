@@ -4,6 +4,7 @@ use Rattle.std.specs.Cmp.Lexicographic.{pointwise}
 use Rattle.dk_types.specs.declared.item.Item.{Item}
 use Rattle.dk_types.specs.declared.item.Item.TheVariants as ask
 
+-- whether two names that may be given are one
 abbrev pub same_after : Option (List ℕ) → Option (List ℕ) → Bool
 same_after None None = true
 same_after None (Some b) = false
