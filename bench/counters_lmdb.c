@@ -1,7 +1,7 @@
 // The counter game on LMDB without sync, with the same work: so many pending tasks wait in the order of their due moments and
 // keys. Each transaction takes the first of them, finds by name the counter that it tells, raises the object that the name leads
-// to, and leaves the task no longer pending. All stands in one tree, told apart by a first byte, which LMDB does fastest. Prints
-// the nanoseconds of all transactions together.
+// to, and leaves the task no longer pending. All stands in one tree, told apart by a first byte, which is
+// faster than a database for each store. Prints the nanoseconds of all transactions together.
 #include <endian.h>
 #include <lmdb.h>
 #include <stdint.h>
