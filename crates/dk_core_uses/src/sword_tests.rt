@@ -5,7 +5,7 @@ ghost use Rattle.dk_serving.specs.Servings.{IsStandingFor};
 ghost use Rattle.sword_world.specs.Rules.{sword_rules};
 
 use crate::driving::{
-    claim, commit, commit_stale, connect, hand, opened, post, serve, serve_beside, text,
+    claim, commit, commit_stale, connect, opened, post, serve, serve_beside, text,
 };
 use dk_core::{Changed, Claimed, Core};
 use dk_game::run_over;
