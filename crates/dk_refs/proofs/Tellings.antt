@@ -10,8 +10,8 @@ use Rattle.dk_types.specs.declared.item.Item.{Item}
 use Rattle.dk_types.specs.declared.item.Read.{Read}
 use Rattle.dk_types.specs.declared.fault.AppFault.{AppFault}
 use Rattle.dk_types.specs.declared.fault.AppFault.TheVariants.{Refused}
-use Rattle.dk_wire.specs.Fields.{u8_spelling, u64_spelling, name_spelling}
-use Rattle.dk_wire.specs.Lists.{list_spelling}
+use Rattle.dk_types.specs.Fields.{u8_spelling, u64_spelling, name_spelling}
+use Rattle.dk_types.specs.Lists.{list_spelling}
 use Rattle.dk_wire.proofs.LengthLaws.{length-u8, length-u64, length-list}
 use Rattle.dk_model.specs.declared.records.Delivery.{Delivery}
 use Rattle.dk_model.specs.Records.{session_bytes, channel_bytes, member_bytes, flag, delivery_number}

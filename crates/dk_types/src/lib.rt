@@ -16,6 +16,7 @@ pub use listed::Listed;
 pub use name::{Name, NameRefused};
 pub use number::{ConnNo, ObjectId, RunNo, TaskKey};
 pub use object::Object;
+pub use refused::WireRefused;
 pub use side::Side;
 pub use words::Words;
 
@@ -31,6 +32,7 @@ pub mod listed;
 pub mod name;
 pub mod number;
 pub mod object;
+pub mod refused;
 pub mod side;
 #[cfg(test)]
 mod tests;

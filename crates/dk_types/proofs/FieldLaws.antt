@@ -9,14 +9,14 @@ use Rattle.std.proofs.lemmas.Str.{utf8_valid_len_le}
 use Rattle.dk_types.specs.declared.number.ObjectId.{ObjectId}
 use Rattle.dk_types.specs.declared.limits.TheConstants.{NUMBERS_END}
 use Rattle.dk_types.specs.Names.{IsName}
-use Rattle.dk_wire.specs.declared.refused.WireRefused.{WireRefused}
-use Rattle.dk_wire.specs.declared.refused.WireRefused.TheVariants.{Short, BadTag, TooLong}
-use Rattle.dk_wire.specs.Rest.{Rest, moved, IsBytes, Takes}
-use Rattle.dk_wire.specs.Fields.{IsU8, IsU16, IsU32, IsU64, IsBlob, IsId, u8_spelling, u16_spelling, u32_spelling, u64_spelling, name_spelling, blob_spelling, id_spelling}
-use Rattle.dk_wire.specs.Reading.{◌>>=◌, bytes_at, number_at, text_of, id_of, u8_at, u16_at, u32_at, u64_at, name_at, blob_at, id_at}
-use Rattle.dk_wire.specs.Exact.{IsExact}
-use Rattle.dk_wire.proofs.Steps.{IsBytes-take, IsBytes-drop, Takes-then, bind_ok, guard_ok, admit_ok, ok_is}
-use Rattle.dk_wire.proofs.Numbers.{IsWide, wide16, wide32, wide64}
+use Rattle.dk_types.specs.declared.refused.WireRefused.{WireRefused}
+use Rattle.dk_types.specs.declared.refused.WireRefused.TheVariants.{Short, BadTag, TooLong}
+use Rattle.dk_types.specs.Rest.{Rest, moved, IsBytes, Takes}
+use Rattle.dk_types.specs.Fields.{IsU8, IsU16, IsU32, IsU64, IsBlob, IsId, u8_spelling, u16_spelling, u32_spelling, u64_spelling, name_spelling, blob_spelling, id_spelling}
+use Rattle.dk_types.specs.Reading.{◌>>=◌, bytes_at, number_at, text_of, id_of, u8_at, u16_at, u32_at, u64_at, name_at, blob_at, id_at}
+use Rattle.dk_types.specs.Exact.{IsExact}
+use Rattle.dk_types.proofs.Steps.{IsBytes-take, IsBytes-drop, Takes-then, bind_ok, guard_ok, admit_ok, ok_is}
+use Rattle.dk_types.proofs.Numbers.{IsWide, wide16, wide32, wide64}
 
 -- the next bytes that were read were there
 pub bytes_take : (n : ℕ) (old : Rest) (front : List ℕ) (new : Rest) → bytes_at n old ≡ Ok (front, new) → (length front ≡ n) × (front ≡ take n old.bytes) × Takes old front new

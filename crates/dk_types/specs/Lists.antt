@@ -1,10 +1,10 @@
 -- Counted lists: a number of 32 bits, and that many items. An item may have to fit behind the one before it.
 use Rattle.std.specs.Prelude.{ℕ, zero, suc, ◌<◌, ◌^◌, List, [], ◌∷◌, ◌++◌, length, Option, Some, None, Result, Ok}
 use Rattle.std.specs.List.{flat_map}
-use Rattle.dk_wire.specs.Rest.{Rest}
-use Rattle.dk_wire.specs.Fields.{u32_spelling}
-use Rattle.dk_wire.specs.Reading.{◌>>=◌}
-use Rattle.dk_wire.specs.Payload.{next_u32}
+use Rattle.dk_types.specs.Rest.{Rest}
+use Rattle.dk_types.specs.Fields.{u32_spelling}
+use Rattle.dk_types.specs.Reading.{◌>>=◌}
+use Rattle.dk_types.specs.Payload.{next_u32}
 
 -- each item fits behind the one before it, the first behind `before`
 abbrev pub AreChained : {A : Type 0} → (Option A → A → Type 0) → Option A → List A → Type 0

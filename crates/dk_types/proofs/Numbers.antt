@@ -1,13 +1,8 @@
--- Big-endian numbers: `byteorder`'s bytes are std's `to_be_bytes`, and std's `from_be_bytes` undoes these.
+-- Big-endian numbers: `from_be_bytes` undoes `to_be_bytes`, and the other way round.
 use Rattle.std.proofs.Common.{◌≡◌, ℕ, ◌^◌, ◌<◌, List, length, refl, arith}
 use Rattle.std.specs.Int.{Width, w16, w32, w64, byte_len, from_be_bytes, to_be_bytes}
 use Rattle.std.proofs.lemmas.Nat.{be_bytes_2, be_bytes_4, be_bytes_8, from_be_bytes-to_be_bytes_2, from_be_bytes-to_be_bytes_4, from_be_bytes-to_be_bytes_8}
-use Rattle.byteorder.specs.Endian.{big_bytes}
-use Rattle.dk_wire.specs.Rest.{IsBytes}
-
--- `byteorder` writes what std's `to_be_bytes` gives
-pub big_bytes-is : (w : Width) (n : ℕ) → big_bytes (byte_len w) n ≡ to_be_bytes w n
-big_bytes-is w n = refl
+use Rattle.dk_types.specs.Rest.{IsBytes}
 
 -- numbers below a limit and the bytes of a width are the same thing
 pub record IsWide (w : Width) (limit : ℕ) : Type 0 where

@@ -1,8 +1,8 @@
 -- What it means that reading is exact: it undoes a spelling, and reads nothing else.
 use Rattle.std.specs.Prelude.{◌≡◌, ℕ, ◌+◌, List, ◌++◌, length, Result, Ok, Err}
-use Rattle.dk_wire.specs.declared.refused.WireRefused.{WireRefused}
-use Rattle.dk_wire.specs.declared.refused.WireRefused.TheVariants.{Short, Extra, BadTag, TooLong, NoMemory}
-use Rattle.dk_wire.specs.Rest.{Rest, IsBytes, Takes}
+use Rattle.dk_types.specs.declared.refused.WireRefused.{WireRefused}
+use Rattle.dk_types.specs.declared.refused.WireRefused.TheVariants.{Short, Extra, BadTag, TooLong, NoMemory}
+use Rattle.dk_types.specs.Rest.{Rest, IsBytes, Takes}
 
 -- Values that fit, their spelling, and a reading that takes exactly such spellings from the front.
 pub record IsExact {A F : Type 0} (Fits : A → Type 0) (spelling : A → List ℕ) (reading : Rest → Result (A × Rest) F) : Type 0 where

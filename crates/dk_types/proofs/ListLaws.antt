@@ -2,14 +2,14 @@
 use Rattle.std.proofs.Common.{◌≡◌, ℕ, zero, suc, ◌+◌, List, [], ◌∷◌, ◌++◌, length, Option, Some, None, Result, Ok, refl, sym, ap, subst, ◌∙◌, append_assoc, length-append, arith}
 use Rattle.std.specs.List.{flat_map, AllByRecursion}
 use Rattle.std.proofs.lemmas.List.Concat.{flat_map-cons}
-use Rattle.dk_wire.specs.Rest.{Rest, IsBytes, Takes}
-use Rattle.dk_wire.specs.Fields.{u32_spelling}
-use Rattle.dk_wire.specs.Reading.{◌>>=◌}
-use Rattle.dk_wire.specs.Exact.{IsExact}
-use Rattle.dk_wire.specs.Payload.{next_u32}
-use Rattle.dk_wire.specs.Lists.{AreChained, IsList, list_spelling, items_at, list_at}
-use Rattle.dk_wire.proofs.Steps.{IsBytes-taken, Takes-then, Takes-none, bind_ok, ok_is}
-use Rattle.dk_wire.proofs.NextLaws.{next_u32_exact}
+use Rattle.dk_types.specs.Rest.{Rest, IsBytes, Takes}
+use Rattle.dk_types.specs.Fields.{u32_spelling}
+use Rattle.dk_types.specs.Reading.{◌>>=◌}
+use Rattle.dk_types.specs.Exact.{IsExact}
+use Rattle.dk_types.specs.Payload.{next_u32}
+use Rattle.dk_types.specs.Lists.{AreChained, IsList, list_spelling, items_at, list_at}
+use Rattle.dk_types.proofs.Steps.{IsBytes-taken, Takes-then, Takes-none, bind_ok, ok_is}
+use Rattle.dk_types.proofs.NextLaws.{next_u32_exact}
 
 module _ {A : Type 0} (Fits : Option A → A → Type 0) (spelling : A → List ℕ) (item : Option A → Rest → Result (A × Rest) ℕ) (exact : (before : Option A) → IsExact (Fits before) spelling (item before)) where
   -- items that were read fit, and were spelled so

@@ -1,12 +1,12 @@
 -- Records of fields: a reading that is written with `do` is exact where its steps are. A record's law is one lemma for
 -- each field: `then_exact` for each but the last, and `last_exact` for that.
 use Rattle.std.proofs.Common.{◌≡◌, ℕ, ◌+◌, Bool, true, cond, List, [], ◌++◌, length, Result, Ok, Err, refl, sym, ap, subst, ◌∙◌, append_assoc, length-append, arith}
-use Rattle.dk_wire.specs.declared.refused.WireRefused.{WireRefused}
-use Rattle.dk_wire.specs.Rest.{Rest, Takes}
-use Rattle.dk_wire.specs.Reading.{◌>>=◌}
-use Rattle.dk_wire.specs.Exact.{IsExact}
-use Rattle.dk_wire.specs.Payload.{placed, checked}
-use Rattle.dk_wire.proofs.Steps.{IsBytes-taken, Takes-then, Takes-none, bind_ok, admit_ok, ok_is}
+use Rattle.dk_types.specs.declared.refused.WireRefused.{WireRefused}
+use Rattle.dk_types.specs.Rest.{Rest, Takes}
+use Rattle.dk_types.specs.Reading.{◌>>=◌}
+use Rattle.dk_types.specs.Exact.{IsExact}
+use Rattle.dk_types.specs.Payload.{placed, checked}
+use Rattle.dk_types.proofs.Steps.{IsBytes-taken, Takes-then, Takes-none, bind_ok, admit_ok, ok_is}
 
 -- a field, and then what follows it. `part` is the field of the record `B`; what follows is read under its value.
 pub then_exact : {A B F : Type 0} {Fits : A → Type 0} {spelling : A → List ℕ} {reading : Rest → Result (A × Rest) F} {All : B → Type 0} {others : B → List ℕ} (part : B → A) (following : A × Rest → Result (B × Rest) F)

@@ -4,9 +4,9 @@ use Rattle.std.specs.Int.{Width, w16, w32, w64, byte_len, from_be_bytes}
 use Rattle.std.specs.Str.Lossy.{utf8_valid_len}
 use Rattle.dk_types.specs.declared.number.ObjectId.{ObjectId}
 use Rattle.dk_types.specs.declared.limits.TheConstants.{NUMBERS_END}
-use Rattle.dk_wire.specs.declared.refused.WireRefused.{WireRefused}
-use Rattle.dk_wire.specs.declared.refused.WireRefused.TheVariants.{Short, Extra, BadTag, TooLong, NoMemory}
-use Rattle.dk_wire.specs.Rest.{Rest, moved}
+use Rattle.dk_types.specs.declared.refused.WireRefused.{WireRefused}
+use Rattle.dk_types.specs.declared.refused.WireRefused.TheVariants.{Short, Extra, BadTag, TooLong, NoMemory}
+use Rattle.dk_types.specs.Rest.{Rest, moved}
 
 -- a step, and what follows from its value: the first fault ends it
 infixl 10 ◌>>=◌

@@ -2,8 +2,8 @@
 use Rattle.std.proofs.Common.{◌≡◌, ℕ, suc, ◌+◌, Bool, true, false, cond, List, [], ◌∷◌, ◌++◌, take, drop, Result, Ok, Err, refl, sym, ap, ◌∙◌, append_assoc, length-append, arith, inl, inr}
 use Rattle.std.proofs.lemmas.Bool.{cases_lt}
 use Rattle.std.proofs.lemmas.List.{length-take, get_or-drop, get_or-take, get_or_past}
-use Rattle.dk_wire.specs.Rest.{Rest, IsBytes, Takes}
-use Rattle.dk_wire.specs.Reading.{◌>>=◌}
+use Rattle.dk_types.specs.Rest.{Rest, IsBytes, Takes}
+use Rattle.dk_types.specs.Reading.{◌>>=◌}
 
 -- what is left of bytes is bytes
 pub IsBytes-drop : (n : ℕ) (bytes : List ℕ) → IsBytes bytes → IsBytes (drop n bytes)

@@ -1,11 +1,11 @@
 -- What follows where reading is exact.
 use Rattle.std.proofs.Common.{◌≡◌, ℕ, ◌+◌, List, ◌++◌, length, Result, Ok, Err, sym, ap, ◌∙◌}
-use Rattle.dk_wire.specs.declared.refused.WireRefused.{WireRefused}
-use Rattle.dk_wire.specs.declared.refused.WireRefused.TheVariants.{Short, Extra, BadTag, TooLong, NoMemory}
-use Rattle.dk_wire.specs.Rest.{Rest, IsBytes}
-use Rattle.dk_wire.specs.Reading.{Reads}
-use Rattle.dk_wire.specs.Exact.{IsExact, IsPrefixFree, HasNone, TakesFront}
-use Rattle.dk_wire.proofs.Steps.{ok_is}
+use Rattle.dk_types.specs.declared.refused.WireRefused.{WireRefused}
+use Rattle.dk_types.specs.declared.refused.WireRefused.TheVariants.{Short, Extra, BadTag, TooLong, NoMemory}
+use Rattle.dk_types.specs.Rest.{Rest, IsBytes}
+use Rattle.dk_types.specs.Reading.{Reads}
+use Rattle.dk_types.specs.Exact.{IsExact, IsPrefixFree, HasNone, TakesFront}
+use Rattle.dk_types.proofs.Steps.{ok_is}
 
 -- two values that were read alike are one, with one rest
 same_read : {A F : Type 0} (r : Result (A × Rest) F) (x y : A) (p q : Rest) → r ≡ Ok (x, p) → r ≡ Ok (y, q) → (x ≡ y) × (p ≡ q)
