@@ -16,7 +16,7 @@ use Rattle.dk_types.specs.Payload.{next_u8, next_u32, next_u64, next_name, next_
 use Rattle.dk_types.specs.Reading.{u8_at, u32_at, u64_at, name_at, end_at}
 use Rattle.dk_model.specs.declared.records.ChannelRecord.{ChannelRecord}
 use Rattle.dk_model.specs.declared.records.Delivery.TheVariants.{Reliable}
-use Rattle.dk_model.specs.declared.mode.Mode.TheVariants.{Platform, Game}
+use Rattle.dk_types.specs.declared.mode.Mode.TheVariants.{Platform, Game}
 use Rattle.dk_model.specs.Keys.{id_cmp}
 use Rattle.dk_model.specs.Runs.{Run, begun, give, and_then, within, get, create, save, remove as remove_object, bind, unbind, send}
 use Rattle.dk_model.specs.Records.{session_of, next_session, channel_of, next_channel, next_member}

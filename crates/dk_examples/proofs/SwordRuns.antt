@@ -11,7 +11,7 @@ use Rattle.dk_types.specs.Fields.{u8_spelling, u64_spelling, u32_spelling, name_
 use Rattle.dk_types.specs.Payload.{next_u8, next_u32, next_name, next_id, next_end}
 use Rattle.dk_types.specs.Reading.{u8_at, u32_at, name_at, id_at, end_at}
 use Rattle.dk_types.specs.Lists.{list_spelling, items_at, list_at}
-use Rattle.dk_model.specs.declared.mode.Mode.TheVariants.{Game}
+use Rattle.dk_types.specs.declared.mode.Mode.TheVariants.{Game}
 use Rattle.dk_model.specs.DurableWorlds.{DurableWorld}
 use Rattle.dk_model.specs.Runs.{begun, give, and_then, within, get, create, mark, save, remove as remove_object, bound, bind, unbind, send}
 use Rattle.dk_model.specs.References.{get_as, get_for_update_as, save_as}

@@ -9,3 +9,5 @@ pub mod Reading
 pub mod Exact
 pub mod Payload
 pub mod Lists
+pub mod Keys
+pub mod Values
