@@ -3,3 +3,4 @@ pub mod NameFaults
 pub mod GameIds
 pub mod GameIdFaults
 pub mod Faults
+pub mod FaultPlan
