@@ -1,5 +1,5 @@
 // The store.
-ghost use Rattle.std.specs.Prelude.{◌≡◌, ◌==◌, ◌+◌, ◌<◌, false, None, Some, IfOk, IfSome, OnOk, OnErr, length, take, drop, is_none};
+ghost use Rattle.std.specs.Prelude.{◌≡◌, ◌==◌, ◌+◌, ◌<◌, false, None, Some, IfOk, IfSome, OnOk, OnErr, take, drop, is_none};
 ghost use Rattle.std.specs.FinMap as map;
 ghost use Rattle.dk_types.specs.declared.number.ConnNo.{ConnNo};
 ghost use Rattle.dk_model.specs.declared.waiting.Waiting.TheVariants as waits;
@@ -189,16 +189,6 @@ impl Connections {
         };
         slot.release();
         self.add(conn, slot);
-    }
-
-    /// How many messages wait for a connection.
-    pub fn outbox_len(&self, conn: ConnNo) -> u64
-        ensures { result ≡ length (outbox_at (map.get (all_of self.now.connections) conn)) }
-    {
-        match self.slots.get(&conn) {
-            Some(slot) => slot.outbox_len(),
-            None => 0,
-        }
     }
 
     /// Hands a connection's first messages, `most` of them or all. A connection that is over and has none left is gone.

@@ -1,5 +1,5 @@
 // A connection, as the store keeps it.
-ghost use Rattle.std.specs.Prelude.{◌≡◌, ◌==◌, ◌<◌, ◌||◌, not, length, take, false, Some, IfOk, OnOk, OnErr};
+ghost use Rattle.std.specs.Prelude.{◌≡◌, ◌==◌, ◌<◌, ◌||◌, not, take, false, Some, IfOk, OnOk, OnErr};
 ghost use Rattle.dk_types.specs.declared.limits.TheConstants.{INPUTS_MOST_COUNT};
 ghost use Rattle.dk_model.specs.declared.waiting.Waiting.TheVariants as waits;
 ghost use Rattle.dk_model.specs.Worlds.{new_connection};
@@ -101,13 +101,6 @@ impl Slot {
         ensures { result ≡ is_done_at (Some self.now.connection) }
     {
         self.over && self.outbox.is_empty()
-    }
-
-    /// How many messages wait.
-    pub(crate) fn outbox_len(&self) -> u64
-        ensures { result ≡ length self.now.connection.outbox }
-    {
-        self.outbox.len()
     }
 
     /// The job of the first input, copied.

@@ -7,7 +7,7 @@ use Rattle.dk_disk.specs.Past.{now, other_side}
 use Rattle.dk_disk.specs.Drive.{File, Files, file_of, AreReserved}
 use Rattle.dk_disk.specs.CallRecord.{Calls}
 use Rattle.dk_disk.specs.Opening.{Entrance}
-use Rattle.dk_disk.specs.Plan.{Plan, after_call, fails_next}
+use Rattle.dk_types.specs.FaultPlan.{Plan, after_call, fails_next}
 use Rattle.dk_disk.specs.Record.{changed}
 use Rattle.dk_disk.specs.Step.{change_of, reads_after, IsWithin}
 use Rattle.dk_disk.specs.declared.step.Step.{Step}

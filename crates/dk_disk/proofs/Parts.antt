@@ -6,7 +6,7 @@ use Rattle.dk_types.specs.Faults.{COUNT_END}
 use Rattle.dk_disk.specs.Drive.{Files, file_of, HasPlace, AreReserved, Takes}
 use Rattle.dk_disk.specs.CallRecord.{Calls, IsSpared}
 use Rattle.dk_disk.specs.Opening.{Entrance}
-use Rattle.dk_disk.specs.Plan.{Plan, after_call, after_fault}
+use Rattle.dk_types.specs.FaultPlan.{Plan, after_call, after_fault}
 use Rattle.dk_disk.specs.Record.{Change}
 use Rattle.dk_disk.specs.Memory.{memory_of, next_call, HasRoom, IsReady, IsRecorded, IsRefused, IsRoomy}
 

@@ -1,7 +1,6 @@
 pub mod Disk
 pub mod Past
 pub mod Opening
-pub mod Plan
 pub mod Record
 pub mod Drive
 pub mod Step

@@ -9,7 +9,7 @@ use Rattle.dk_disk.specs.Past.{Past, now}
 use Rattle.dk_disk.specs.Opening.{Opening, Entrance}
 use Rattle.dk_disk.specs.Drive.{Files, file_of, HasPlace}
 use Rattle.dk_disk.specs.CallRecord.{Calls, HasSpare}
-use Rattle.dk_disk.specs.Plan.{Plan, fails_next, counted_up, after_call, after_fault}
+use Rattle.dk_types.specs.FaultPlan.{Plan, fails_next, counted_up, after_call, after_fault}
 use Rattle.dk_disk.specs.Record.{Call, Change, AreUpTo, replayed}
 
 -- room for so many more calls in the record, and so many more bytes

@@ -10,7 +10,7 @@ use std::alloc::Global;
 use std::marker::Model;
 
 /// A call by its number, its file, what it is to do, and whether it succeeded.
-#[derive(Clone, Copy, Debug)]
+#[derive(Clone, Copy)]
 pub(crate) struct Recorded<'a> {
     pub(crate) number: u64,
     pub(crate) side: Side,
@@ -19,7 +19,7 @@ pub(crate) struct Recorded<'a> {
 }
 
 /// What a call was to do. A write's bytes stand in the record's list of bytes.
-#[derive(Clone, Copy, Debug)]
+#[derive(Clone, Copy)]
 pub(crate) enum Kept {
     Write {
         at: usize,
@@ -32,7 +32,7 @@ pub(crate) enum Kept {
     Sync,
 }
 
-#[derive(Clone, Copy, Debug)]
+#[derive(Clone, Copy)]
 pub(crate) struct Entry {
     number: u64,
     side: Side,
@@ -41,7 +41,7 @@ pub(crate) struct Entry {
 }
 
 /// The calls so far that change a file or sync it. Each call is put last.
-#[derive(Debug, Drop)]
+#[derive(Drop)]
 pub(crate) struct CallRecord {
     entries: Vec<Entry>,
     bytes: Vec<u8>,

@@ -9,7 +9,7 @@ use std::alloc::Global;
 use std::marker::Model;
 
 /// The bytes of a file. What it held at first is copied before the first change.
-#[derive(Debug, Drop)]
+#[derive(Drop)]
 pub(crate) struct Drive {
     alloc: Global,
     first: Vec<u8>,

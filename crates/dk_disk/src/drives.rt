@@ -12,7 +12,7 @@ use std::alloc::Global;
 use std::marker::Model;
 
 /// Both files.
-#[derive(Debug, Drop)]
+#[derive(Drop)]
 pub(crate) struct Drives {
     zero: Drive,
     one: Drive,

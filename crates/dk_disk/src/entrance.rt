@@ -7,7 +7,7 @@ use std::alloc::Global;
 use std::marker::Model;
 
 /// Keeps the folder that `open` was called with.
-#[derive(Debug, Drop)]
+#[derive(Drop)]
 pub(crate) struct Entrance {
     dir: String,
     was_called: bool,

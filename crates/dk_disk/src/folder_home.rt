@@ -7,9 +7,8 @@ ghost use Rattle.dk_types.specs.Faults.{HasRisen, COUNT_END};
 ghost use Rattle.dk_disk.specs.Disk.{settled};
 ghost use Rattle.dk_disk.specs.Opening.{NotCalled, opening_of};
 
-use crate::fault_count::FaultCount;
 use crate::home::Home;
-use dk_types::{Failed, Side};
+use dk_types::{Failed, FaultCount, Side};
 use std::alloc::Global;
 use std::fs::{self, File, OpenOptions};
 use std::io;

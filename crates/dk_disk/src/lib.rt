@@ -15,8 +15,6 @@ mod call_record;
 mod drive;
 mod drives;
 mod entrance;
-mod fault_count;
-mod fault_plan;
 pub mod folder_home;
 pub mod holding_home;
 pub mod home;

@@ -4,7 +4,7 @@ ghost use Rattle.dk_types.specs.Faults.{HasRisen, COUNT_END};
 ghost use Rattle.dk_disk.specs.Disk.{IsImage, after_write, after_failed_write, after_cut, after_failed_cut, after_sync};
 ghost use Rattle.dk_disk.specs.Opening.{NotCalled, Refused, Opened, IsOpen};
 ghost use Rattle.dk_types.specs.declared.side.Side.{Side as Which};
-ghost use Rattle.dk_disk.specs.Plan.{after_call, fails_next};
+ghost use Rattle.dk_types.specs.FaultPlan.{after_call, fails_next};
 ghost use Rattle.dk_disk.specs.Step.{change_of, step_size, reads_after, IsWithin};
 ghost use Rattle.dk_disk.specs.Record.{Write, Cut, Sync, made, failed};
 ghost use Rattle.dk_disk.specs.Past.{now, other_side, Elapses, Stays, Becomes, MayBecome, MayLeave};
@@ -17,19 +17,18 @@ ghost use Rattle.dk_disk.specs.CallRecord.{IsSpared, IsPushed, HasSpare};
 use crate::call_record::{CallRecord, Recorded};
 use crate::drives::Drives;
 use crate::entrance::Entrance;
-use crate::fault_plan::FaultPlan;
 use crate::home::Home;
 use crate::replay::Replay;
 use crate::step::Step;
 use crate::torn::{CrashRefused, Torn};
-use dk_types::{Failed, NoMemory, Side};
+use dk_types::{Failed, FaultPlan, NoMemory, Side};
 use std::alloc::Global;
 use std::marker::Model;
 
 /// Two files in memory, with a record of the calls on them. It fails exactly at the calls whose numbers
 /// were named, and where there is no room for a call's record or bytes. Calls are numbered from 1 over
 /// both files; `open` has no number.
-#[derive(Debug, Drop)]
+#[derive(Drop)]
 pub struct MemoryHome {
     alloc: Global,
     drives: Drives,

@@ -15,7 +15,7 @@ use std::alloc::Global;
 use std::marker::Model;
 
 /// A file, with what a stop may leave of it.
-#[derive(Debug, Drop)]
+#[derive(Drop)]
 pub(crate) struct Replay {
     alloc: Global,
     reads: Vec<u8>,

@@ -1,7 +1,7 @@
 //! What a call on a file is to do.
 
 /// A write with its bytes, a cut to a length, or a sync.
-#[derive(Clone, Copy, Debug)]
+#[derive(Clone, Copy)]
 pub(crate) enum Step<'a> {
     Write { at: usize, bytes: &'a [u8] },
     Cut { to: usize },

@@ -1,4 +1,3 @@
 pub mod Streams
-pub mod FaultPlan
 pub mod MemorySource
 pub mod MemorySink

@@ -1,6 +1,6 @@
 -- A sink into memory.
 use Rattle.std.specs.Prelude.{◌≡◌, ℕ, ◌+◌, ◌<◌, ◌≤◌, min, List, length, take, ◌++◌}
-use Rattle.dk_edge.specs.FaultPlan.{Plan, after_call, after_fault}
+use Rattle.dk_types.specs.FaultPlan.{Plan, after_call, after_fault}
 
 -- the bytes that were put, how many of its bytes a failing call still appends, the bytes for which there is room, and the calls that fail
 pub record Basin : Type 0 where

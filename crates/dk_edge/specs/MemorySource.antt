@@ -1,6 +1,6 @@
 -- A source over bytes in memory.
 use Rattle.std.specs.Prelude.{ℕ, min, List, length, drop}
-use Rattle.dk_edge.specs.FaultPlan.{Plan, after_call}
+use Rattle.dk_types.specs.FaultPlan.{Plan, after_call}
 
 -- the bytes that are left, the most bytes that one call gives, and the calls that fail
 pub record Feed : Type 0 where

@@ -11,8 +11,6 @@ pub use sink::Sink;
 pub use source::Source;
 pub use std_streams::{StdSink, StdSource};
 
-mod fault_count;
-mod fault_plan;
 pub mod memory_sink;
 pub mod memory_source;
 pub mod sink;

@@ -3,15 +3,14 @@ ghost use Rattle.std.specs.Prelude.{◌≡◌, ◌<◌, ◌≤◌, ◌⊎◌, �
 ghost use Rattle.dk_types.specs.Faults.{HasRisen, COUNT_END};
 ghost use Rattle.dk_edge.specs.Streams.{Puts};
 
-use crate::fault_plan::FaultPlan;
 use crate::sink::Sink;
-use dk_types::{Failed, NoMemory};
+use dk_types::{Failed, FaultPlan, NoMemory};
 use std::alloc::Global;
 use std::marker::Model;
 
 /// Keeps the bytes that are put. It fails exactly at the calls whose numbers, counted from 1, were
 /// named, and where there is no room for the bytes.
-#[derive(Debug, Drop)]
+#[derive(Drop)]
 pub struct MemorySink {
     bytes: Vec<u8>,
     torn: usize,
@@ -75,7 +74,7 @@ impl MemorySink {
 }
 
 impl Sink for MemorySink {
-    ghost use Rattle.dk_edge.specs.FaultPlan.{fails_next};
+    ghost use Rattle.dk_types.specs.FaultPlan.{fails_next};
     ghost use Rattle.dk_edge.specs.MemorySink.{IsPut, IsTorn, IsRefused};
 
     ghost contents = { λ s. Some s.contents };

@@ -3,14 +3,13 @@ ghost use Rattle.std.specs.Prelude.{◌≡◌, ◌<◌, ◌≤◌, ◌^◌, ◌-
 ghost use Rattle.dk_types.specs.Faults.{HasRisen, COUNT_END};
 ghost use Rattle.dk_edge.specs.Streams.{Takes};
 
-use crate::fault_plan::FaultPlan;
 use crate::source::Source;
-use dk_types::Failed;
+use dk_types::{Failed, FaultPlan};
 use std::marker::Model;
 
 /// Gives the bytes of a list in order. It fails exactly at the calls whose numbers, counted from 1,
 /// were named, and takes no memory.
-#[derive(Debug, Drop)]
+#[derive(Drop)]
 pub struct MemorySource {
     bytes: Vec<u8>,
     at: usize,
@@ -66,7 +65,7 @@ impl MemorySource {
 }
 
 impl Source for MemorySource {
-    ghost use Rattle.dk_edge.specs.FaultPlan.{fails_next};
+    ghost use Rattle.dk_types.specs.FaultPlan.{fails_next};
     ghost use Rattle.dk_edge.specs.MemorySource.{given_count, after_take};
 
     ghost remaining = { λ s. Some s.left };

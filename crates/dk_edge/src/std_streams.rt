@@ -4,10 +4,9 @@
 //! and output tell nothing: what a system call gives or takes is trusted.
 ghost use Rattle.std.specs.Prelude.{◌≡◌};
 
-use crate::fault_count::FaultCount;
 use crate::sink::Sink;
 use crate::source::Source;
-use dk_types::Failed;
+use dk_types::{Failed, FaultCount};
 use std::io::{ErrorKind, Read, Write};
 
 /// The standard input, made from the runtime's `reader`.

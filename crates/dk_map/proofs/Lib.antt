@@ -1,11 +1,12 @@
 pub mod Around
+pub mod Changed
 pub mod Counts
 pub mod Heights
 pub mod Keys
 pub mod Maps
 pub mod Next
 pub mod PutBack
-pub mod Replaced
 pub mod Seen
 pub mod Top
+pub mod Turns
 pub mod Values

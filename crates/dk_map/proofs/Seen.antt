@@ -1,6 +1,6 @@
 -- The steps of a store that shows the entries es of an `OrderedMap` as the finite map m. `v` is what its opened model
 -- says, as `ap (λ s. s.map) c.self.view_is`, and `h` is its invariant, that the entries are in order.
-use Rattle.std.proofs.Common.{◌≡◌, refl, Bool, true, false, cond, not, sym, ap, subst, ◌∙◌, List, [], ◌∷◌, length, Option, None, Some, is_some}
+use Rattle.std.proofs.Common.{◌≡◌, refl, true, false, cond, not, sym, ap, subst, ◌∙◌, List, [], ◌∷◌, length, Option, None, Some, is_some}
 use Rattle.std.specs.declared.cmp.Ordering.{Ordering}
 use Rattle.std.specs.Cmp.{IsTotalOrder}
 use Rattle.std.specs.Option.{option_map}
@@ -53,9 +53,9 @@ module _ {K V : Type 0} {R : K → K → Ordering} (o : IsTotalOrder R) {m : Fin
   next_seen after r e = subst (λ n. IsNext n after r) v (subst (IsNext (map_of R es) after) (sym e) (next-map_of o es h after))
 
   -- what `change` leaves, by its clause: `W` is m with what a key has, or without the key
-  pub changed_seen : IsAntisymmetric R → (k : K) (P : V → V → Type 0) (f : V → V) → ((x y : V) → P x y → y ≡ f x) → (there : Bool) (fs : List (K × V)) → IsChanged R k P es fs there
+  pub changed_seen : {A : Type 0} → IsAntisymmetric R → (k : K) (P : V → V → A → Type 0) (f : V → V) → ((x y : V) (a : A) → P x y a → y ≡ f x) → (answer : Option A) (fs : List (K × V)) → IsChanged R k P es fs answer
       → (W : Option V → FinMap R V) → W None ≡ map.remove m k → ((x : V) → W (Some x) ≡ map.insert m k x) → map_of R fs ≡ W (option_map f (map.get m k))
-  changed_seen same k P f is true fs c W none some =
-      put_seen k c.1 fs c.4 ∙ ap (map.insert m k) (is c.0 c.1 c.3) ∙ sym (some (f c.0)) ∙ ap (λ r. W (option_map f r)) (sym c.2 ∙ get_seen es v h k)
-  changed_seen same k P f is false fs c W none some =
+  changed_seen same k P f is (Some a) fs c W none some =
+      put_seen k c.1 fs c.4 ∙ ap (map.insert m k) (is c.0 c.1 a c.3) ∙ sym (some (f c.0)) ∙ ap (λ r. W (option_map f r)) (sym c.2 ∙ get_seen es v h k)
+  changed_seen same k P f is None fs c W none some =
       without_seen same k fs (c.1 ∙ sym (without_absent R k es c.0)) ∙ sym none ∙ ap (λ r. W (option_map f r)) (sym c.0 ∙ get_seen es v h k)

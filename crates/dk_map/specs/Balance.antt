@@ -2,6 +2,8 @@
 use Rattle.std.specs.Prelude.{◌≡◌, ℕ, ◌+◌, ◌^◌, ◌/◌, ◌-◌, ◌<◌, ◌≤◌, max, List, [], ◌∷◌, ◌++◌, length, Option, None, Some}
 use Rattle.std.specs.declared.boxed.Box.{Box}
 use Rattle.dk_map.specs.declared.tree.Node.{Node}
+use Rattle.dk_map.specs.declared.tree.balance.Side.{Side}
+use Rattle.dk_map.specs.declared.tree.balance.Side.TheVariants.{Left, Right}
 
 module _ {K V : Type 0} where
   -- the entries of a node, in the order of the tree
@@ -11,6 +13,20 @@ module _ {K V : Type 0} where
   -- one level above the higher side
   abbrev pub node_height : Node K V → ℕ
   node_height n = max n.left.1 n.right.1 + 1
+
+  -- how high a node is on a side, and on the other
+  abbrev pub near_height : Side → Node K V → ℕ
+  near_height Left n = n.left.1
+  near_height Right n = n.right.1
+
+  abbrev pub far_height : Side → Node K V → ℕ
+  far_height Left n = n.right.1
+  far_height Right n = n.left.1
+
+  -- the entries of a tree on a side, an entry, and those of the tree on the other, in the order of the tree
+  abbrev pub on_sides : Side → List (K × V) → K × V → List (K × V) → List (K × V)
+  on_sides Left near e far = near ++ e ∷ far
+  on_sides Right near e far = far ++ e ∷ near
 
   -- the entries of a cell: an empty cell has none
   abbrev pub cell_entries : Option (Node K V) → List (K × V)

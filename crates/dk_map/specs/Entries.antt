@@ -1,7 +1,7 @@
 -- Entries in the strictly ascending order of their keys. The words for one key are those on which `FinMap` stands:
 --     find R q es      the value at the key q
 --     put R k v es     the entry in its place; at a key that is there the key stays and the value is new
-use Rattle.std.specs.Prelude.{Bool, true, false, cond, not, T, List, [], ◌∷◌, Option, None, Some, Result, Ok, Err, ◌≡◌}
+use Rattle.std.specs.Prelude.{cond, not, T, List, [], ◌∷◌, Option, None, Some, ◌≡◌}
 use Rattle.std.specs.declared.cmp.Ordering.{Ordering}
 use Rattle.std.specs.Ordering.{is_lt, eq_by_cmp}
 use Rattle.std.specs.FinMap.Entries.{where_key}
@@ -30,12 +30,8 @@ abbrev pub entry_after : {K X : Type 0} → (K → K → Ordering) → Option K 
 entry_after R None es = first_entry es
 entry_after R (Some q) es = first_above R q es
 
--- what putting v at the key k of the entries d leaves, and answers: the old value, or v itself where k is not there
-abbrev pub IsReplaced : {K X : Type 0} → (K → K → Ordering) → K → X → List (K × X) → List (K × X) → Result X X → Type 0
-IsReplaced R k v d e (Ok old) = (find R k d ≡ Some old) × (e ≡ put R k v d)
-IsReplaced R k v d e (Err back) = (find R k d ≡ None) × (back ≡ v) × (e ≡ d)
-
--- what a change of the value at the key k of the entries d leaves, and whether there is such a value: P holds of it before and after
-abbrev pub IsChanged : {K X : Type 0} → (K → K → Ordering) → K → (X → X → Type 0) → List (K × X) → List (K × X) → Bool → Type 0
-IsChanged {X = X} R k P d e true = (old new : X) × (find R k d ≡ Some old) × P old new × (e ≡ put R k new d)
-IsChanged R k P d e false = (find R k d ≡ None) × (e ≡ d)
+-- what a change of the value at the key k of the entries d leaves and answers: P holds of the value before and after and of the answer; none
+-- where there is no such value
+abbrev pub IsChanged : {K X A : Type 0} → (K → K → Ordering) → K → (X → X → A → Type 0) → List (K × X) → List (K × X) → Option A → Type 0
+IsChanged {X = X} R k P d e (Some answer) = (old new : X) × (find R k d ≡ Some old) × P old new answer × (e ≡ put R k new d)
+IsChanged R k P d e None = (find R k d ≡ None) × (e ≡ d)

@@ -3,7 +3,7 @@ ghost use Rattle.std.specs.Prelude.{◌≡◌, ◌+◌, ◌^◌, ◌<◌, ◌≤
 ghost use Rattle.std.specs.Option.{option_map, option_copied};
 ghost use Rattle.std.specs.declared.cmp.Ordering.TheVariants.{Equal};
 ghost use Rattle.std.specs.Fn.{FnOnceReturnsAtMut};
-ghost use Rattle.dk_map.specs.Entries.{find, put, without, first_entry, entry_after, IsOrdered, IsReplaced, IsChanged};
+ghost use Rattle.dk_map.specs.Entries.{find, put, without, first_entry, entry_after, IsOrdered, IsChanged};
 
 use crate::tree::{Cell, Tree};
 use std::alloc::{AllocError, Global};
@@ -147,19 +147,10 @@ impl<K: Ord + Drop, V: Drop> OrderedMap<K, V> {
         old
     }
 
-    /// Puts a value at a key that is there, and gives the old one. At another key it gives the value back.
-    pub fn replace(&mut self, key: &K, value: V) -> Result<V, V>
-        ensures replaced { IsReplaced K.cmp key.now value self.old.entries self.new.entries result }
-        ensures spare { self.new.spare ≡ self.old.spare }
-        ensures ordered { IsOrdered K.cmp self.new.entries }
-    {
-        self.tree.replace(key, value)
-    }
-
-    /// Changes the value at a key where it stands, and tells whether there is one. Nothing is moved.
-    pub fn change<F: FnOnce(&mut V)>(&mut self, key: &K, change: F) -> bool
+    /// Changes the value at a key where it stands, if there is one, and gives what the change answers. Nothing is moved.
+    pub fn change<A, F: FnOnce(&mut V) -> A>(&mut self, key: &K, change: F) -> Option<A>
         requires callable { F.IsAlwaysCallable change }
-        ensures changed { IsChanged K.cmp key.now (λ old new. FnOnceReturnsAtMut F.FnOnce change old tt new) self.old.entries self.new.entries result }
+        ensures changed { IsChanged K.cmp key.now (λ old new answer. FnOnceReturnsAtMut F.FnOnce change old answer new) self.old.entries self.new.entries result }
         ensures spare { self.new.spare ≡ self.old.spare }
         ensures ordered { IsOrdered K.cmp self.new.entries }
     {

@@ -21,10 +21,11 @@ pub(crate) struct Tree<K, V> {
 #[cycle(tree)]
 #[derive(Drop)]
 pub(crate) struct Node<K, V> {
+    // What a search reads stands together, before the value.
     left: Tree<K, V>,
+    right: Tree<K, V>,
     key: K,
     value: V,
-    right: Tree<K, V>,
 }
 
 impl<K, V> Model for Tree<K, V> {

@@ -1,13 +1,12 @@
 //! The record of a channel as bytes.
 ghost use Rattle.std.specs.Prelude.{◌≡◌, IfOk, nat_lt};
 ghost use Rattle.dk_types.specs.Payload.{next_u8, checked};
-ghost use Rattle.dk_wire.specs.Payload.{Decodes, Gives};
-ghost use Rattle.dk_model.specs.Records.{channel_bytes, next_channel, flag, delivery_number, delivery_of};
-ghost use Rattle.dk_records.specs.RecordLaws.{IsChannelRecord};
+ghost use Rattle.dk_wire.specs.Payload.{Gives};
+ghost use Rattle.dk_model.specs.Records.{channel_bytes, flag, delivery_number, delivery_of};
 
 use dk_model::{ChannelRecord, Delivery};
 use dk_types::{Blob, ConnNo, NoMemory, Session};
-use dk_wire::{Form, PayloadRefused, Reader, Writer, decode, encode, put_list, take_list};
+use dk_wire::{Form, PayloadRefused, Reader, Writer, encode, put_list, take_list};
 use std::alloc::Global;
 
 /// A member: its login name, and its connection's number.
@@ -131,11 +130,4 @@ pub fn encode_channel(alloc: Global, channel: &ChannelRecord) -> Result<Blob, No
     ensures { IfOk result (λ bytes. bytes ≡ channel_bytes channel.now) }
 {
     encode::<ChannelRecord, ChannelForm>(alloc, channel)
-}
-
-/// The channel's record that the bytes are.
-pub fn decode_channel(alloc: Global, bytes: &[u8]) -> Result<ChannelRecord, PayloadRefused>
-    ensures { Decodes IsChannelRecord channel_bytes next_channel bytes.now result }
-{
-    decode::<ChannelRecord, ChannelForm>(alloc, bytes)
 }

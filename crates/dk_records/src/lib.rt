@@ -5,9 +5,9 @@
 //! parts. Nothing here reads or changes a world.
 #![tactic(auto)]
 
-pub use channels::{ChannelForm, decode_channel, encode_channel};
+pub use channels::{ChannelForm, encode_channel};
 pub use fields::{IdForm, NameForm};
-pub use sessions::{SessionForm, decode_session, encode_session};
+pub use sessions::{SessionForm, encode_session};
 
 pub mod channels;
 pub mod fields;

@@ -1,13 +1,11 @@
 //! The record of a session as bytes.
 ghost use Rattle.std.specs.Prelude.{◌≡◌, IfOk};
-ghost use Rattle.dk_wire.specs.Payload.{Decodes};
-ghost use Rattle.dk_model.specs.Records.{session_bytes, next_session};
-ghost use Rattle.dk_records.specs.RecordLaws.{IsSessionRecord};
+ghost use Rattle.dk_model.specs.Records.{session_bytes};
 
 use crate::fields::NameForm;
 use dk_model::SessionRecord;
 use dk_types::{Blob, ConnNo, Name, NoMemory};
-use dk_wire::{Form, PayloadRefused, Reader, Writer, decode, encode, put_list, take_list};
+use dk_wire::{Form, PayloadRefused, Reader, Writer, encode, put_list, take_list};
 use std::alloc::Global;
 
 /// A connection's number, and the names of channels.
@@ -51,11 +49,4 @@ pub fn encode_session(alloc: Global, session: &SessionRecord) -> Result<Blob, No
     ensures { IfOk result (λ bytes. bytes ≡ session_bytes session.now) }
 {
     encode::<SessionRecord, SessionForm>(alloc, session)
-}
-
-/// The session's record that the bytes are.
-pub fn decode_session(alloc: Global, bytes: &[u8]) -> Result<SessionRecord, PayloadRefused>
-    ensures { Decodes IsSessionRecord session_bytes next_session bytes.now result }
-{
-    decode::<SessionRecord, SessionForm>(alloc, bytes)
 }

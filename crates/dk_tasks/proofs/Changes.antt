@@ -1,5 +1,5 @@
 -- A task changed in its place: what is kept, and what callers see.
-use Rattle.std.proofs.Common.{◌≡◌, refl, sym, ap, subst, ◌∙◌, Bool, true, false, cond, not, List, None, Some, is_some}
+use Rattle.std.proofs.Common.{◌≡◌, refl, sym, ap, subst, ◌∙◌, Bool, true, false, cond, not, List, Option, None, Some, is_some}
 use Rattle.std.proofs.Math.Bool.{beq}
 use Rattle.std.specs.Option.{option_map}
 use Rattle.std.specs.FinMap.{FinMap, contains_key, get, insert, get-insert, same_map}
@@ -17,17 +17,17 @@ use Rattle.dk_tasks.proofs.Orders.{key_total, key_same}
 use Rattle.dk_tasks.proofs.Kept.{kept_get, kept_some, kept_put, kept_without}
 
 -- where a task is found, it is changed
-pub changed_there : (P : Stored → Stored → Type 0) (k : TaskKey) (es es' : List (TaskKey × Stored)) (s : Stored) → find key_cmp k es ≡ Some s → (r : Bool) → IsChanged key_cmp k P es es' r
-    → (s' : Stored) × P s s' × (es' ≡ put key_cmp k s' es)
-changed_there P k es es' s f true h =
+pub changed_there : {A : Type 0} (P : Stored → Stored → A → Type 0) (k : TaskKey) (es es' : List (TaskKey × Stored)) (s : Stored) → find key_cmp k es ≡ Some s → (r : Option A) → IsChanged key_cmp k P es es' r
+    → (s' : Stored) × (a : A) × P s s' a × (es' ≡ put key_cmp k s' es)
+changed_there P k es es' s f (Some a) h =
     let same : h.0 ≡ s = cc in
-    (h.1, subst (λ x. P x h.1) same h.3, h.4)
-changed_there P k es es' s f false h = let both : None ≡ Some s = sym h.0 ∙ f in cc
+    (h.1, a, subst (λ x. P x h.1 a) same h.3, h.4)
+changed_there P k es es' s f None h = let both : None ≡ Some s = sym h.0 ∙ f in cc
 
 -- where none is, nothing changes
-pub changed_nowhere : (P : Stored → Stored → Type 0) (k : TaskKey) (es es' : List (TaskKey × Stored)) → find key_cmp k es ≡ None → (r : Bool) → IsChanged key_cmp k P es es' r → es' ≡ es
-changed_nowhere P k es es' f true h = let both : None ≡ Some h.0 = sym f ∙ h.2 in cc
-changed_nowhere P k es es' f false h = h.1
+pub changed_nowhere : {A : Type 0} (P : Stored → Stored → A → Type 0) (k : TaskKey) (es es' : List (TaskKey × Stored)) → find key_cmp k es ≡ None → (r : Option A) → IsChanged key_cmp k P es es' r → es' ≡ es
+changed_nowhere P k es es' f (Some a) h = let both : None ≡ Some h.0 = sym f ∙ h.2 in cc
+changed_nowhere P k es es' f None h = h.1
 
 module _ {m : FinMap key_cmp Kept} (es : List (TaskKey × Stored)) (v : kept_tasks es ≡ m) (h : IsOrdered key_cmp es) (k : TaskKey) where
   -- callers see it changed

@@ -5,6 +5,7 @@ pub mod Held
 pub mod Kept
 pub mod Leasts
 pub mod Mapped
+pub mod Moves
 pub mod Orders
 pub mod Rooms
 pub mod Soonest

@@ -7,7 +7,7 @@ use Rattle.std.specs.Ordering.{nat_cmp, on, then_cmp, eq_by_cmp}
 use Rattle.std.specs.FinMap.{FinMap}
 use Rattle.dk_types.specs.declared.number.TaskKey.{TaskKey}
 use Rattle.dk_map.specs.AsMap.{map_of}
-use Rattle.dk_map.specs.Entries.{find, IsOrdered}
+use Rattle.dk_map.specs.Entries.{find, put, IsOrdered}
 use Rattle.dk_model.specs.Keys.{key_cmp}
 use Rattle.dk_model.specs.Effects.{task_of}
 use Rattle.dk_tasks.specs.Tasks.{Kept}
@@ -39,6 +39,11 @@ due_at due s = record s { task = record s.task { due = due } }
 
 abbrev pub claimed_at : Bool → Stored → Stored
 claimed_at claimed s = record s { claimed = claimed }
+
+-- e is d with another due moment for the task at a key, of which the old moment is told and whether a run has it; none where no task is there
+abbrev pub IsMoved : TaskKey → ℕ → List (TaskKey × Stored) → List (TaskKey × Stored) → Option (ℕ × Bool) → Type 0
+IsMoved key due d e (Some was) = (s : Stored) × (find key_cmp key d ≡ Some s) × (was ≡ (s.task.due, s.claimed)) × (e ≡ put key_cmp key (due_at due s) d)
+IsMoved key due d e None = find key_cmp key d ≡ None
 
 -- whether what was found at a place's key stands there: what a run has does not
 abbrev pub is_placed : Place → Option Stored → Bool

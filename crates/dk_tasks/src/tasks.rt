@@ -7,7 +7,7 @@ ghost use Rattle.dk_model.specs.Picks.{pick_task};
 ghost use Rattle.dk_model.specs.Worlds.{World};
 ghost use Rattle.dk_tasks.specs.Tasks.{unclaimed, with_due, with_stamp, with_claim, changed_at, stamped, durable_tasks};
 ghost use Rattle.dk_tasks.specs.Due.{least_due as soonest, HasTasks, job_at};
-ghost use Rattle.dk_tasks.specs.Places.{due_at, claimed_at};
+ghost use Rattle.dk_tasks.specs.Places.{IsMoved, claimed_at};
 ghost use Rattle.dk_tasks.specs.declared.stored.Stored.{Stored};
 ghost use Rattle.dk_map.specs.Entries.{find, put};
 ghost use Rattle.dk_model.specs.Keys.{key_cmp};
@@ -40,12 +40,16 @@ impl Model for Tasks {
     ghost invariant = { λ a. IsInStep a.tasks.entries a.places.entries × (held_count a.tasks.entries ≤ a.places.spare) };
 }
 
-/// Gives a task another due moment. Its place is not moved.
-fn set_due(tasks: &mut OrderedMap<TaskKey, Stored>, key: TaskKey, due: u64)
-    ensures entries { (s : Stored) → find key_cmp key tasks.old.entries ≡ Some s → tasks.new.entries ≡ put key_cmp key (due_at due s) tasks.old.entries }
+/// Gives a task another due moment, and tells the old one and whether a run has it. Its place is not moved.
+fn set_due(tasks: &mut OrderedMap<TaskKey, Stored>, key: TaskKey, due: u64) -> Option<(u64, bool)>
+    ensures moved { IsMoved key due tasks.old.entries tasks.new.entries result }
     ensures spare { tasks.new.spare ≡ tasks.old.spare }
 {
-    tasks.change(&key, |stored| stored.task.due = due);
+    tasks.change(&key, |stored| {
+        let was = (stored.task.due, stored.claimed);
+        stored.task.due = due;
+        was
+    })
 }
 
 /// Marks whether a claimed run has a task. Its place is not moved.
@@ -200,16 +204,14 @@ impl Tasks {
         ensures tasks { self.new.tasks ≡ changed_at (with_due due) key self.old.tasks }
         ensures spare { self.new.spare ≡ self.old.spare }
     {
-        let Some(stored) = self.tasks.get(&key) else {
+        let Some((was, claimed)) = set_due(&mut self.tasks, key, due) else {
             unreachable!()
         };
-        let free = !stored.claimed;
-        let place = stored.place();
-        set_due(&mut self.tasks, key, due);
-        if free {
-            self.places.remove(&place);
-            self.places.insert(Place { due, key }, ());
+        if claimed {
+            return;
         }
+        self.places.remove(&Place { due: was, key });
+        self.places.insert(Place { due, key }, ());
     }
 
     /// Gives a task another stamp, if it is pending. It takes no memory, and the task is not copied.

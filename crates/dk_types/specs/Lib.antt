@@ -11,3 +11,4 @@ pub mod Payload
 pub mod Lists
 pub mod Keys
 pub mod Values
+pub mod FaultPlan

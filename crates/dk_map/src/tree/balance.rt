@@ -1,9 +1,16 @@
 // The rotations that keep a tree balanced.
 ghost use Rattle.std.specs.Prelude.{◌≡◌, ◌∷◌, ◌++◌, ◌+◌, ◌-◌, ◌^◌, ◌<◌, ◌≤◌, max};
-ghost use Rattle.dk_map.specs.Balance.{node_entries, node_height, DifferByAtMost, IsNearlyAvl, SettlesTo};
+ghost use Rattle.dk_map.specs.Balance.{node_entries, node_height, near_height, far_height, on_sides, DifferByAtMost, IsNearlyAvl, SettlesTo};
 
 use super::{Node, Tree};
 use std::mem;
+
+/// A side of a node.
+#[derive(Clone, Copy)]
+pub(crate) enum Side {
+    Left,
+    Right,
+}
 
 /// Brings a node whose sides differ by two at most into balance, and gives its height.
 pub(super) fn settle<K, V>(cell: &mut Option<Node<K, V>>) -> u8
@@ -18,11 +25,12 @@ pub(super) fn settle<K, V>(cell: &mut Option<Node<K, V>>) -> u8
     let Some(node) = mem::replace(cell, None) else {
         unreachable!()
     };
-    let node = if left > right {
-        lean_left(node)
+    let side = if left > right {
+        Side::Left
     } else {
-        lean_right(node)
+        Side::Right
     };
+    let node = lean(side, node);
     let height = node.height();
     match mem::replace(cell, Some(node)) {
         None => {}
@@ -31,146 +39,68 @@ pub(super) fn settle<K, V>(cell: &mut Option<Node<K, V>>) -> u8
     height
 }
 
-/// Turns a node whose left side is two levels higher to the right.
-fn lean_left<K, V>(node: Node<K, V>) -> Node<K, V>
-    requires two_higher { node.left.1 ≡ node.right.1 + 2 }
-    requires fits { node.left.1 < 2 ^ 8 - 1 }
+/// Turns a node whose near side is two levels higher to the far one.
+fn lean<K, V>(side: Side, node: Node<K, V>) -> Node<K, V>
+    requires two_higher { near_height side node ≡ far_height side node + 2 }
+    requires fits { near_height side node < 2 ^ 8 - 1 }
     ensures entries { node_entries result ≡ node_entries node }
     ensures balanced { DifferByAtMost 1 result.left.1 result.right.1 }
-    ensures not_lower { node.left.1 ≤ node_height result }
-    ensures at_most_one_higher { node_height result ≤ node.left.1 + 1 }
+    ensures not_lower { near_height side node ≤ node_height result }
+    ensures at_most_one_higher { node_height result ≤ near_height side node + 1 }
 {
-    let Node {
-        left,
-        key,
-        value,
-        right,
-    } = node;
-    let (cell, upper) = left.open();
-    let Node {
-        left: outer,
-        key: upper_key,
-        value: upper_value,
-        right: inner,
-    } = upper;
+    let (near, key, value, far) = node.apart(side);
+    let (cell, upper) = near.open();
+    let (outer, upper_key, upper_value, inner) = upper.apart(side);
     if outer.height() >= inner.height() {
-        let low = Tree::close(
-            cell,
-            Node {
-                left: inner,
-                key,
-                value,
-                right,
-            },
-        );
-        return Node {
-            left: outer,
-            key: upper_key,
-            value: upper_value,
-            right: low,
-        };
+        let far = Tree::close(cell, Node::of(side, inner, key, value, far));
+        return Node::of(side, outer, upper_key, upper_value, far);
     }
     let (inner_cell, middle) = inner.open();
-    let Node {
-        left: before,
-        key: middle_key,
-        value: middle_value,
-        right: after,
-    } = middle;
-    let left = Tree::close(
+    let (before, middle_key, middle_value, after) = middle.apart(side);
+    let near = Tree::close(
         inner_cell,
-        Node {
-            left: outer,
-            key: upper_key,
-            value: upper_value,
-            right: before,
-        },
+        Node::of(side, outer, upper_key, upper_value, before),
     );
-    let right = Tree::close(
-        cell,
-        Node {
-            left: after,
-            key,
-            value,
-            right,
-        },
-    );
-    Node {
-        left,
-        key: middle_key,
-        value: middle_value,
-        right,
-    }
+    let far = Tree::close(cell, Node::of(side, after, key, value, far));
+    Node::of(side, near, middle_key, middle_value, far)
 }
 
-/// Turns a node whose right side is two levels higher to the left.
-fn lean_right<K, V>(node: Node<K, V>) -> Node<K, V>
-    requires two_higher { node.right.1 ≡ node.left.1 + 2 }
-    requires fits { node.right.1 < 2 ^ 8 - 1 }
-    ensures entries { node_entries result ≡ node_entries node }
-    ensures balanced { DifferByAtMost 1 result.left.1 result.right.1 }
-    ensures not_lower { node.right.1 ≤ node_height result }
-    ensures at_most_one_higher { node_height result ≤ node.right.1 + 1 }
-{
-    let Node {
-        left,
-        key,
-        value,
-        right,
-    } = node;
-    let (cell, upper) = right.open();
-    let Node {
-        left: inner,
-        key: upper_key,
-        value: upper_value,
-        right: outer,
-    } = upper;
-    if outer.height() >= inner.height() {
-        let low = Tree::close(
-            cell,
-            Node {
-                left,
-                key,
-                value,
-                right: inner,
-            },
-        );
-        return Node {
-            left: low,
-            key: upper_key,
-            value: upper_value,
-            right: outer,
+impl<K, V> Node<K, V> {
+    /// A node with these trees on a side and on the other.
+    fn of(side: Side, near: Tree<K, V>, key: K, value: V, far: Tree<K, V>) -> Node<K, V>
+        ensures entries { node_entries result ≡ on_sides side near.0 (key, value) far.0 }
+        ensures height { node_height result ≡ max near.1 far.1 + 1 }
+        ensures balanced { DifferByAtMost 1 near.1 far.1 → DifferByAtMost 1 result.left.1 result.right.1 }
+    {
+        let (left, right) = match side {
+            Side::Left => (near, far),
+            Side::Right => (far, near),
         };
-    }
-    let (inner_cell, middle) = inner.open();
-    let Node {
-        left: before,
-        key: middle_key,
-        value: middle_value,
-        right: after,
-    } = middle;
-    let left = Tree::close(
-        cell,
         Node {
             left,
             key,
             value,
-            right: before,
-        },
-    );
-    let right = Tree::close(
-        inner_cell,
-        Node {
-            left: after,
-            key: upper_key,
-            value: upper_value,
-            right: outer,
-        },
-    );
-    Node {
-        left,
-        key: middle_key,
-        value: middle_value,
-        right,
+            right,
+        }
+    }
+
+    /// The parts of a node: the tree on a side, the entry, and the tree on the other.
+    fn apart(self, side: Side) -> (Tree<K, V>, K, V, Tree<K, V>)
+        ensures entries { node_entries self ≡ on_sides side result.0.0 (result.1, result.2) result.3.0 }
+        ensures near { result.0.1 ≡ near_height side self }
+        ensures far { result.3.1 ≡ far_height side self }
+        ensures height { node_height self ≡ max result.0.1 result.3.1 + 1 }
+        ensures balanced { DifferByAtMost 1 self.left.1 self.right.1 → DifferByAtMost 1 result.0.1 result.3.1 }
+    {
+        let Node {
+            left,
+            key,
+            value,
+            right,
+        } = self;
+        match side {
+            Side::Left => (left, key, value, right),
+            Side::Right => (right, key, value, left),
+        }
     }
 }

@@ -4,7 +4,7 @@ ghost use Rattle.std.specs.Option.{option_map};
 ghost use Rattle.std.specs.declared.cmp.Ordering.TheVariants.{Equal};
 ghost use Rattle.dk_map.specs.Balance.{DifferByAtMost};
 ghost use Rattle.std.specs.Fn.{FnOnceReturnsAtMut};
-ghost use Rattle.dk_map.specs.Entries.{find, put, without, IsOrdered, IsReplaced, IsChanged};
+ghost use Rattle.dk_map.specs.Entries.{find, put, without, IsOrdered, IsChanged};
 
 use super::balance::settle;
 use super::{Cell, Node, Tree};
@@ -54,44 +54,21 @@ impl<K: Ord + Drop, V: Drop> Tree<K, V> {
         }
     }
 
-    /// Puts a value at a key that is there, and gives the old one. At another key it gives the value back.
-    pub(crate) fn replace(&mut self, key: &K, value: V) -> Result<V, V>
-        requires { IsOrdered K.cmp self.old.0 }
-        ensures replaced { IsReplaced K.cmp key.now value self.old.0 self.new.0 result }
-        ensures len { length self.new.0 ≡ length self.old.0 }
-        ensures height { self.new.1 ≡ self.old.1 }
-    {
-        match &mut self.root {
-            None => Err(value),
-            Some(cell) => match &mut **cell {
-                None => unreachable!(),
-                Some(node) => match key.cmp(&node.key) {
-                    Ordering::Less => node.left.replace(key, value),
-                    Ordering::Equal => Ok(mem::replace(&mut node.value, value)),
-                    Ordering::Greater => node.right.replace(key, value),
-                },
-            },
-        }
-    }
-
-    /// Changes the value at a key where it stands, and tells whether there is one.
-    pub(crate) fn change<F: FnOnce(&mut V)>(&mut self, key: &K, change: F) -> bool
+    /// Changes the value at a key where it stands, if there is one, and gives what the change answers.
+    pub(crate) fn change<A, F: FnOnce(&mut V) -> A>(&mut self, key: &K, change: F) -> Option<A>
         requires ordered { IsOrdered K.cmp self.old.0 }
         requires callable { F.IsAlwaysCallable change }
-        ensures changed { IsChanged K.cmp key.now (λ old new. FnOnceReturnsAtMut F.FnOnce change old tt new) self.old.0 self.new.0 result }
+        ensures changed { IsChanged K.cmp key.now (λ old new answer. FnOnceReturnsAtMut F.FnOnce change old answer new) self.old.0 self.new.0 result }
         ensures len { length self.new.0 ≡ length self.old.0 }
         ensures height { self.new.1 ≡ self.old.1 }
     {
         match &mut self.root {
-            None => false,
+            None => None,
             Some(cell) => match &mut **cell {
                 None => unreachable!(),
                 Some(node) => match key.cmp(&node.key) {
                     Ordering::Less => node.left.change(key, change),
-                    Ordering::Equal => {
-                        change(&mut node.value);
-                        true
-                    }
+                    Ordering::Equal => Some(change(&mut node.value)),
                     Ordering::Greater => node.right.change(key, change),
                 },
             },

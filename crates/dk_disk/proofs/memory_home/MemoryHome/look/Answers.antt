@@ -1,6 +1,6 @@
 use Rattle.std.proofs.Common.{◌≤◌}
 use Rattle.dk_disk.specs.Memory.{memory_of}
-use Rattle.dk_disk.specs.Plan.{counted_up}
+use Rattle.dk_types.specs.FaultPlan.{counted_up}
 use Rattle.dk_disk.proofs.Memories.{looked_elapses, looked_consistent}
 use Rattle.dk_disk.proofs.memory_home.MemoryHome.look.Goals as goal
 

@@ -1,5 +1,5 @@
 use Rattle.std.proofs.Common.{sym, ◌∙◌}
-use Rattle.dk_map.proofs.Replaced.{ordered_changed}
+use Rattle.dk_map.proofs.Changed.{ordered_changed}
 use Rattle.dk_map.proofs.map.OrderedMap.change.Goals as goal
 
 pub invariant_of-self : goal.invariant_of-self

@@ -1,88 +1,56 @@
-use Rattle.std.proofs.Common.{◌≡◌, ◌&&◌, not, true, false, is_some, refl, sym, ap, ◌∙◌, arith}
-use Rattle.std.specs.Ordering.{eq_by_cmp}
-use Rattle.dk_map.specs.Entries.{find, without}
-use Rattle.dk_tasks.specs.Places.{place_cmp, place_of, due_at, IsKeyed}
+use Rattle.std.proofs.Common.{◌≡◌, ◌≤◌, ◌-◌, min, false, refl, sym, ap, ◌∙◌}
+use Rattle.dk_tasks.specs.Places.{place_of, due_at, held_count, IsInStep}
 use Rattle.dk_tasks.specs.Tasks.{with_due}
+use Rattle.dk_tasks.specs.declared.stored.Place.{Place}
 use Rattle.dk_tasks.proofs.Changes.{kept_changed, pending_found}
-use Rattle.dk_tasks.proofs.Found.{found_of_all}
-use Rattle.dk_tasks.proofs.Spares.{place_out, place_in, spare_kept}
-use Rattle.dk_tasks.proofs.Orders.{key_same}
-use Rattle.dk_tasks.proofs.Steps.{step_same, step_moved, own_without}
+use Rattle.dk_tasks.proofs.Moves.{moved_held, moved_room, moved_free}
 use Rattle.dk_tasks.proofs.tasks.Tasks.requeue.Goals as goal
+use Rattle.dk_tasks.proofs.tasks.Tasks.requeue.Goals.{Then-claimed, After-insert}
 
 pub unreachable-requires : goal.unreachable-requires
-unreachable-requires c = absurd (pending_found _ (ap (λ s. s.tasks) c.self.view_is) c.self.invariant.0.ordered c.args.key c.requires.pending c.in_default.ensures)
+unreachable-requires c = absurd (pending_found _ (ap (λ s. s.tasks) c.self.view_is) c.self.invariant.0.ordered c.args.key c.requires.pending (sym c.in_default.ensures.moved))
+
+-- where a run has the task
+held : (c : Then-claimed) → IsInStep c.set_due.new.tasks.entries c.self.inside.places.entries
+    × (min c.set_due.new.tasks.spare (c.self.inside.places.spare - held_count c.set_due.new.tasks.entries) ≡ c.args.self.now.spare) × (held_count c.set_due.new.tasks.entries ≤ c.self.inside.places.spare)
+held c =
+    let m = c.in-Some.ensures.moved in
+    moved_held _ _ c.self.invariant.0 c.args.key m.0 m.1 c.args.due _ m.3 _ _ _ (ap (λ s. s.spare) c.self.view_is) c.self.invariant.1 _ c.in-Some.ensures.spare (sym (ap (λ w. w.1) m.2) ∙ c.if-claimed.true)
+
+pub invariant_of-self : goal.invariant_of-self
+invariant_of-self c = let h = held c in (h.0, h.2)
+
+pub returns-then-claimed : goal.returns-then-claimed
+returns-then-claimed c =
+    let m = c.in-Some.ensures.moved in
+    record { tasks = kept_changed _ (ap (λ s. s.tasks) c.self.view_is) c.self.invariant.0.ordered c.args.key (with_due c.args.due) m.0 (due_at c.args.due m.0) m.1 refl _ m.3; spare = (held c).1 }
 
 pub insert-requires : goal.insert-requires
 insert-requires c =
-    let s = c.in-Some.stored.now in
-    let i = c.self.invariant.0 in
-    let found = sym c.in-Some.ensures in
-    let key = found_of_all key_same IsKeyed _ i.keyed c.args.key s found in
-    let place = c.place-place.ensures ∙ ap (λ k. place_of k s) key in
-    let free : s.claimed ≡ false = cc in
-    let out = place_out _ _ i c.args.key s found _ _ _ (ap (λ s. s.spare) c.self.view_is) c.self.invariant.1 free _ place _ c.remove.ensures.value _ c.remove.ensures.spare in
-    record { room = λ _. omega (arith, out) }
+    let m = c.in-Some.ensures.moved in
+    let free : m.0.claimed ≡ false = sym (ap (λ w. w.1) m.2) ∙ c.if-claimed.false in
+    let q : Place = record { due = c.in-Some.was; key = c.args.key } in
+    let at : q ≡ place_of c.args.key m.0 = λ i. record { due = (m.2 i).0; key = c.args.key } in
+    record {
+      room = λ _.
+          moved_room _ _ c.self.invariant.0 c.args.key m.0 m.1 c.args.due _ m.3 _ _ _ (ap (λ s. s.spare) c.self.view_is) c.self.invariant.1 _ c.in-Some.ensures.spare free q at _ c.remove.ensures.value _ c.remove.ensures.spare;
+    }
 
-pub invariant_of-self : goal.invariant_of-self
-invariant_of-self c =
-    let s = c.in-Some.stored.now in
-    let i = c.self.invariant.0 in
-    let found = sym c.in-Some.ensures in
-    let key = found_of_all key_same IsKeyed _ i.keyed c.args.key s found in
-    let place = c.place-place.ensures ∙ ap (λ k. place_of k s) key in
-    let free : s.claimed ≡ false = cc in
-    let out = place_out _ _ i c.args.key s found _ _ _ (ap (λ s. s.spare) c.self.view_is) c.self.invariant.1 free _ place _ c.remove.ensures.value _ c.remove.ensures.spare in
-    let gone = c.remove.ensures.entries ∙ ap (λ q. without place_cmp q c.self.inside.places.entries) place in
-    let none = ap is_some c.insert.ensures.old ∙ ap (λ es. is_some (find place_cmp (place_of c.args.key (due_at c.args.due s)) es)) gone ∙ own_without _ _ i c.args.key s found free (place_of c.args.key (due_at c.args.due s)) refl in
-    let into = place_in _ _ c.insert.result none c.insert.ensures.spare in
-    let room = spare_kept _ _ i c.args.key s found _ _ _ (ap (λ s. s.spare) c.self.view_is) c.self.invariant.1 (due_at c.args.due s) _ (c.set_due.ensures.entries s found) _ c.set_due.ensures.spare refl _ (omega (arith, out, into)) in
-    (step_moved _ _ i c.args.key s (due_at c.args.due s) found key free free _ _ _ c.remove.ensures.ordered c.insert.ensures.ordered (c.set_due.ensures.entries s found) gone c.insert.ensures.entries, room.1)
+-- where none has it
+free : (c : After-insert) → IsInStep c.set_due.new.tasks.entries c.insert.new.self.entries
+    × (min c.set_due.new.tasks.spare (c.insert.new.self.spare - held_count c.set_due.new.tasks.entries) ≡ c.args.self.now.spare) × (held_count c.set_due.new.tasks.entries ≤ c.insert.new.self.spare)
+free c =
+    let m = c.in-Some.ensures.moved in
+    let free : m.0.claimed ≡ false = sym (ap (λ w. w.1) m.2) ∙ c.if-claimed.false in
+    let q : Place = record { due = c.in-Some.was; key = c.args.key } in
+    let at : q ≡ place_of c.args.key m.0 = λ i. record { due = (m.2 i).0; key = c.args.key } in
+    moved_free _ _ c.self.invariant.0 c.args.key m.0 m.1 c.args.due _ m.3 _ _ _ (ap (λ s. s.spare) c.self.view_is) c.self.invariant.1 _ c.in-Some.ensures.spare free q at _ c.remove.ensures.value _ c.remove.ensures.spare
+    _ _ c.remove.ensures.entries c.remove.ensures.ordered _ c.insert.ensures.old c.insert.ensures.entries c.insert.ensures.ordered _ c.insert.ensures.spare
 
-pub invariant_of-self-else-free : goal.invariant_of-self-else-free
-invariant_of-self-else-free c =
-    let s = c.in-Some.stored.now in
-    let i = c.self.invariant.0 in
-    let found = sym c.in-Some.ensures in
-    let key = found_of_all key_same IsKeyed _ i.keyed c.args.key s found in
-    let held : s.claimed ≡ true = cc in
-    let room = spare_kept _ _ i c.args.key s found _ _ _ (ap (λ s. s.spare) c.self.view_is) c.self.invariant.1 (due_at c.args.due s) _ (c.set_due.ensures.entries s found) _ c.set_due.ensures.spare refl _ refl in
-    (step_same _ _ i c.args.key s (due_at c.args.due s) found key _ (c.set_due.ensures.entries s found) refl (λ q. ap (λ b. not b && eq_by_cmp place_cmp q (place_of c.args.key s)) held ∙ sym (ap (λ b. not b && eq_by_cmp place_cmp q (place_of c.args.key (due_at c.args.due s))) held)), room.1)
+pub invariant_of-self-2 : goal.invariant_of-self-2
+invariant_of-self-2 c = let f = free c in (f.0, f.2)
 
-pub returns-then-free-clause-tasks : goal.returns-then-free-clause-tasks
-returns-then-free-clause-tasks c =
-    let s = c.in-Some.stored.now in
-    let i = c.self.invariant.0 in
-    let found = sym c.in-Some.ensures in
-    kept_changed _ (ap (λ s. s.tasks) c.self.view_is) i.ordered c.args.key (with_due c.args.due) s (due_at c.args.due s) found refl _ (c.set_due.ensures.entries s found)
-
-pub returns-then-free-clause-spare : goal.returns-then-free-clause-spare
-returns-then-free-clause-spare c =
-    let s = c.in-Some.stored.now in
-    let i = c.self.invariant.0 in
-    let found = sym c.in-Some.ensures in
-    let key = found_of_all key_same IsKeyed _ i.keyed c.args.key s found in
-    let place = c.place-place.ensures ∙ ap (λ k. place_of k s) key in
-    let free : s.claimed ≡ false = cc in
-    let out = place_out _ _ i c.args.key s found _ _ _ (ap (λ s. s.spare) c.self.view_is) c.self.invariant.1 free _ place _ c.remove.ensures.value _ c.remove.ensures.spare in
-    let gone = c.remove.ensures.entries ∙ ap (λ q. without place_cmp q c.self.inside.places.entries) place in
-    let none = ap is_some c.insert.ensures.old ∙ ap (λ es. is_some (find place_cmp (place_of c.args.key (due_at c.args.due s)) es)) gone ∙ own_without _ _ i c.args.key s found free (place_of c.args.key (due_at c.args.due s)) refl in
-    let into = place_in _ _ c.insert.result none c.insert.ensures.spare in
-    let room = spare_kept _ _ i c.args.key s found _ _ _ (ap (λ s. s.spare) c.self.view_is) c.self.invariant.1 (due_at c.args.due s) _ (c.set_due.ensures.entries s found) _ c.set_due.ensures.spare refl _ (omega (arith, out, into)) in
-    room.0
-
-pub returns-else-free-clause-tasks : goal.returns-else-free-clause-tasks
-returns-else-free-clause-tasks c =
-    let s = c.in-Some.stored.now in
-    let i = c.self.invariant.0 in
-    let found = sym c.in-Some.ensures in
-    kept_changed _ (ap (λ s. s.tasks) c.self.view_is) i.ordered c.args.key (with_due c.args.due) s (due_at c.args.due s) found refl _ (c.set_due.ensures.entries s found)
-
-pub returns-else-free-clause-spare : goal.returns-else-free-clause-spare
-returns-else-free-clause-spare c =
-    let s = c.in-Some.stored.now in
-    let i = c.self.invariant.0 in
-    let found = sym c.in-Some.ensures in
-    let held : s.claimed ≡ true = cc in
-    let room = spare_kept _ _ i c.args.key s found _ _ _ (ap (λ s. s.spare) c.self.view_is) c.self.invariant.1 (due_at c.args.due s) _ (c.set_due.ensures.entries s found) _ c.set_due.ensures.spare refl _ refl in
-    room.0
+pub returns : goal.returns
+returns c =
+    let m = c.in-Some.ensures.moved in
+    record { tasks = kept_changed _ (ap (λ s. s.tasks) c.self.view_is) c.self.invariant.0.ordered c.args.key (with_due c.args.due) m.0 (due_at c.args.due m.0) m.1 refl _ m.3; spare = (free c).1 }

@@ -20,9 +20,9 @@ now_stamped s c = record s { stamp = c.args.stamp }
 stamped_there : (c : After-change) (s : Stored) → find key_cmp c.args.key c.self.inside.tasks.entries ≡ Some s → c.change.new.self.entries ≡ put key_cmp c.args.key (now_stamped s c) c.self.inside.tasks.entries
 stamped_there c s f =
     let y = changed_there _ c.args.key _ _ s f c.change.result c.change.ensures.changed in
-    let met = y.1.met in
+    let met = y.2.met in
     let is : y.0 ≡ now_stamped s c = cc in
-    y.2 ∙ ap (λ x. put key_cmp c.args.key x c.self.inside.tasks.entries) is
+    y.3 ∙ ap (λ x. put key_cmp c.args.key x c.self.inside.tasks.entries) is
 
 -- in both cases the places stand, and as many runs have tasks
 stays : (c : After-change) → IsInStep c.change.new.self.entries c.self.inside.places.entries × (held_count c.change.new.self.entries ≡ held_count c.self.inside.tasks.entries)

@@ -1,21 +1,45 @@
-//! Which calls on an object in memory fail, and how many did.
+//! Which calls on an object fail, where it is one that fails on purpose, and how many did.
 ghost use Rattle.std.specs.Prelude.{◌≡◌, ◌≤◌, ◌↔◌, IsErr, IsTrue, OnOk, OnErr};
 ghost use Rattle.dk_types.specs.Faults.{HasRisen, COUNT_END};
 
-use crate::fault_count::FaultCount;
-use dk_types::Failed;
+use crate::fault::Failed;
 use std::marker::Model;
 
+/// A count of faults, which rises at each. It stays at 2^64 - 1.
+#[derive(Drop)]
+pub struct FaultCount {
+    pub count: u64,
+    ghost most: { count ≤ COUNT_END },
+}
+
+impl FaultCount {
+    ghost use Rattle.dk_types.specs.FaultPlan.{counted_up};
+
+    pub fn new() -> FaultCount
+        ensures { result.count ≡ 0 }
+    {
+        FaultCount { count: 0 }
+    }
+
+    /// Counts one more fault.
+    pub fn rise(&mut self)
+        ensures next { self.new.count ≡ counted_up self.old.count }
+        ensures cause { HasRisen self.old.count self.new.count }
+    {
+        self.count = self.count.saturating_add(1);
+    }
+}
+
 /// The numbers of the calls that fail, counted from 1, with the calls and the faults so far.
-#[derive(Debug, Drop)]
-pub(crate) struct FaultPlan {
+#[derive(Drop)]
+pub struct FaultPlan {
     failing: Vec<u64>,
     calls: u64,
     faults: FaultCount,
 }
 
 impl Model for FaultPlan {
-    ghost use Rattle.dk_disk.specs.Plan.{Plan};
+    ghost use Rattle.dk_types.specs.FaultPlan.{Plan};
 
     ghost Value = { Plan };
 
@@ -23,9 +47,9 @@ impl Model for FaultPlan {
 }
 
 impl FaultPlan {
-    ghost use Rattle.dk_disk.specs.Plan.{fails_next, after_call, after_fault};
+    ghost use Rattle.dk_types.specs.FaultPlan.{fails_next, after_call, after_fault};
 
-    pub(crate) fn new(failing: Vec<u64>) -> FaultPlan
+    pub fn new(failing: Vec<u64>) -> FaultPlan
         ensures { result ≡ record { failing = failing.items; calls = 0; faults = 0 } }
     {
         FaultPlan {
@@ -36,7 +60,7 @@ impl FaultPlan {
     }
 
     /// Counts one more call, and fails where it is one of those that do.
-    pub(crate) fn call(&mut self) -> Result<(), Failed>
+    pub fn call(&mut self) -> Result<(), Failed>
         ensures plan { self.new ≡ after_call self.old }
         ensures later { self.old.calls ≤ self.new.calls }
         ensures fails { IsErr result ↔ IsTrue (fails_next self.old) }
@@ -53,7 +77,7 @@ impl FaultPlan {
     }
 
     /// Counts a fault that no number asked for.
-    pub(crate) fn fault(&mut self)
+    pub fn fault(&mut self)
         ensures plan { self.new ≡ after_fault self.old }
         ensures cause { HasRisen self.old.faults self.new.faults }
         ensures most { self.new.faults ≤ COUNT_END }
@@ -62,7 +86,7 @@ impl FaultPlan {
     }
 
     /// Counts a fault where a call without a number failed.
-    pub(crate) fn counted(&mut self, outcome: Result<(), Failed>) -> Result<(), Failed>
+    pub fn counted(&mut self, outcome: Result<(), Failed>) -> Result<(), Failed>
         ensures outcome { result ≡ outcome }
         ensures kept { (self.new.failing ≡ self.old.failing) × (self.new.calls ≡ self.old.calls) }
         ensures steady { OnOk result (self.new.faults ≡ self.old.faults) }
@@ -75,13 +99,15 @@ impl FaultPlan {
         outcome
     }
 
-    pub(crate) fn calls(&self) -> u64
+    /// How many calls were numbered.
+    pub fn calls(&self) -> u64
         ensures { result ≡ self.now.calls }
     {
         self.calls
     }
 
-    pub(crate) fn faults(&self) -> u64
+    /// How many faults were counted.
+    pub fn faults(&self) -> u64
         ensures { result ≡ self.now.faults }
     {
         self.faults.count
