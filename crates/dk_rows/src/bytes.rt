@@ -31,10 +31,14 @@ pub fn read(alloc: Global, text: &str) -> Option<Vec<u8>> {
         match high {
             None => high = Some(digit),
             Some(first) => {
-                bytes.push(u8::try_from(first * 16 + digit).ok()?).ok()?;
+                bytes.push(joined(first, digit)?).ok()?;
                 high = None;
             }
         }
     }
     Some(bytes)
+}
+
+fn joined(high: u32, low: u32) -> Option<u8> {
+    u8::try_from(high.checked_mul(16)?.checked_add(low)?).ok()
 }

@@ -48,12 +48,23 @@ impl<'a> Words<'a> {
         u32::try_from(self.number()?).ok()
     }
 
-    /// A word in which `x*9` stands for nine times `x`.
+    /// A word in which `x*9` stands for nine times `x`, and `a+x*9` for `a` and these.
     pub fn text(&mut self, alloc: Global) -> Option<String> {
         let word = self.word()?;
-        match word.split_once("*") {
-            Some((part, times)) => part.repeat(alloc, times.parse::<usize>().ok()?).ok(),
-            None => String::from_str(alloc, word).ok(),
+        match word.split_once("+") {
+            Some((front, back)) => {
+                let mut text = repeated(alloc, front)?;
+                text.push_str(repeated(alloc, back)?.as_str()).ok()?;
+                Some(text)
+            }
+            None => repeated(alloc, word),
         }
+    }
+}
+
+fn repeated(alloc: Global, word: &str) -> Option<String> {
+    match word.split_once("*") {
+        Some((part, times)) => part.repeat(alloc, times.parse::<usize>().ok()?).ok(),
+        None => String::from_str(alloc, word).ok(),
     }
 }
