@@ -1,7 +1,7 @@
 //! A finished run is committed.
 ghost use Rattle.std.specs.Prelude.{◌≡◌, ◌+◌, ◌<◌, ◌^◌, OnOk};
 ghost use Rattle.dk_model.specs.Effects.{after};
-ghost use Rattle.dk_overlay.specs.Finishes.{told};
+ghost use Rattle.dk_txn.specs.Finishes.{told};
 ghost use Rattle.dk_durable.specs.StampedWorlds.{durable_of, with_room};
 ghost use Rattle.dk_durable.specs.Rooms.{HasRoom, IsNoLess};
 ghost use Rattle.dk_durable.specs.Publishing.{published, committed};

@@ -14,10 +14,10 @@ use Rattle.dk_model.specs.Finishes.{told_step, KeepsLaw}
 use Rattle.dk_model.specs.Lawful.{AreLawful, IsJob}
 use Rattle.dk_model.proofs.StepValid.{IsReady}
 use Rattle.dk_types.specs.declared.fault.NoMemory.{NoMemory}
-use Rattle.dk_overlay.specs.declared.finished.Finished.{Finished}
+use Rattle.dk_txn.specs.declared.finished.Finished.{Finished}
 use Rattle.dk_overlay.specs.Logged.{Logged, nothing_done}
-use Rattle.dk_overlay.specs.Finishes.{told}
-use Rattle.dk_overlay.specs.Knowing.{JobFits}
+use Rattle.dk_txn.specs.Finishes.{told}
+use Rattle.dk_txn.specs.Knowing.{JobFits}
 use Rattle.dk_txn.specs.Law.{IsBegun}
 use Rattle.dk_durable.specs.StampedWorlds.{Stamped, durable_of, read_now}
 use Rattle.dk_durable.specs.Commits.{StepsFrom, CommitsSteps}

@@ -7,8 +7,8 @@ ghost use Rattle.dk_model.specs.Validity.{IsValid};
 ghost use Rattle.dk_model.specs.Finishes.{HasOwnTask};
 ghost use Rattle.dk_model.specs.Steps.{step};
 ghost use Rattle.dk_model.proofs.StepValid.{IsReady};
-ghost use Rattle.dk_overlay.specs.Finishes.{told};
-ghost use Rattle.dk_overlay.specs.Knowing.{JobFits};
+ghost use Rattle.dk_txn.specs.Finishes.{told};
+ghost use Rattle.dk_txn.specs.Knowing.{JobFits};
 ghost use Rattle.dk_plain.specs.Plains.{durable_of, IsStep, TellsStep};
 
 use dk_durable::{Committed, StampedWorld};

@@ -11,7 +11,8 @@ use Rattle.dk_model.specs.Runs as act
 use Rattle.dk_model.specs.Runs.{Run, Act, and_then, refuse}
 use Rattle.dk_model.specs.Records.{session_name, is_name_too_long}
 use Rattle.dk_model.specs.Platforms.{own_record, new_record}
-use Rattle.dk_overlay.specs.Logged.{Logged, current}
+use Rattle.dk_overlay.specs.Logged.{Logged}
+use Rattle.dk_txn.specs.Current.{current}
 use Rattle.dk_txn.specs.declared.refusal.Refusal.{Refusal}
 use Rattle.dk_txn.specs.declared.refusal.Refusal.TheVariants as refusal
 use Rattle.dk_txn.specs.declared.txn.Txn.{Txn}
@@ -20,7 +21,7 @@ use Rattle.dk_txn.specs.Refusals.{refusal_fault}
 use Rattle.dk_txn.specs.Does.{Does}
 use Rattle.dk_txn.proofs.Kit.{then_does, does_as, stops}
 use Rattle.dk_txn.proofs.ObjectCalls.{refused_here}
-use Rattle.dk_sessions.specs.Lookups.{IsTooLong}
+use Rattle.dk_refs.specs.Lookups.{IsTooLong}
 use Rattle.dk_sessions.specs.Openings.{recording, taking}
 
 -- what follows where a name was looked up

@@ -5,10 +5,11 @@
 //! `proofs/Composing`. Lists, `encode` and `decode` then come with their laws. The crate `dk_wire_uses` is a whole one.
 ghost use Rattle.std.specs.Prelude.{◌≡◌, ◌++◌, ℕ, List, Option, None, Result, Ok, OnOk, IfOk, MatchResult};
 ghost use Rattle.std.specs.Option.{option_copied};
-ghost use Rattle.dk_wire.specs.Rest.{Rest};
-ghost use Rattle.dk_wire.specs.Exact.{IsExact};
-ghost use Rattle.dk_wire.specs.Payload.{Gives, Misses, Decodes, whole};
-ghost use Rattle.dk_wire.specs.Lists.{IsList, list_spelling, items_at, list_at};
+ghost use Rattle.dk_types.specs.Rest.{Rest};
+ghost use Rattle.dk_types.specs.Exact.{IsExact};
+ghost use Rattle.dk_types.specs.Payload.{whole};
+ghost use Rattle.dk_wire.specs.Payload.{Gives, Misses, Decodes};
+ghost use Rattle.dk_types.specs.Lists.{IsList, list_spelling, items_at, list_at};
 
 use crate::payload::PayloadRefused;
 use crate::reader::Reader;
@@ -67,7 +68,7 @@ fn decode_any<T: Drop, F: Form<T>>(alloc: Global, payload: &[u8]) -> Result<T, P
 }
 
 /// Puts the number of the items, the low 32 bits of it where there are more, and the items. Where there is no memory, what the writer holds is not said: let it go.
-#[tactic(auto, unfolding(crate::specs::Lists::list_spelling))]
+#[tactic(auto, unfolding(dk_types::specs::Lists::list_spelling))]
 pub fn put_list<T, F: Form<T>>(writer: &mut Writer, items: &[T]) -> Result<(), NoMemory>
     ensures { OnOk result (writer.new ≡ writer.old ++ list_spelling F.spelling items.now) }
 {
@@ -79,7 +80,7 @@ pub fn put_list<T, F: Form<T>>(writer: &mut Writer, items: &[T]) -> Result<(), N
 }
 
 /// Takes a list: its count, and that many items, each behind the one before it.
-#[tactic(auto, unfolding(crate::specs::Lists::list_at))]
+#[tactic(auto, unfolding(dk_types::specs::Lists::list_at))]
 pub fn take_list<T: Drop, F: Form<T>>(
     alloc: Global,
     reader: &mut Reader<'_>,

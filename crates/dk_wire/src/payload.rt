@@ -1,10 +1,11 @@
 //! Reading a payload of fields, where a fault is told by its place alone.
 ghost use Rattle.std.specs.Prelude.{◌≡◌, ◌≢◌, Ok, IfErr, MatchResult};
 ghost use Rattle.dk_wire.specs.declared.payload.PayloadRefused.TheVariants.{NoMemory as OutOfMemory};
-ghost use Rattle.dk_wire.specs.Payload.{Gives, Misses, told_of, next_u8, next_u16, next_u32, next_u64, next_name, next_blob, next_id, next_key, next_end};
+ghost use Rattle.dk_types.specs.Payload.{next_u8, next_u16, next_u32, next_u64, next_name, next_blob, next_id, next_key, next_end};
+ghost use Rattle.dk_wire.specs.Payload.{Gives, Misses, told_of};
 
 use crate::reader::Reader;
-use crate::refused::WireRefused;
+use dk_types::WireRefused;
 use dk_types::{Blob, Name, NoMemory, ObjectId, TaskKey};
 use std::alloc::{AllocError, AllocFailed, Global};
 
@@ -98,7 +99,7 @@ impl<'a> Reader<'a> {
     }
 
     /// The key of a task, which has the form of an id.
-    #[tactic(auto, unfolding(crate::specs::Payload::next_key))]
+    #[tactic(auto, unfolding(dk_types::specs::Payload::next_key))]
     pub fn next_key(&mut self) -> Result<TaskKey, PayloadRefused>
         ensures gives { Gives next_key self.old result self.new }
         ensures memory { IfErr result (λ e. e ≢ PayloadRefused.NoMemory) }
@@ -111,7 +112,7 @@ impl<'a> Reader<'a> {
     }
 
     /// Refuses the place where bytes are left. Takes no memory.
-    #[tactic(auto, unfolding(crate::specs::Payload::next_end, crate::specs::Reading::end_at))]
+    #[tactic(auto, unfolding(dk_types::specs::Payload::next_end, dk_types::specs::Reading::end_at))]
     pub fn next_end(&self) -> Result<(), PayloadRefused>
         ensures gives { MatchResult result (λ done. next_end self.now ≡ Ok done) (λ e. Misses e (next_end self.now)) }
         ensures memory { IfErr result (λ e. e ≢ PayloadRefused.NoMemory) }

@@ -1,6 +1,6 @@
 use Rattle.std.proofs.Common.{sym, subst, ◌∙◌, ◌≤◌}
 use Rattle.dk_types.specs.declared.limits.TheConstants.{MOMENT_MOST_MS}
-use Rattle.dk_overlay.specs.Knowing.{JobFits}
+use Rattle.dk_txn.specs.Knowing.{JobFits}
 use Rattle.dk_serving.specs.Servings.{AreReadsNow}
 use Rattle.dk_serving.proofs.Honest.{claim_within, reads_now}
 use Rattle.dk_serving.proofs.serving.run_claimed.Goals as goal

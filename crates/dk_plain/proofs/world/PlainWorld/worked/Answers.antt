@@ -1,5 +1,5 @@
 use Rattle.std.proofs.Common.{subst, IfOk}
-use Rattle.dk_overlay.specs.Finishes.{told}
+use Rattle.dk_txn.specs.Finishes.{told}
 use Rattle.dk_durable.specs.StampedWorlds.{Stamped, durable_of}
 use Rattle.dk_plain.specs.Plains.{TellsStep}
 use Rattle.dk_plain.proofs.Alone.{tells_alone}

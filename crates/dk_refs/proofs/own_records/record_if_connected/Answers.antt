@@ -1,0 +1,31 @@
+use Rattle.dk_refs.proofs.Lookups.{own_stops, own_none, own_halts, own_same, own_other}
+use Rattle.dk_model.specs.Records.{session_name}
+use Rattle.dk_refs.specs.Telling.{kind_under}
+use Rattle.dk_refs.proofs.Tellings.{kind_passes, kind_never}
+use Rattle.dk_refs.proofs.SessionTellings.{recorded_avoids, record_kind}
+use Rattle.dk_refs.proofs.own_records.record_if_connected.Goals as goal
+
+pub returns-in_err-recorded-clause-does : goal.returns-in_err-recorded-clause-does
+returns-in_err-recorded-clause-does g c = own_stops c.args.session.now c.in_err-recorded.ensures.does c.from_residual.ensures.1
+
+pub returns-in-None-clause-does : goal.returns-in-None-clause-does
+returns-in-None-clause-does g c = own_none c.args.session.now (rw c.in-None.is at c.in_ok-recorded.ensures.does)
+
+pub returns-in_err-found-in-Some-clause-does : goal.returns-in_err-found-in-Some-clause-does
+returns-in_err-found-in-Some-clause-does g c = own_halts c.args.session.now (rw c.in-Some.is at c.in_ok-recorded.ensures.does) (rw c.of-reference.ensures at c.in_err-found-in-Some.ensures.does) c.from_residual-in_err-found-in-Some.ensures.1
+
+pub returns-then-found-session-clause-does : goal.returns-then-found-session-clause-does
+returns-then-found-session-clause-does g c = own_same c.args.session.now (rw c.in-Some.is at c.in_ok-recorded.ensures.does) (rw c.of-reference.ensures at c.in_ok-found-in-Some.ensures.does) c.if-found-session.true c.of-reference.ensures
+
+pub returns-else-found-session-clause-does : goal.returns-else-found-session-clause-does
+returns-else-found-session-clause-does g c = own_other c.args.session.now (rw c.in-Some.is at c.in_ok-recorded.ensures.does) (rw c.of-reference.ensures at c.in_ok-found-in-Some.ensures.does) c.if-found-session.false
+
+pub returns-in_err-recorded-clause-kind : goal.returns-in_err-recorded-clause-kind
+returns-in_err-recorded-clause-kind g c =
+    let at = kind_under (session_name c.args.session.now.name) in
+    kind_passes c.in_err-recorded.ensures.does _ at (kind_never c.in_err-recorded.ensures.does at (recorded_avoids c.args.session.now.name 3)) c.from_residual.ensures.1
+
+pub returns-in_err-found-in-Some-clause-kind : goal.returns-in_err-found-in-Some-clause-kind
+returns-in_err-found-in-Some-clause-kind g c =
+    record_kind _ c.args.session.now.name (rw c.in-Some.is at c.in_ok-recorded.ensures.does) (rw c.of-reference.ensures at c.in_err-found-in-Some.ensures.does) c.in_err-found-in-Some.ensures.same_changes
+    (rw c.of-reference.ensures at c.in_err-found-in-Some.ensures.kind) c.from_residual-in_err-found-in-Some.ensures.1

@@ -1,0 +1,28 @@
+use Rattle.dk_refs.proofs.Lookups.{under_stops, under_none, under_halts, under_finds}
+use Rattle.dk_model.specs.Records.{session_name}
+use Rattle.dk_refs.specs.Telling.{kind_under}
+use Rattle.dk_refs.proofs.Tellings.{kind_passes, kind_never}
+use Rattle.dk_refs.proofs.SessionTellings.{recorded_avoids, record_kind}
+use Rattle.dk_refs.proofs.own_records.session_under.Goals as goal
+
+pub returns-in_err-recorded-clause-does : goal.returns-in_err-recorded-clause-does
+returns-in_err-recorded-clause-does g c = under_stops c.args.name.now c.in_err-recorded.ensures.does c.from_residual.ensures.1
+
+pub returns-in-None-clause-does : goal.returns-in-None-clause-does
+returns-in-None-clause-does g c = under_none c.args.name.now (rw c.in-None.is at c.in_ok-recorded.ensures.does)
+
+pub returns-in_err-session-in-Some-clause-does : goal.returns-in_err-session-in-Some-clause-does
+returns-in_err-session-in-Some-clause-does g c = under_halts c.args.name.now (rw c.in-Some.is at c.in_ok-recorded.ensures.does) (rw c.of-reference.ensures at c.in_err-session-in-Some.ensures.does) c.from_residual-in_err-session-in-Some.ensures.1
+
+pub returns-in_ok-session-in-Some-clause-does : goal.returns-in_ok-session-in-Some-clause-does
+returns-in_ok-session-in-Some-clause-does g c = rw c.of-reference.ensures (under_finds c.args.name.now (rw c.in-Some.is at c.in_ok-recorded.ensures.does) (rw c.of-reference.ensures at c.in_ok-session-in-Some.ensures.does))
+
+pub returns-in_err-recorded-clause-kind : goal.returns-in_err-recorded-clause-kind
+returns-in_err-recorded-clause-kind g c =
+    let at = kind_under (session_name c.args.name.now) in
+    kind_passes c.in_err-recorded.ensures.does _ at (kind_never c.in_err-recorded.ensures.does at (recorded_avoids c.args.name.now 3)) c.from_residual.ensures.1
+
+pub returns-in_err-session-in-Some-clause-kind : goal.returns-in_err-session-in-Some-clause-kind
+returns-in_err-session-in-Some-clause-kind g c =
+    record_kind _ c.args.name.now (rw c.in-Some.is at c.in_ok-recorded.ensures.does) (rw c.of-reference.ensures at c.in_err-session-in-Some.ensures.does) c.in_err-session-in-Some.ensures.same_changes
+    (rw c.of-reference.ensures at c.in_err-session-in-Some.ensures.kind) c.from_residual-in_err-session-in-Some.ensures.1

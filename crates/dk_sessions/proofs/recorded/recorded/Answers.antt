@@ -1,8 +1,0 @@
-use Rattle.dk_sessions.proofs.Lookups.{recorded_long, recorded_short}
-use Rattle.dk_sessions.proofs.recorded.recorded.Goals as goal
-
-pub returns-in-None-clause-does : goal.returns-in-None-clause-does
-returns-in-None-clause-does g c = recorded_long c.args.name.now (rw c.in-None.is at c.in_ok-session_name.ensures)
-
-pub returns-in-Some-clause-does : goal.returns-in-Some-clause-does
-returns-in-Some-clause-does g c = let key = rw c.in-Some.is at c.in_ok-session_name.ensures in recorded_short c.args.name.now c.in-Some.key key.0 key.1 c.binding.ensures.does
