@@ -36,6 +36,4 @@ pub mod number;
 pub mod object;
 pub mod refused;
 pub mod side;
-#[cfg(test)]
-mod tests;
 pub mod words;
