@@ -1,6 +1,6 @@
 //! Whole jobs of a game that tells a bystander of each.
-ghost use Rattle.std.specs.Prelude.{IfSome};
-ghost use Rattle.dk_overlay.specs.Knowing.{JobFits};
+ghost use Rattle.std.specs.Prelude.{◌≡◌, true};
+ghost use Rattle.dk_txn.specs.Knowing.{JobFits};
 
 use crate::crier::Crier;
 use crate::ends::{job, outcome, told};

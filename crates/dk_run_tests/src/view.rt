@@ -24,7 +24,9 @@ impl Counting {
 }
 
 impl View for Counting {
-    ghost gave = { λ view item read. Unit {0} };
+    ghost use Rattle.dk_txn.specs.Sights.{steady};
+
+    ghost sights = { steady (λ view item read. Unit {0}) };
 
     fn read(&mut self, item: &Item) -> Result<Read, NoMemory> {
         self.asked = self.asked.saturating_add(1);
