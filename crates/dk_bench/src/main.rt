@@ -14,7 +14,7 @@ mod txn;
 use channels::{Doing, on_channel};
 use cores::{CoreWork, on_core};
 use disk::{folder_appends, memory_calls};
-use dk_turn_uses::{empty_turns_anew, locked_adds, tally_in_threads};
+use dk_turn_books::{empty_turns_anew, locked_adds, tally_in_threads};
 use first_path::first_path;
 use std::env;
 use std::fs::File;

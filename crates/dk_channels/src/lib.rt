@@ -18,5 +18,3 @@ pub mod leaving;
 pub mod lists;
 mod saving;
 pub mod sending;
-#[cfg(test)]
-mod tests;

@@ -15,6 +15,3 @@ mod slot;
 pub use answers::{Handed, PostRefused};
 pub use connections::Connections;
 pub use deliveries::Deliveries;
-
-#[cfg(test)]
-mod tests;

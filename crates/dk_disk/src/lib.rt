@@ -21,6 +21,4 @@ pub mod home;
 pub mod memory_home;
 mod replay;
 mod step;
-#[cfg(test)]
-mod tests;
 pub mod torn;

@@ -16,5 +16,3 @@ pub mod memory_source;
 pub mod sink;
 pub mod source;
 pub mod std_streams;
-#[cfg(test)]
-mod tests;

@@ -18,5 +18,3 @@ pub mod over;
 mod parts;
 pub mod run;
 mod session_jobs;
-#[cfg(test)]
-mod tests;

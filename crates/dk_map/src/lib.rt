@@ -10,6 +10,3 @@ mod map;
 mod tree;
 
 pub use map::OrderedMap;
-
-#[cfg(test)]
-mod tests;

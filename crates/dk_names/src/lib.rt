@@ -8,5 +8,3 @@
 pub use names::Names;
 
 pub mod names;
-#[cfg(test)]
-mod tests;

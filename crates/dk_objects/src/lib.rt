@@ -8,5 +8,3 @@
 pub use objects::Objects;
 
 pub mod objects;
-#[cfg(test)]
-mod tests;

@@ -10,5 +10,3 @@ pub use ready::Ready;
 
 pub mod outbox;
 pub mod ready;
-#[cfg(test)]
-mod tests;

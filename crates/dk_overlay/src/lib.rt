@@ -20,8 +20,6 @@ pub mod change;
 mod index;
 pub mod items;
 pub mod log;
-#[cfg(test)]
-mod log_tests;
 pub mod names;
 pub mod objects;
 pub mod reads;

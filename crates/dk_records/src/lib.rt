@@ -12,5 +12,3 @@ pub use sessions::{SessionForm, encode_session};
 pub mod channels;
 pub mod fields;
 pub mod sessions;
-#[cfg(test)]
-mod tests;

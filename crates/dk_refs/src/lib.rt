@@ -17,5 +17,3 @@ pub mod own_records;
 pub mod recorded;
 pub mod records;
 pub mod reference;
-#[cfg(test)]
-mod tests;

@@ -16,7 +16,5 @@ pub mod laws;
 mod lines;
 mod reader;
 pub mod script;
-#[cfg(test)]
-mod tests;
 mod text;
 pub mod transcript;

@@ -13,5 +13,3 @@ pub use sending::send;
 pub mod opening;
 pub mod records;
 pub mod sending;
-#[cfg(test)]
-mod tests;

@@ -9,6 +9,3 @@ mod stored;
 mod tasks;
 
 pub use tasks::Tasks;
-
-#[cfg(test)]
-mod tests;

@@ -21,7 +21,5 @@ pub mod objects;
 pub mod refusal;
 pub mod sizes;
 pub mod tasks;
-#[cfg(test)]
-mod tests;
 pub mod txn;
 pub mod view;

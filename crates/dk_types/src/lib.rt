@@ -38,6 +38,4 @@ pub mod number;
 pub mod object;
 pub mod refused;
 pub mod side;
-#[cfg(test)]
-mod tests;
 pub mod words;

@@ -18,6 +18,4 @@ pub mod lengths;
 pub mod payload;
 pub mod reader;
 mod reading;
-#[cfg(test)]
-mod tests;
 pub mod writer;

@@ -14,7 +14,5 @@ pub mod game;
 pub mod labels;
 pub mod scene;
 pub mod sessions;
-#[cfg(test)]
-mod tests;
 pub mod texts;
 pub mod things;

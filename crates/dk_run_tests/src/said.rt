@@ -1,0 +1,110 @@
+//! Words as values, and values as texts.
+
+use dk_rows::Words;
+use dk_txn::Refusal;
+use dk_types::{Blob, ConnNo, Name, ObjectId, RunNo, Session, TaskKey};
+use std::alloc::Global;
+
+/// An id, as `2.0`.
+pub fn id(call: &mut Words<'_>) -> Option<ObjectId> {
+    let (run, k) = call.word()?.split_once(".")?;
+    Some(ObjectId {
+        run: RunNo(run.parse::<u64>().ok()?),
+        k: k.parse::<u32>().ok()?,
+    })
+}
+
+/// A task's key, as `2.0`.
+pub fn key(call: &mut Words<'_>) -> Option<TaskKey> {
+    let ObjectId { run, k } = id(call)?;
+    Some(TaskKey { run, k })
+}
+
+pub fn name(alloc: Global, call: &mut Words<'_>) -> Option<Name> {
+    let text = call.text(alloc)?;
+    Name::new(alloc, text.as_bytes()).ok()
+}
+
+/// A name, or `-` for none.
+pub fn name_after(alloc: Global, call: &mut Words<'_>) -> Option<Option<Name>> {
+    let name = name(alloc, call)?;
+    if name.as_str() == "-" {
+        return Some(None);
+    }
+    Some(Some(name))
+}
+
+/// A session: its login name and its number.
+pub fn session(alloc: Global, call: &mut Words<'_>) -> Option<Session> {
+    let name = name(alloc, call)?;
+    let conn = ConnNo(call.number()?);
+    Some(Session { name, conn })
+}
+
+/// So many bytes 7.
+pub fn bytes(alloc: Global, call: &mut Words<'_>) -> Option<Blob> {
+    let len = call.small()?;
+    Some(Blob::from_vec(vec![in alloc; 7u8; len as usize].ok()?))
+}
+
+/// The bytes of hexadecimal digits.
+pub fn digits(alloc: Global, call: &mut Words<'_>) -> Option<Blob> {
+    let bytes = dk_rows::bytes::read(alloc, call.word()?)?;
+    Some(Blob::from_vec(bytes))
+}
+
+pub fn text(alloc: Global, text: &str) -> Option<String> {
+    String::from_str(alloc, text).ok()
+}
+
+pub fn refused(alloc: Global, refusal: Refusal) -> Option<String> {
+    format!(in alloc; "{refusal:?}").ok()
+}
+
+pub fn done(alloc: Global, answer: Result<(), Refusal>) -> Option<String> {
+    match answer {
+        Ok(()) => text(alloc, "ok"),
+        Err(refusal) => refused(alloc, refusal),
+    }
+}
+
+pub fn is(alloc: Global, answer: Result<bool, Refusal>) -> Option<String> {
+    match answer {
+        Ok(true) => text(alloc, "yes"),
+        Ok(false) => text(alloc, "no"),
+        Err(refusal) => refused(alloc, refusal),
+    }
+}
+
+pub fn id_text(alloc: Global, id: ObjectId) -> Option<String> {
+    let (run, k) = (id.run.0, id.k);
+    format!(in alloc; "{run}.{k}").ok()
+}
+
+pub fn key_text(alloc: Global, key: TaskKey) -> Option<String> {
+    let TaskKey { run, k } = key;
+    id_text(alloc, ObjectId { run, k })
+}
+
+/// What was made or found, or the refusal.
+pub fn an_id(alloc: Global, answer: Result<ObjectId, Refusal>) -> Option<String> {
+    match answer {
+        Ok(id) => id_text(alloc, id),
+        Err(refusal) => refused(alloc, refusal),
+    }
+}
+
+pub fn a_key(alloc: Global, answer: Result<TaskKey, Refusal>) -> Option<String> {
+    match answer {
+        Ok(key) => key_text(alloc, key),
+        Err(refusal) => refused(alloc, refusal),
+    }
+}
+
+pub fn a_name(alloc: Global, answer: Result<Option<Name>, Refusal>) -> Option<String> {
+    match answer {
+        Ok(Some(name)) => text(alloc, name.as_str()),
+        Ok(None) => text(alloc, "none"),
+        Err(refusal) => refused(alloc, refusal),
+    }
+}

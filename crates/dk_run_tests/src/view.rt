@@ -1,0 +1,35 @@
+//! A view that counts how often it is asked.
+
+use dk_txn::{ListView, View};
+use dk_types::{Item, NoMemory, Read};
+
+/// A list that answers, and how often it did.
+#[derive(Drop)]
+pub struct Counting {
+    list: ListView,
+    asked: u64,
+}
+
+impl Counting {
+    pub fn new(reads: Vec<(Item, Read)>) -> Counting {
+        Counting {
+            list: ListView::new(reads),
+            asked: 0,
+        }
+    }
+
+    pub fn asked(&self) -> u64 {
+        self.asked
+    }
+}
+
+impl View for Counting {
+    ghost use Rattle.dk_txn.specs.Sights.{steady};
+
+    ghost sights = { steady (λ view item read. Unit {0}) };
+
+    fn read(&mut self, item: &Item) -> Result<Read, NoMemory> {
+        self.asked = self.asked.saturating_add(1);
+        self.list.read(item)
+    }
+}
