@@ -13,7 +13,7 @@ use Rattle.dk_model.specs.Runs.{give}
 use Rattle.dk_model.specs.Validity.{IsValid, next_of}
 use Rattle.dk_model.proofs.Acts.{lawful_rules, lawful_done}
 use Rattle.dk_model.proofs.Maps.{not_both}
-use Rattle.dk_durable.specs.Listings.{world_of}
+use Rattle.dk_core.specs.Listings.{world_of}
 use Rattle.dk_core.specs.declared.world.Core.{Core}
 use Rattle.dk_core.specs.Cores.{StandsFor, IsStanding}
 

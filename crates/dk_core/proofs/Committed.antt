@@ -33,10 +33,10 @@ use Rattle.dk_tasks.proofs.Durable.{get-durable}
 use Rattle.dk_overlay.specs.declared.finished.Finished.{Finished}
 use Rattle.dk_overlay.specs.Finishes.{told}
 use Rattle.dk_connections.specs.Linked.{Shown, all_of, IsSwept, KeepsMarksBut}
-use Rattle.dk_durable.specs.StampedWorlds.{Stamped, Room, with_room, durable_of, seen_now}
-use Rattle.dk_durable.specs.Changes.{Stands}
-use Rattle.dk_durable.specs.Commits.{CommitsSteps, ComesTo, claimed_at}
-use Rattle.dk_durable.proofs.LawfulSteps.{steps_from}
+use Rattle.dk_core.specs.StampedWorlds.{Stamped, Room, with_room, durable_of, seen_now}
+use Rattle.dk_core.specs.Changes.{Stands}
+use Rattle.dk_core.specs.Commits.{CommitsSteps, ComesTo, claimed_at}
+use Rattle.dk_core.proofs.LawfulSteps.{steps_from}
 use Rattle.dk_core.specs.declared.world.Core.{Core}
 use Rattle.dk_core.specs.declared.claimed.Claimed.{Claimed}
 use Rattle.dk_core.specs.Claiming.{Claiming, without_run}

@@ -16,7 +16,7 @@ use Rattle.dk_tasks.specs.Tasks.{Kept, with_claim, changed_at}
 use Rattle.dk_connections.specs.Linked.{Linked, change, change_some, released, with_turn, KeepsMarksBut}
 use Rattle.dk_connections.proofs.Changes.{get-change}
 use Rattle.dk_connections.proofs.Found.{tied, conn_tied, conn_is}
-use Rattle.dk_durable.proofs.MapFacts.{get-Changed}
+use Rattle.dk_core.proofs.MapFacts.{get-Changed}
 use Rattle.dk_core.proofs.Tracked.{InputClaimed, TaskClaimed, TaskFreed}
 
 -- what a job's test for connections says, by the connection that the job is of

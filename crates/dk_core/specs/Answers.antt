@@ -22,8 +22,8 @@ use Rattle.dk_overlay.specs.Finishes.{told}
 use Rattle.dk_connections.specs.declared.answers.PostRefused.{PostRefused}
 use Rattle.dk_connections.specs.declared.answers.PostRefused.TheVariants as post_refused
 use Rattle.dk_connections.specs.declared.answers.Handed.{Handed}
-use Rattle.dk_durable.specs.Changes.{Stands, IsFirstChanged}
-use Rattle.dk_durable.specs.Rooms.{HasRoom}
+use Rattle.dk_core.specs.Changes.{Stands, IsFirstChanged}
+use Rattle.dk_core.specs.Rooms.{HasRoom}
 use Rattle.dk_core.specs.declared.world.Core.{Core}
 use Rattle.dk_core.specs.declared.claimed.Claimed.{Claimed}
 use Rattle.dk_core.specs.declared.answers.ConnectRefused.{ConnectRefused}

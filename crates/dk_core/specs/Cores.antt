@@ -19,7 +19,7 @@ use Rattle.dk_model.specs.Sights.{stamp}
 use Rattle.dk_model.specs.Lawful.{AreLawful, IsWithinLimits}
 use Rattle.dk_tasks.specs.Tasks.{Kept}
 use Rattle.dk_connections.specs.Linked.{Linked, all_of, IsSwept}
-use Rattle.dk_durable.specs.StampedWorlds.{durable_of, HasStamps}
+use Rattle.dk_core.specs.StampedWorlds.{durable_of, HasStamps}
 use Rattle.dk_core.specs.declared.world.Core.{Core}
 use Rattle.dk_core.specs.declared.claimed.Claimed.{Claimed}
 
