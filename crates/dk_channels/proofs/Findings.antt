@@ -9,7 +9,7 @@ use Rattle.dk_types.specs.declared.job.Session.{Session}
 use Rattle.dk_types.specs.declared.item.Item.{Item}
 use Rattle.dk_types.specs.declared.item.Read.{Read}
 use Rattle.dk_types.specs.declared.fault.AppFault.TheVariants.{Refused}
-use Rattle.dk_model.specs.declared.mode.Mode.{Mode}
+use Rattle.dk_types.specs.declared.mode.Mode.{Mode}
 use Rattle.dk_model.specs.declared.records.SessionRecord.{SessionRecord}
 use Rattle.dk_model.specs.declared.records.ChannelRecord.{ChannelRecord}
 use Rattle.dk_model.specs.DurableWorlds.{DurableWorld, Agrees}
@@ -17,7 +17,8 @@ use Rattle.dk_model.specs.Runs as act
 use Rattle.dk_model.specs.Runs.{Run, Act}
 use Rattle.dk_model.specs.Records.{CHANNEL_KIND, session_of, session_name, channel_of, channel_name}
 use Rattle.dk_model.specs.Platforms.{channel_under, record_if_connected, drop_channel}
-use Rattle.dk_overlay.specs.Logged.{Logged, current}
+use Rattle.dk_overlay.specs.Logged.{Logged}
+use Rattle.dk_txn.specs.Current.{current}
 use Rattle.dk_txn.specs.declared.refusal.Refusal.{Refusal}
 use Rattle.dk_txn.specs.declared.refusal.Refusal.TheVariants as refusal
 use Rattle.dk_txn.specs.declared.txn.Txn.{Txn}

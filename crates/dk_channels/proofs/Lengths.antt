@@ -8,16 +8,16 @@ use Rattle.std.proofs.lemmas.Bool.{eqb-true, ltb-false, le-ltb}
 use Rattle.std.proofs.lemmas.List.Filters.{sum_by-filter_both}
 use Rattle.std.proofs.lemmas.List.Sums.{sum_by-cons}
 use Rattle.dk_types.specs.declared.number.ConnNo.{ConnNo}
-use Rattle.dk_wire.specs.declared.refused.WireRefused.{WireRefused}
-use Rattle.dk_wire.specs.declared.refused.WireRefused.TheVariants.{BadTag, Extra}
-use Rattle.dk_wire.specs.Rest.{Rest}
-use Rattle.dk_wire.specs.Fields.{u64_spelling, name_spelling}
-use Rattle.dk_wire.specs.Reading.{◌>>=◌, bytes_at, number_at, text_of, u8_at, u32_at, u64_at, name_at, end_at}
-use Rattle.dk_wire.specs.Payload.{placed, next_u32, next_u64, next_name, next_end, whole}
-use Rattle.dk_wire.specs.Lists.{list_spelling, items_at, list_at}
+use Rattle.dk_types.specs.declared.refused.WireRefused.{WireRefused}
+use Rattle.dk_types.specs.declared.refused.WireRefused.TheVariants.{BadTag, Extra}
+use Rattle.dk_types.specs.Rest.{Rest}
+use Rattle.dk_types.specs.Fields.{u64_spelling, name_spelling}
+use Rattle.dk_types.specs.Reading.{◌>>=◌, bytes_at, number_at, text_of, u8_at, u32_at, u64_at, name_at, end_at}
+use Rattle.dk_types.specs.Payload.{placed, next_u32, next_u64, next_name, next_end, whole}
+use Rattle.dk_types.specs.Lists.{list_spelling, items_at, list_at}
 use Rattle.dk_wire.proofs.LengthLaws.{length-u64, length-name, length-list}
-use Rattle.dk_wire.proofs.FieldLaws.{bytes_take}
-use Rattle.dk_wire.proofs.Steps.{bind_ok, guard_ok, admit_ok, ok_is}
+use Rattle.dk_types.proofs.FieldLaws.{bytes_take}
+use Rattle.dk_types.proofs.Steps.{bind_ok, guard_ok, admit_ok, ok_is}
 use Rattle.dk_model.specs.declared.records.SessionRecord.{SessionRecord}
 use Rattle.dk_model.specs.Runs.{is_too_long}
 use Rattle.dk_model.specs.Records.{session_bytes, session_of, next_session}

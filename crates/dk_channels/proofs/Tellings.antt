@@ -18,7 +18,8 @@ use Rattle.dk_model.specs.Runs.{Run, Act, and_then, give, refuse, carry_on}
 use Rattle.dk_model.specs.Records.{SESSION_KIND, CHANNEL_KIND, session_of, channel_of, session_name, channel_name, session_bytes, channel_bytes}
 use Rattle.dk_model.specs.Platforms as platform
 use Rattle.dk_model.specs.Platforms.{platform_bound, channel_under, session_under, own_record, send_each, save_both}
-use Rattle.dk_overlay.specs.Logged.{Logged, current}
+use Rattle.dk_overlay.specs.Logged.{Logged}
+use Rattle.dk_txn.specs.Current.{current}
 use Rattle.dk_txn.specs.declared.refusal.Refusal.{Refusal}
 use Rattle.dk_txn.specs.declared.refusal.Refusal.TheVariants as refusal
 use Rattle.dk_txn.specs.declared.txn.Txn.{Txn}

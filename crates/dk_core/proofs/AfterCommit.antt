@@ -18,7 +18,7 @@ use Rattle.dk_types.specs.declared.item.Seen.TheVariants as sight
 use Rattle.dk_types.specs.declared.durable.Effects.{Effects}
 use Rattle.dk_types.specs.Names.{bytes_cmp}
 use Rattle.dk_map.proofs.Values.{get_values}
-use Rattle.dk_model.specs.Keys.{id_cmp, key_cmp}
+use Rattle.dk_types.specs.Keys.{id_cmp, key_cmp}
 use Rattle.dk_model.specs.DurableWorlds.{DurableWorld, Task, task_answer, last_with}
 use Rattle.dk_model.specs.Effects.{same_id, same_object, same_value, set_in, new_in, effects, after, pending_of, without_keys, with_moved}
 use Rattle.dk_model.specs.Sights.{same_item, same_key, stamped_by, seen_at}

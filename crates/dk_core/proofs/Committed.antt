@@ -30,8 +30,8 @@ use Rattle.dk_laws.proofs.SoundHistories.{claims_ready}
 use Rattle.dk_laws.proofs.Stamps.{seen_alike}
 use Rattle.dk_tasks.specs.Tasks.{Kept}
 use Rattle.dk_tasks.proofs.Durable.{get-durable}
-use Rattle.dk_overlay.specs.declared.finished.Finished.{Finished}
-use Rattle.dk_overlay.specs.Finishes.{told}
+use Rattle.dk_txn.specs.declared.finished.Finished.{Finished}
+use Rattle.dk_txn.specs.Finishes.{told}
 use Rattle.dk_connections.specs.Linked.{Shown, all_of, IsSwept, KeepsMarksBut}
 use Rattle.dk_core.specs.StampedWorlds.{Stamped, Room, with_room, durable_of, seen_now}
 use Rattle.dk_core.specs.Changes.{Stands}

@@ -3,7 +3,7 @@ use Rattle.std.proofs.Common.{◌≡◌, sym, ap, ◌∙◌, Bool, true, false, 
 use Rattle.std.specs.Ordering.{eq_by_cmp}
 use Rattle.std.specs.FinMap.{FinMap, get, insert, get-insert, get-empty, empty}
 use Rattle.dk_types.specs.declared.number.ConnNo.{ConnNo}
-use Rattle.dk_model.specs.Keys.{conn_cmp}
+use Rattle.dk_types.specs.Keys.{conn_cmp}
 use Rattle.dk_model.specs.Worlds.{Connection}
 use Rattle.dk_model.proofs.Maps.{conns_total, some_is, not_both}
 use Rattle.dk_connections.specs.Linked.{Linked, unclaimed, IsSwept}

@@ -12,7 +12,7 @@ use Rattle.dk_types.specs.declared.item.Item.TheVariants as ask
 use Rattle.dk_types.specs.declared.durable.Pending.{Pending}
 use Rattle.dk_map.specs.Values.{values_with}
 use Rattle.dk_map.proofs.Values.{values-insert, values-remove}
-use Rattle.dk_model.specs.Keys.{id_cmp, key_cmp}
+use Rattle.dk_types.specs.Keys.{id_cmp, key_cmp}
 use Rattle.dk_model.specs.DurableWorlds.{Task, with_value}
 use Rattle.dk_model.specs.Effects.{with_set, without_keys, task_of, moved_at, with_moved}
 use Rattle.dk_model.proofs.Maps.{ids_total, exact_ids, keys_total, exact_keys, names_total, exact_names}

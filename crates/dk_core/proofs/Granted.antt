@@ -13,7 +13,7 @@ use Rattle.dk_types.specs.declared.event.ClaimReply.TheVariants as reply
 use Rattle.dk_types.specs.declared.limits.TheConstants.{NUMBERS_END}
 use Rattle.dk_model.specs.declared.waiting.Waiting.{Waiting}
 use Rattle.dk_model.specs.declared.waiting.Waiting.TheVariants as waits
-use Rattle.dk_model.specs.Keys.{key_cmp}
+use Rattle.dk_types.specs.Keys.{key_cmp}
 use Rattle.dk_model.specs.DurableWorlds.{DurableWorld}
 use Rattle.dk_model.specs.Worlds.{Claim}
 use Rattle.dk_model.specs.Deliveries.{conn_of, for_conn, without_done}

@@ -8,7 +8,7 @@ use Rattle.dk_types.specs.declared.number.ConnNo.{ConnNo}
 use Rattle.dk_types.specs.declared.number.TaskKey.{TaskKey}
 use Rattle.dk_types.specs.declared.job.Job.{Job}
 use Rattle.dk_types.specs.declared.job.Job.TheVariants as job
-use Rattle.dk_model.specs.Keys.{key_cmp, conn_cmp}
+use Rattle.dk_types.specs.Keys.{key_cmp, conn_cmp}
 use Rattle.dk_model.specs.Deliveries.{conn_of}
 use Rattle.dk_model.specs.Picks.{is_of}
 use Rattle.dk_model.proofs.Maps.{keys_total, exact_keys, some_is}

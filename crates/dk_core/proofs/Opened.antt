@@ -7,7 +7,7 @@ use Rattle.dk_types.specs.declared.item.Item.{Item}
 use Rattle.dk_types.specs.declared.item.Read.{Read}
 use Rattle.dk_types.specs.declared.job.Job.{Job}
 use Rattle.dk_types.specs.declared.event.Event.{Event}
-use Rattle.dk_model.specs.Keys.{run_cmp}
+use Rattle.dk_types.specs.Keys.{run_cmp}
 use Rattle.dk_model.specs.DurableWorlds.{DurableWorld, answer}
 use Rattle.dk_model.specs.Validity.{IsValid, next_of}
 use Rattle.dk_model.specs.Worlds.{World}

@@ -13,7 +13,7 @@ use Rattle.dk_types.specs.declared.durable.Pending.{Pending}
 use Rattle.dk_types.specs.declared.durable.Durable.{Durable}
 use Rattle.dk_types.specs.Names.{bytes_cmp}
 use Rattle.dk_map.proofs.Values.{values-empty}
-use Rattle.dk_model.specs.Keys.{id_cmp, key_cmp}
+use Rattle.dk_types.specs.Keys.{id_cmp, key_cmp}
 use Rattle.dk_model.specs.Effects.{with_set, task_of}
 use Rattle.dk_model.specs.Sights.{seen_at}
 use Rattle.dk_model.proofs.Maps.{ids_total, exact_ids, keys_total, exact_keys, names_total, exact_names, get-insert_cases, not_both}

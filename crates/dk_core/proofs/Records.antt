@@ -8,7 +8,7 @@ use Rattle.dk_types.specs.declared.number.ObjectId.{ObjectId}
 use Rattle.dk_types.specs.declared.object.Object.{Object}
 use Rattle.dk_map.proofs.Values.{get_values}
 use Rattle.dk_model.specs.declared.records.SessionRecord.{SessionRecord}
-use Rattle.dk_wire.specs.Payload.{whole}
+use Rattle.dk_types.specs.Payload.{whole}
 use Rattle.dk_wire.proofs.WholeLaws.{whole_again}
 use Rattle.dk_model.specs.Records.{SESSION_KIND, session_bytes, session_of, next_session, value_of}
 use Rattle.dk_model.specs.Openings.{record_in}

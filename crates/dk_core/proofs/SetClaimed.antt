@@ -4,7 +4,7 @@ use Rattle.std.specs.FinMap.{FinMap, same_map}
 use Rattle.dk_types.specs.declared.number.TaskKey.{TaskKey}
 use Rattle.dk_types.specs.declared.item.Item.{Item}
 use Rattle.dk_types.specs.declared.item.Item.TheVariants as ask
-use Rattle.dk_model.specs.Keys.{key_cmp}
+use Rattle.dk_types.specs.Keys.{key_cmp}
 use Rattle.dk_model.proofs.Maps.{keys_total, exact_keys}
 use Rattle.dk_tasks.specs.Tasks.{Kept, with_claim, changed_at, durable_tasks}
 use Rattle.dk_tasks.proofs.Durable.{get-durable}

@@ -8,7 +8,7 @@ use Rattle.std.specs.FinMap.{FinMap, get, insert, empty, entries, contains_key, 
 use Rattle.dk_types.specs.declared.number.ConnNo.{ConnNo}
 use Rattle.dk_types.specs.declared.number.ObjectId.{ObjectId}
 use Rattle.dk_types.specs.declared.job.Session.{Session}
-use Rattle.dk_model.specs.Keys.{conn_cmp}
+use Rattle.dk_types.specs.Keys.{conn_cmp}
 use Rattle.dk_model.specs.DurableWorlds.{DurableWorld}
 use Rattle.dk_model.specs.Deliveries.{Connections}
 use Rattle.dk_model.specs.Openings.{counting, ended_connection, first_of_each, has_number, login_of, session_at, with_sessions}

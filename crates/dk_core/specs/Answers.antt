@@ -17,8 +17,8 @@ use Rattle.dk_model.specs.Events.{Meaning}
 use Rattle.dk_model.specs.Openings.{opening}
 use Rattle.dk_model.specs.Lawful.{AreLawful}
 use Rattle.dk_model.specs.Finishes.{IsHonest}
-use Rattle.dk_overlay.specs.declared.finished.Finished.{Finished}
-use Rattle.dk_overlay.specs.Finishes.{told}
+use Rattle.dk_txn.specs.declared.finished.Finished.{Finished}
+use Rattle.dk_txn.specs.Finishes.{told}
 use Rattle.dk_connections.specs.declared.answers.PostRefused.{PostRefused}
 use Rattle.dk_connections.specs.declared.answers.PostRefused.TheVariants as post_refused
 use Rattle.dk_connections.specs.declared.answers.Handed.{Handed}

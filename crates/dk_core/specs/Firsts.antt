@@ -3,7 +3,7 @@ use Rattle.std.specs.Prelude.{◌≡◌, false, Option, None, Some, if◌then◌
 use Rattle.std.specs.FinMap.{FinMap, get, insert, contains_key}
 use Rattle.dk_types.specs.declared.number.ConnNo.{ConnNo}
 use Rattle.dk_types.specs.declared.job.Session.{Session}
-use Rattle.dk_model.specs.Keys.{conn_cmp}
+use Rattle.dk_types.specs.Keys.{conn_cmp}
 use Rattle.dk_model.specs.Deliveries.{Connections}
 use Rattle.dk_model.specs.Openings.{ended_connection}
 use Rattle.dk_connections.specs.Linked.{Linked, IsSwept}

@@ -8,7 +8,7 @@ use Rattle.dk_types.specs.declared.item.Item.{Item}
 use Rattle.dk_types.specs.declared.item.Item.TheVariants as ask
 use Rattle.dk_types.specs.declared.durable.Pending.{Pending}
 use Rattle.dk_types.specs.declared.durable.Effects.{Effects}
-use Rattle.dk_model.specs.Keys.{id_cmp, key_cmp}
+use Rattle.dk_types.specs.Keys.{id_cmp, key_cmp}
 use Rattle.dk_model.specs.DurableWorlds.{last_with}
 use Rattle.dk_model.specs.Effects.{with_set, without_keys, task_of}
 use Rattle.dk_objects.specs.StampedObjects as objects

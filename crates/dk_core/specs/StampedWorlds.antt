@@ -11,7 +11,7 @@ use Rattle.dk_types.specs.declared.item.Item.TheVariants as ask
 use Rattle.dk_types.specs.declared.item.Seen.{Seen}
 use Rattle.dk_types.specs.declared.item.Seen.TheVariants as sight
 use Rattle.dk_types.specs.declared.item.Read.{Read}
-use Rattle.dk_model.specs.Keys.{id_cmp, key_cmp}
+use Rattle.dk_types.specs.Keys.{id_cmp, key_cmp}
 use Rattle.dk_model.specs.DurableWorlds.{DurableWorld, next_name, answer}
 use Rattle.dk_model.specs.Sights.{seen_in}
 use Rattle.dk_objects.specs.StampedObjects.{id_code, object_code, objects_of}

@@ -5,7 +5,7 @@ use Rattle.dk_types.specs.declared.job.Input.{Input}
 use Rattle.dk_types.specs.declared.event.Event.{Event}
 use Rattle.dk_types.specs.declared.event.Event.TheVariants as event
 use Rattle.dk_types.specs.declared.event.PostReply.TheVariants as posted
-use Rattle.dk_overlay.specs.declared.finished.Finished.{Finished}
+use Rattle.dk_txn.specs.declared.finished.Finished.{Finished}
 use Rattle.dk_connections.specs.declared.answers.PostRefused.{PostRefused}
 use Rattle.dk_connections.specs.declared.answers.PostRefused.TheVariants as post_refused
 use Rattle.dk_model.specs.Events.{Meaning}

@@ -1,8 +1,8 @@
 -- A counter is read exactly.
 use Rattle.std.proofs.Common.{Option, None, refl}
-use Rattle.dk_wire.specs.Exact.{IsExact}
-use Rattle.dk_wire.proofs.Composing.{last_exact}
-use Rattle.dk_wire.proofs.NextLaws.{next_u64_exact}
+use Rattle.dk_types.specs.Exact.{IsExact}
+use Rattle.dk_types.proofs.Composing.{last_exact}
+use Rattle.dk_types.proofs.NextLaws.{next_u64_exact}
 use Rattle.dk_refs.specs.Managing.{ReadsExactly, reads_exactly}
 use Rattle.dk_demos.specs.declared.counter.Counter.{Counter}
 use Rattle.dk_demos.specs.Counting.{IsCounter, counter_bytes, next_counter, counter_of}

@@ -1,9 +1,9 @@
 -- A counter: how often it was raised, as the bytes of a managed object.
 use Rattle.std.specs.Prelude.{ℕ, ◌+◌, ◌-◌, ◌^◌, Option, List, min, Result, Ok}
-use Rattle.dk_wire.specs.Rest.{Rest}
-use Rattle.dk_wire.specs.Fields.{IsU64, u64_spelling}
-use Rattle.dk_wire.specs.Reading.{◌>>=◌}
-use Rattle.dk_wire.specs.Payload.{next_u64}
+use Rattle.dk_types.specs.Rest.{Rest}
+use Rattle.dk_types.specs.Fields.{IsU64, u64_spelling}
+use Rattle.dk_types.specs.Reading.{◌>>=◌}
+use Rattle.dk_types.specs.Payload.{next_u64}
 use Rattle.dk_model.specs.Records.{value_of}
 use Rattle.dk_demos.specs.declared.counter.Counter.{Counter}
 

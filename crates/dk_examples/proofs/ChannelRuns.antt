@@ -11,16 +11,16 @@ use Rattle.std.specs.Str.{is_utf8, chars}
 use Rattle.std.specs.Str.Lossy.{utf8_valid_len}
 use lib.Utf8.{encode}
 use Rattle.dk_types.specs.declared.object.Object.{Object}
-use Rattle.dk_wire.specs.Fields.{u8_spelling, u64_spelling, u32_spelling, name_spelling}
-use Rattle.dk_wire.specs.Payload.{next_u8, next_u32, next_u64, next_name, next_end}
-use Rattle.dk_wire.specs.Reading.{u8_at, u32_at, u64_at, name_at, end_at}
+use Rattle.dk_types.specs.Fields.{u8_spelling, u64_spelling, u32_spelling, name_spelling}
+use Rattle.dk_types.specs.Payload.{next_u8, next_u32, next_u64, next_name, next_end}
+use Rattle.dk_types.specs.Reading.{u8_at, u32_at, u64_at, name_at, end_at}
 use Rattle.dk_model.specs.declared.records.ChannelRecord.{ChannelRecord}
 use Rattle.dk_model.specs.declared.records.Delivery.TheVariants.{Reliable}
-use Rattle.dk_model.specs.declared.mode.Mode.TheVariants.{Platform, Game}
+use Rattle.dk_types.specs.declared.mode.Mode.TheVariants.{Platform, Game}
 use Rattle.dk_model.specs.Keys.{id_cmp}
 use Rattle.dk_model.specs.Runs.{Run, begun, give, and_then, within, get, create, save, remove as remove_object, bind, unbind, send}
 use Rattle.dk_model.specs.Records.{session_of, next_session, channel_of, next_channel, next_member}
-use Rattle.dk_wire.specs.Lists.{list_spelling, items_at, list_at}
+use Rattle.dk_types.specs.Lists.{list_spelling, items_at, list_at}
 use Rattle.dk_model.specs.References.{get_as}
 use Rattle.dk_model.specs.Platforms.{is_connected, open_record, new_record, close_record, create_channel, new_channel, join, leave, channel_send}
 use Rattle.dk_examples.specs.Worked.{run, conn, id, object, in_eight, in_four, listed, nothing}

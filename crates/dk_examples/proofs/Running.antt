@@ -17,7 +17,7 @@ use Rattle.dk_types.specs.declared.fault.Outcome.TheVariants as outcome
 use Rattle.dk_types.specs.declared.job.Job.{Job}
 use Rattle.dk_types.specs.declared.limits.TheConstants.{EFFECTS_MOST_BYTES}
 use Rattle.dk_types.specs.Names.{bytes_cmp}
-use Rattle.dk_model.specs.declared.mode.Mode.TheVariants.{Platform, Game}
+use Rattle.dk_types.specs.declared.mode.Mode.TheVariants.{Platform, Game}
 use Rattle.dk_model.specs.Keys.{id_cmp, key_cmp}
 use Rattle.dk_model.specs.DurableWorlds.{DurableWorld, Task}
 use Rattle.dk_model.specs.Effects.{same_id, same_object, same_value, pending_of, is_moved, moved_in, effects, effects_length}

@@ -5,12 +5,12 @@ use Rattle.dk_types.specs.declared.fault.AppFault.TheVariants as fault
 use Rattle.dk_types.specs.declared.job.Job.TheVariants as job
 use Rattle.dk_types.specs.declared.job.Out.TheVariants as out
 use Rattle.dk_types.specs.declared.item.Item.TheVariants as ask
-use Rattle.dk_wire.specs.Fields.{u64_spelling, u32_spelling}
-use Rattle.dk_wire.specs.Payload.{next_u32, next_u64, next_end}
-use Rattle.dk_wire.specs.Reading.{u32_at, u64_at, end_at}
+use Rattle.dk_types.specs.Fields.{u64_spelling, u32_spelling}
+use Rattle.dk_types.specs.Payload.{next_u32, next_u64, next_end}
+use Rattle.dk_types.specs.Reading.{u32_at, u64_at, end_at}
 use Rattle.dk_model.specs.Runs.{Run, begun, give, and_then, within, get, create, remove as remove_object, bind, unbind, send}
 use Rattle.dk_model.specs.Records.{session_of, next_session}
-use Rattle.dk_wire.specs.Lists.{list_spelling, items_at, list_at}
+use Rattle.dk_types.specs.Lists.{list_spelling, items_at, list_at}
 use Rattle.dk_model.specs.References.{get_as}
 use Rattle.dk_model.specs.Platforms.{is_connected, open_record, new_record, close_record}
 use Rattle.dk_examples.specs.Worked.{run, conn, id, accepting, giving_up, listed, nothing}

@@ -7,11 +7,11 @@ use lib.Utf8.{encode}
 use Rattle.dk_types.specs.declared.job.Job.TheVariants as job
 use Rattle.dk_types.specs.declared.job.Out.TheVariants as out
 use Rattle.dk_types.specs.declared.item.Item.TheVariants as ask
-use Rattle.dk_wire.specs.Fields.{u8_spelling, u64_spelling, u32_spelling, name_spelling, id_spelling}
-use Rattle.dk_wire.specs.Payload.{next_u8, next_u32, next_name, next_id, next_end}
-use Rattle.dk_wire.specs.Reading.{u8_at, u32_at, name_at, id_at, end_at}
-use Rattle.dk_wire.specs.Lists.{list_spelling, items_at, list_at}
-use Rattle.dk_model.specs.declared.mode.Mode.TheVariants.{Game}
+use Rattle.dk_types.specs.Fields.{u8_spelling, u64_spelling, u32_spelling, name_spelling, id_spelling}
+use Rattle.dk_types.specs.Payload.{next_u8, next_u32, next_name, next_id, next_end}
+use Rattle.dk_types.specs.Reading.{u8_at, u32_at, name_at, id_at, end_at}
+use Rattle.dk_types.specs.Lists.{list_spelling, items_at, list_at}
+use Rattle.dk_types.specs.declared.mode.Mode.TheVariants.{Game}
 use Rattle.dk_model.specs.DurableWorlds.{DurableWorld}
 use Rattle.dk_model.specs.Runs.{begun, give, and_then, within, get, create, mark, save, remove as remove_object, bound, bind, unbind, send}
 use Rattle.dk_model.specs.References.{get_as, get_for_update_as, save_as}

@@ -5,9 +5,9 @@ use Rattle.dk_types.specs.declared.job.Job.TheVariants as job
 use Rattle.dk_types.specs.declared.item.Item.TheVariants as ask
 use Rattle.dk_types.specs.declared.fault.AppFault.{AppFault}
 use Rattle.dk_types.specs.declared.fault.AppFault.TheVariants as fault
-use Rattle.dk_wire.specs.Fields.{u64_spelling}
-use Rattle.dk_wire.specs.Payload.{next_u64, next_end}
-use Rattle.dk_wire.specs.Reading.{u64_at, end_at}
+use Rattle.dk_types.specs.Fields.{u64_spelling}
+use Rattle.dk_types.specs.Payload.{next_u64, next_end}
+use Rattle.dk_types.specs.Reading.{u64_at, end_at}
 use Rattle.dk_model.specs.Runs.{Run, begun, give, and_then, within, get, create, save, bound, bind, schedule_periodic, cancel}
 use Rattle.dk_model.specs.Steps.{own_task}
 use Rattle.dk_model.specs.Records.{value_of}

@@ -4,8 +4,8 @@ use Rattle.dk_types.specs.declared.number.ObjectId.{ObjectId}
 use Rattle.dk_types.specs.declared.number.TaskKey.{TaskKey}
 use Rattle.dk_types.specs.declared.job.Job.{Job}
 use Rattle.dk_types.specs.declared.job.Job.TheVariants as job
-use Rattle.dk_wire.specs.Fields.{u64_spelling}
-use Rattle.dk_wire.specs.Payload.{next_u64}
+use Rattle.dk_types.specs.Fields.{u64_spelling}
+use Rattle.dk_types.specs.Payload.{next_u64}
 use Rattle.dk_model.specs.Runs.{Act, give, and_then, create, save, bound, bind, schedule_periodic, cancel}
 use Rattle.dk_model.specs.Records.{value_of}
 use Rattle.dk_model.specs.References.{get_as}

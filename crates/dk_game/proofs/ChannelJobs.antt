@@ -17,7 +17,8 @@ use Rattle.dk_model.specs.References.{get_as}
 use Rattle.dk_model.specs.Runs.{Run, Act, and_then, carry_on, give, found, refuse, WRONG_KIND, BAD_BYTES, NAME_NOT_BOUND}
 use Rattle.dk_model.specs.Runs as act
 use Rattle.dk_model.specs.Steps.{channel_found, channel_message, heard}
-use Rattle.dk_overlay.specs.Logged.{Logged, current}
+use Rattle.dk_overlay.specs.Logged.{Logged}
+use Rattle.dk_txn.specs.Current.{current}
 use Rattle.dk_overlay.proofs.Tests.{Some_injective}
 use Rattle.dk_txn.specs.declared.refusal.Refusal.{Refusal}
 use Rattle.dk_txn.specs.declared.refusal.Refusal.TheVariants as refusal

@@ -10,10 +10,10 @@ use Rattle.dk_types.specs.declared.fault.NoMemory.{NoMemory}
 use Rattle.dk_model.specs.Events.{Meaning}
 use Rattle.dk_model.specs.Finishes.{KeepsLaw}
 use Rattle.dk_model.specs.Lawful.{IsJob}
-use Rattle.dk_overlay.specs.declared.finished.Finished.{Finished}
+use Rattle.dk_txn.specs.declared.finished.Finished.{Finished}
 use Rattle.dk_overlay.specs.Logged.{Logged, nothing_done}
-use Rattle.dk_overlay.specs.Finishes.{told}
-use Rattle.dk_overlay.specs.Knowing.{JobFits}
+use Rattle.dk_txn.specs.Finishes.{told}
+use Rattle.dk_txn.specs.Knowing.{JobFits}
 use Rattle.dk_txn.specs.Law.{IsBegun}
 
 -- a transaction as it was begun

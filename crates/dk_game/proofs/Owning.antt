@@ -15,8 +15,9 @@ use Rattle.dk_model.specs.DurableWorlds.{DurableWorld, Task, Agrees}
 use Rattle.dk_model.specs.Runs.{Run}
 use Rattle.dk_model.specs.Steps.{own_task, own_found}
 use Rattle.dk_overlay.specs.Asked.{IsAsked}
-use Rattle.dk_overlay.specs.Knowing.{MovesOwn}
-use Rattle.dk_overlay.specs.Logged.{Logged, current, nothing_done}
+use Rattle.dk_txn.specs.Knowing.{MovesOwn}
+use Rattle.dk_overlay.specs.Logged.{Logged, nothing_done}
+use Rattle.dk_txn.specs.Current.{current}
 use Rattle.dk_txn.specs.declared.refusal.Refusal.{Refusal}
 use Rattle.dk_txn.specs.declared.txn.Txn.{Txn}
 use Rattle.dk_txn.specs.Does.{KeepsFor, DoesFor, failure}

@@ -5,14 +5,14 @@ use Rattle.dk_types.specs.declared.item.Read.{Read}
 use Rattle.dk_types.specs.declared.job.Job.{Job}
 use Rattle.dk_types.specs.declared.fault.AppFault.{AppFault}
 use Rattle.dk_types.specs.declared.fault.NoMemory.{NoMemory}
-use Rattle.dk_model.specs.declared.mode.Mode.TheVariants.{Game}
+use Rattle.dk_types.specs.declared.mode.Mode.TheVariants.{Game}
 use Rattle.dk_model.specs.DurableWorlds.{Agrees}
 use Rattle.dk_model.specs.Finishes.{KeepsLaw}
 use Rattle.dk_model.specs.Runs.{Act, within}
 use Rattle.dk_model.specs.Steps.{work}
-use Rattle.dk_overlay.specs.declared.finished.Finished.{Finished}
-use Rattle.dk_overlay.specs.Finishes.{told, TellsEnd}
-use Rattle.dk_overlay.specs.Knowing.{JobFits}
+use Rattle.dk_txn.specs.declared.finished.Finished.{Finished}
+use Rattle.dk_txn.specs.Finishes.{told, TellsEnd}
+use Rattle.dk_txn.specs.Knowing.{JobFits}
 use Rattle.dk_overlay.specs.Logged.{Logged}
 use Rattle.dk_txn.specs.declared.txn.Txn.{Txn}
 use Rattle.dk_txn.specs.Does.{DoesFor, outcome_told}

@@ -7,7 +7,7 @@ use Rattle.dk_types.specs.declared.job.Job.TheVariants as job
 use Rattle.dk_types.specs.declared.fault.AppFault.{AppFault}
 use Rattle.dk_model.specs.DurableWorlds.{DurableWorld, Agrees}
 use Rattle.dk_overlay.specs.Asked.{IsAsked}
-use Rattle.dk_overlay.specs.Knowing.{OwnIsAsked}
+use Rattle.dk_txn.specs.Knowing.{OwnIsAsked}
 use Rattle.dk_overlay.specs.Logged.{Logged}
 use Rattle.dk_txn.specs.Does.{Every, Only, outcome_told}
 use Rattle.dk_game.specs.declared.halt.Halt.{Halt}

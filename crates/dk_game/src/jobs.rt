@@ -1,9 +1,9 @@
 //! The whole of a job.
 ghost use Rattle.std.specs.Prelude.{◌≡◌, IfOk};
-ghost use Rattle.dk_model.specs.declared.mode.Mode.TheVariants as mode;
+ghost use Rattle.dk_types.specs.declared.mode.Mode.TheVariants as mode;
 ghost use Rattle.dk_model.specs.Runs.{within};
 ghost use Rattle.dk_model.specs.Steps.{of_session, work};
-ghost use Rattle.dk_overlay.specs.Knowing.{JobFits};
+ghost use Rattle.dk_txn.specs.Knowing.{JobFits};
 ghost use Rattle.dk_txn.specs.Does.{DoesFor};
 ghost use Rattle.dk_txn.specs.Law.{IsBegun};
 ghost use Rattle.dk_game.specs.Halted.{halt_fault};

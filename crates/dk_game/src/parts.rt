@@ -1,9 +1,9 @@
 //! The game's part of a job, and the occurrence of a task.
 ghost use Rattle.std.specs.Prelude.{Ok, if◌then◌else◌};
-ghost use Rattle.dk_model.specs.declared.mode.Mode.TheVariants as mode;
+ghost use Rattle.dk_types.specs.declared.mode.Mode.TheVariants as mode;
 ghost use Rattle.dk_model.specs.Runs.{within, and_then, give};
 ghost use Rattle.dk_model.specs.Steps.{own_task as own_act};
-ghost use Rattle.dk_overlay.specs.Knowing.{Fits};
+ghost use Rattle.dk_txn.specs.Knowing.{Fits};
 ghost use Rattle.dk_txn.specs.Does.{Does, DoesFor, Only};
 ghost use Rattle.dk_txn.specs.Law.{IsBegun};
 ghost use Rattle.dk_game.specs.Halted.{halt_fault};

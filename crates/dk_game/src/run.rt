@@ -5,8 +5,8 @@ ghost use Rattle.dk_types.specs.declared.item.Item.{Item};
 ghost use Rattle.dk_types.specs.declared.item.Read.{Read};
 ghost use Rattle.dk_model.specs.Finishes.{KeepsLaw};
 ghost use Rattle.dk_overlay.specs.Asked.{IsOnce};
-ghost use Rattle.dk_overlay.specs.Finishes.{told};
-ghost use Rattle.dk_overlay.specs.Knowing.{JobFits};
+ghost use Rattle.dk_txn.specs.Finishes.{told};
+ghost use Rattle.dk_txn.specs.Knowing.{JobFits};
 ghost use Rattle.dk_txn.specs.Law.{IsBegun};
 
 use crate::game::Game;

@@ -1,5 +1,5 @@
 //! Logins, messages and the ends of sessions.
-ghost use Rattle.dk_model.specs.declared.mode.Mode.TheVariants as mode;
+ghost use Rattle.dk_types.specs.declared.mode.Mode.TheVariants as mode;
 ghost use Rattle.dk_model.specs.Runs.{within};
 ghost use Rattle.dk_model.specs.Steps as step;
 ghost use Rattle.dk_txn.specs.Does.{Does};

@@ -1,6 +1,6 @@
 //! Each kind of job, of a game that tells a bystander of it, on a small world. What is sent and changed is worked by hand.
 ghost use Rattle.std.specs.Prelude.{◌<◌};
-ghost use Rattle.dk_overlay.specs.Knowing.{JobFits};
+ghost use Rattle.dk_txn.specs.Knowing.{JobFits};
 
 use crate::{Game, Halt, run_job};
 use dk_model::Rules;

@@ -7,7 +7,7 @@ use Rattle.dk_types.specs.declared.number.TaskKey.{TaskKey}
 use Rattle.dk_types.specs.declared.job.Job.{Job}
 use Rattle.dk_types.specs.declared.job.Job.TheVariants as job
 use Rattle.dk_types.specs.declared.limits.TheConstants.{PERIOD_MOST_MS}
-use Rattle.dk_model.specs.declared.mode.Mode.TheVariants.{Game}
+use Rattle.dk_types.specs.declared.mode.Mode.TheVariants.{Game}
 use Rattle.dk_model.specs.DurableWorlds.{DurableWorld, Task}
 use Rattle.dk_model.specs.Validity.{IsValid}
 use Rattle.dk_model.specs.Runs.{Run, Act, begun, within, give, and_then, carry_on, with_task}

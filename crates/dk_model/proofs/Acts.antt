@@ -5,7 +5,7 @@ use Rattle.dk_types.specs.declared.fault.AppFault.TheVariants.{Refused}
 use Rattle.dk_types.specs.declared.job.Job.{Job}
 use Rattle.dk_types.specs.declared.number.ObjectId.{ObjectId}
 use Rattle.dk_types.specs.declared.number.TaskKey.{TaskKey}
-use Rattle.dk_model.specs.declared.mode.Mode.{Mode}
+use Rattle.dk_types.specs.declared.mode.Mode.{Mode}
 use Rattle.dk_model.specs.Validity.{IsNumbered}
 use Rattle.dk_model.specs.Runs.{Run, Act, give, and_then, within, carry_on, refuse}
 use Rattle.dk_model.specs.Lawful.{GoesOn, IsFit, LeavesTasks, AlwaysGoesOn, KeepsFit, IsJob, AreLawful}

@@ -11,8 +11,8 @@ use Rattle.std.proofs.lemmas.Str.{IsUtf8-from_is_utf8, IsUtf8-append, IsUtf8-fro
 use Rattle.std.proofs.lemmas.Str.Ascii.{IsAscii-from_all}
 use Rattle.dk_types.specs.declared.number.ObjectId.{ObjectId}
 use Rattle.dk_types.specs.Names.{IsName}
-use Rattle.dk_wire.specs.Fields.{u32_spelling, u64_spelling, name_spelling, id_spelling}
-use Rattle.dk_wire.specs.Lists.{list_spelling}
+use Rattle.dk_types.specs.Fields.{u32_spelling, u64_spelling, name_spelling, id_spelling}
+use Rattle.dk_types.specs.Lists.{list_spelling}
 use Rattle.dk_model.specs.Records.{is_name_too_long}
 use Rattle.dk_model.proofs.Acts.{AreBytes}
 

@@ -8,7 +8,7 @@ use Rattle.dk_types.specs.declared.object.Object.{Object}
 use Rattle.dk_types.specs.declared.job.Out.{Out}
 use Rattle.dk_types.specs.declared.limits.TheConstants.{OBJECTS_MOST_COUNT, TASKS_MOST_COUNT}
 use Rattle.dk_types.specs.Names.{IsName}
-use Rattle.dk_model.specs.declared.mode.Mode.{Mode}
+use Rattle.dk_types.specs.declared.mode.Mode.{Mode}
 use Rattle.dk_model.specs.DurableWorlds.{Task, with_value}
 use Rattle.dk_model.specs.Validity.{IsCommitted, IsNumbered, IsObject, IsTask}
 use Rattle.dk_model.specs.Runs.{Run, with_object, with_name, with_task}

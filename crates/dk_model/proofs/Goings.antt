@@ -9,7 +9,7 @@ use Rattle.dk_types.specs.declared.object.Object.{Object}
 use Rattle.dk_types.specs.declared.job.Out.{Out}
 use Rattle.dk_types.specs.declared.item.Item.{Item}
 use Rattle.dk_types.specs.declared.item.Item.TheVariants as ask
-use Rattle.dk_model.specs.declared.mode.Mode.{Mode}
+use Rattle.dk_types.specs.declared.mode.Mode.{Mode}
 use Rattle.dk_model.specs.DurableWorlds.{Task, task_answer}
 use Rattle.dk_model.specs.Runs.{Run, with_object, with_name, with_task}
 use Rattle.dk_model.specs.Lawful.{Lacks, IsMade, GoesOn}

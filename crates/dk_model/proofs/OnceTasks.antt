@@ -6,7 +6,7 @@ use Rattle.dk_types.specs.declared.number.RunNo.{RunNo}
 use Rattle.dk_types.specs.declared.number.TaskKey.{TaskKey}
 use Rattle.dk_types.specs.declared.job.Job.{Job}
 use Rattle.dk_types.specs.declared.job.Job.TheVariants as job
-use Rattle.dk_model.specs.declared.mode.Mode.TheVariants.{Game}
+use Rattle.dk_types.specs.declared.mode.Mode.TheVariants.{Game}
 use Rattle.dk_model.specs.DurableWorlds.{DurableWorld, Task}
 use Rattle.dk_model.specs.Runs.{Run, Act, begun, give, and_then, carry_on, within}
 use Rattle.dk_model.specs.Steps.{step, work, own_found, own_task}

@@ -9,7 +9,7 @@ use Rattle.dk_types.specs.declared.job.Out.{Out}
 use Rattle.dk_types.specs.declared.job.Out.TheVariants as out
 use Rattle.dk_types.specs.declared.limits.TheConstants.{MESSAGES_MOST_COUNT}
 use Rattle.dk_types.specs.Names.{IsName}
-use Rattle.dk_model.specs.declared.mode.Mode.TheVariants.{Platform}
+use Rattle.dk_types.specs.declared.mode.Mode.TheVariants.{Platform}
 use Rattle.dk_model.specs.Runs.{Run, and_then, refuse, create, bind, is_too_long, NAME_NOT_BOUND, TOO_LONG, NAME_EXISTS}
 use Rattle.dk_model.specs.Lawful.{HasShortBody, IsFit}
 use Rattle.dk_model.specs.declared.records.SessionRecord.{SessionRecord}

@@ -4,13 +4,13 @@ use Rattle.std.specs.Result.{result_ok}
 use Rattle.std.proofs.lemmas.Bool.{cases_lt}
 use Rattle.std.proofs.lemmas.List.{get_or_past}
 use Rattle.std.proofs.lemmas.List.Elements.{All-nil, All-cons}
-use Rattle.dk_wire.specs.Rest.{Rest, IsBytes}
-use Rattle.dk_wire.specs.Reading.{◌>>=◌}
-use Rattle.dk_wire.specs.Exact.{IsExact}
-use Rattle.dk_wire.specs.Payload.{next_u32, next_end, whole, checked}
-use Rattle.dk_wire.proofs.Steps.{IsBytes-taken, bind_ok, admit_ok, ok_is}
-use Rattle.dk_wire.proofs.NextLaws.{next_u32_exact}
-use Rattle.dk_wire.specs.Lists.{items_at, list_at}
+use Rattle.dk_types.specs.Rest.{Rest, IsBytes}
+use Rattle.dk_types.specs.Reading.{◌>>=◌}
+use Rattle.dk_types.specs.Exact.{IsExact}
+use Rattle.dk_types.specs.Payload.{next_u32, next_end, whole, checked}
+use Rattle.dk_types.proofs.Steps.{IsBytes-taken, bind_ok, admit_ok, ok_is}
+use Rattle.dk_types.proofs.NextLaws.{next_u32_exact}
+use Rattle.dk_types.specs.Lists.{items_at, list_at}
 use Rattle.dk_model.specs.Records.{value_of}
 use Rattle.dk_model.proofs.Acts.{AreBytes}
 

@@ -3,13 +3,13 @@ use Rattle.std.proofs.Common.{◌≡◌, ℕ, ◌<◌, Bool, true, false, All, n
 use Rattle.std.proofs.lemmas.List.Elements.{All-weaker}
 use Rattle.dk_types.specs.declared.job.Session.{Session}
 use Rattle.dk_types.specs.Names.{IsName}
-use Rattle.dk_wire.specs.Rest.{Rest, IsBytes}
-use Rattle.dk_wire.specs.Fields.{IsU8, IsU64, u8_spelling, u64_spelling, name_spelling}
-use Rattle.dk_wire.specs.Reading.{◌>>=◌}
-use Rattle.dk_wire.specs.Payload.{next_u8, next_u64, next_name, checked}
-use Rattle.dk_wire.proofs.Steps.{bind_ok, ok_is}
-use Rattle.dk_wire.proofs.NextLaws.{next_u8_exact, next_u64_exact, next_name_exact}
-use Rattle.dk_wire.specs.Lists.{list_spelling, list_at}
+use Rattle.dk_types.specs.Rest.{Rest, IsBytes}
+use Rattle.dk_types.specs.Fields.{IsU8, IsU64, u8_spelling, u64_spelling, name_spelling}
+use Rattle.dk_types.specs.Reading.{◌>>=◌}
+use Rattle.dk_types.specs.Payload.{next_u8, next_u64, next_name, checked}
+use Rattle.dk_types.proofs.Steps.{bind_ok, ok_is}
+use Rattle.dk_types.proofs.NextLaws.{next_u8_exact, next_u64_exact, next_name_exact}
+use Rattle.dk_types.specs.Lists.{list_spelling, list_at}
 use Rattle.dk_model.specs.declared.records.SessionRecord.{SessionRecord}
 use Rattle.dk_model.specs.declared.records.ChannelRecord.{ChannelRecord}
 use Rattle.dk_model.specs.declared.records.Delivery.{Delivery}

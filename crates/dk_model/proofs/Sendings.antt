@@ -8,7 +8,7 @@ use Rattle.dk_types.specs.declared.object.Object.{Object}
 use Rattle.dk_types.specs.declared.fault.AppFault.{AppFault}
 use Rattle.dk_types.specs.declared.job.Out.{Out}
 use Rattle.dk_types.specs.declared.limits.TheConstants.{OBJECTS_MOST_COUNT, MESSAGES_MOST_COUNT}
-use Rattle.dk_model.specs.declared.mode.Mode.{Mode}
+use Rattle.dk_types.specs.declared.mode.Mode.{Mode}
 use Rattle.dk_model.specs.Keys.{key_cmp}
 use Rattle.dk_model.specs.DurableWorlds.{Task}
 use Rattle.dk_model.specs.Runs as act

@@ -12,7 +12,7 @@ use Rattle.dk_types.specs.declared.item.Item.{Item}
 use Rattle.dk_types.specs.declared.item.Item.TheVariants as ask
 use Rattle.dk_types.specs.declared.job.Job.{Job}
 use Rattle.dk_types.specs.declared.job.Job.TheVariants as job
-use Rattle.dk_model.specs.declared.mode.Mode.TheVariants.{Game}
+use Rattle.dk_types.specs.declared.mode.Mode.TheVariants.{Game}
 use Rattle.dk_model.specs.DurableWorlds.{DurableWorld, Task, task_answer, last_with}
 use Rattle.dk_model.specs.Runs.{Run, begun, within}
 use Rattle.dk_model.specs.Steps.{Stepped, step, work, kept_by, failed, ended, is_too_large}

@@ -14,13 +14,7 @@ use Rattle.dk_types.specs.declared.item.Answer.TheVariants as said
 use Rattle.dk_types.specs.declared.item.Read.{Read}
 use Rattle.dk_types.specs.Names.{bytes_cmp}
 use Rattle.dk_model.specs.Keys.{id_cmp, key_cmp}
-
--- a pending task under its key; a period of 0 marks a once-task
-pub record Task : Type 0 where
-  pub due : ℕ
-  pub period : ℕ
-  pub kind : ℕ
-  pub arg : List ℕ
+pub use Rattle.dk_types.specs.Values.{Task, is_above, first_key}
 
 -- the managed objects, the names that are bound to them, the pending tasks, the number of commits, and the largest committed run
 pub record DurableWorld : Type 0 where
@@ -43,16 +37,6 @@ last_with (Some last) run = Some (record { 0 = max last.0 run.0 })
 abbrev pub with_value : {K X : Type 0} {R : K → K → Ordering} → FinMap R X → K → Option X → FinMap R X
 with_value m k None = remove m k
 with_value m k (Some v) = insert m k v
-
--- whether a name is above the given one, as each is where none is given
-abbrev pub is_above : Option (List ℕ) → List ℕ → Bool
-is_above None name = true
-is_above (Some after) name = is_gt (bytes_cmp name after)
-
--- the key of the first entry that passes
-abbrev pub first_key : {K X : Type 0} → (K → Bool) → List (K × X) → Option K
-first_key p [] = None
-first_key p (e ∷ es) = if p e.0 then Some e.0 else first_key p es
 
 -- the least bound name above the given one, or the least of all
 unfoldable pub next_name : FinMap bytes_cmp ObjectId → Option (List ℕ) → Option (List ℕ)

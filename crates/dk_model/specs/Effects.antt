@@ -10,20 +10,8 @@ use Rattle.dk_types.specs.declared.durable.Pending.{Pending}
 use Rattle.dk_types.specs.declared.durable.Effects.{Effects}
 use Rattle.dk_types.specs.declared.durable.Entry.{Entry}
 use Rattle.dk_model.specs.Keys.{key_cmp}
+pub use Rattle.dk_types.specs.Values.{same_id, same_object, same_value, pending_of}
 use Rattle.dk_model.specs.DurableWorlds.{DurableWorld, Task, last_with}
-
-abbrev pub same_id : ObjectId → ObjectId → Bool
-same_id a b = nat_eq a.run.0 b.run.0 && nat_eq a.k b.k
-
-abbrev pub same_object : Object → Object → Bool
-same_object a b = nat_eq a.kind b.kind && pointwise nat_eq a.bytes b.bytes
-
--- whether a key has the same value in both
-abbrev pub same_value : {X : Type 0} → (X → X → Bool) → Option X → Option X → Bool
-same_value same None None = true
-same_value same None (Some y) = false
-same_value same (Some x) None = false
-same_value same (Some x) (Some y) = same x y
 
 module _ {K X : Type 0} {R : K → K → Ordering} where
   -- the entries of b that are new or differ from those of a, in the keys' order
@@ -47,9 +35,6 @@ module _ {K X : Type 0} {R : K → K → Ordering} where
   abbrev pub without_keys : List K → FinMap R X → FinMap R X
   without_keys [] m = m
   without_keys (k ∷ ks) m = without_keys ks (remove m k)
-
-abbrev pub pending_of : TaskKey × Task → Pending
-pending_of e = record { key = e.0; due = e.1.due; period = e.1.period; kind = e.1.kind; arg = e.1.arg }
 
 abbrev pub task_of : Pending → TaskKey × Task
 task_of p = (p.key, record { due = p.due; period = p.period; kind = p.kind; arg = p.arg })

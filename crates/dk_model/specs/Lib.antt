@@ -1,4 +1,4 @@
-pub mod Keys
+pub use Rattle.dk_types.specs.Keys
 pub mod DurableWorlds
 pub mod Validity
 pub mod Effects

@@ -12,7 +12,7 @@ use Rattle.dk_types.specs.declared.job.Out.TheVariants as out
 use Rattle.dk_types.specs.declared.limits.TheConstants.{MESSAGES_MOST_COUNT}
 use Rattle.dk_model.specs.Runs.{Run, Act, give, and_then, within, refuse, create, save, remove, bound, bind, unbind, send, is_too_long, NAME_NOT_BOUND, TOO_LONG, TOO_MANY, NAME_EXISTS}
 use Rattle.dk_model.specs.References.{get_as}
-use Rattle.dk_model.specs.declared.mode.Mode.TheVariants.{Platform}
+use Rattle.dk_types.specs.declared.mode.Mode.TheVariants.{Platform}
 use Rattle.dk_model.specs.declared.records.SessionRecord.{SessionRecord}
 use Rattle.dk_model.specs.declared.records.ChannelRecord.{ChannelRecord}
 use Rattle.dk_model.specs.declared.records.Delivery.{Delivery}

@@ -7,11 +7,11 @@ use Rattle.dk_model.specs.declared.records.Delivery.{Delivery}
 use Rattle.dk_model.specs.declared.records.Delivery.TheVariants.{Reliable, UnorderedReliable, OrderedUnreliable, Unreliable}
 use Rattle.std.specs.Prelude.{Result, Ok}
 use Rattle.std.specs.Result.{result_ok}
-use Rattle.dk_wire.specs.Rest.{Rest}
-use Rattle.dk_wire.specs.Fields.{u8_spelling, u64_spelling, name_spelling}
-use Rattle.dk_wire.specs.Reading.{◌>>=◌}
-use Rattle.dk_wire.specs.Payload.{next_u8, next_u64, next_name, checked, whole}
-use Rattle.dk_wire.specs.Lists.{list_spelling, list_at}
+use Rattle.dk_types.specs.Rest.{Rest}
+use Rattle.dk_types.specs.Fields.{u8_spelling, u64_spelling, name_spelling}
+use Rattle.dk_types.specs.Reading.{◌>>=◌}
+use Rattle.dk_types.specs.Payload.{next_u8, next_u64, next_name, checked, whole}
+use Rattle.dk_types.specs.Lists.{list_spelling, list_at}
 
 -- the value, where its spelling is all of the bytes
 abbrev pub value_of : {A : Type 0} → (Rest → Result (A × Rest) ℕ) → List ℕ → Option A

@@ -13,8 +13,8 @@ use Rattle.dk_types.specs.declared.job.Out.TheVariants as out
 use Rattle.dk_types.specs.declared.fault.AppFault.{AppFault}
 use Rattle.dk_types.specs.declared.fault.AppFault.TheVariants.{Refused}
 use Rattle.dk_types.specs.declared.limits.TheConstants.{BODY_MOST_BYTES, OBJECTS_MOST_COUNT, TASKS_MOST_COUNT, MESSAGES_MOST_COUNT, DELAY_MOST_MS, PERIOD_MOST_MS}
-use Rattle.dk_model.specs.declared.mode.Mode.{Mode}
-use Rattle.dk_model.specs.declared.mode.Mode.TheVariants.{Platform, Game}
+use Rattle.dk_types.specs.declared.mode.Mode.{Mode}
+use Rattle.dk_types.specs.declared.mode.Mode.TheVariants.{Platform, Game}
 use Rattle.dk_model.specs.DurableWorlds.{DurableWorld, Task, with_value, next_name, last_with}
 
 -- the world as the run has changed it, what it has written and sent so far, its number and moment, and how much it has made

@@ -15,7 +15,7 @@ use Rattle.dk_types.specs.declared.fault.AppFault.{AppFault}
 use Rattle.dk_types.specs.declared.fault.AppFault.TheVariants.{TooLarge}
 use Rattle.dk_types.specs.declared.fault.Outcome.{Outcome}
 use Rattle.dk_types.specs.declared.fault.Outcome.TheVariants as outcome
-use Rattle.dk_model.specs.declared.mode.Mode.TheVariants.{Game}
+use Rattle.dk_types.specs.declared.mode.Mode.TheVariants.{Game}
 use Rattle.dk_types.specs.declared.limits.TheConstants.{EFFECTS_MOST_BYTES}
 use Rattle.dk_model.specs.DurableWorlds.{DurableWorld, Task}
 use Rattle.dk_model.specs.Effects.{effects, effects_length}

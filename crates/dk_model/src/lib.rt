@@ -5,14 +5,13 @@
 //! and the trait of a game's rules. The laws of the definitions are the contracts of `dk_laws`.
 #![tactic(auto)]
 
+pub use dk_types::Mode;
 pub use dk_types::limits as limits;
-pub use mode::Mode;
 pub use records::{ChannelRecord, Delivery, SessionRecord};
 pub use rules::Rules;
 pub use script::Line;
 pub use waiting::Waiting;
 
-pub mod mode;
 pub mod records;
 pub mod rules;
 pub mod script;

@@ -9,8 +9,7 @@ use Rattle.dk_types.specs.declared.item.Item.TheVariants as ask
 use Rattle.dk_types.specs.declared.item.Read.{Read}
 use Rattle.dk_types.specs.Names.{bytes_cmp}
 use Rattle.dk_map.specs.Entries.{put, IsOrdered}
-use Rattle.dk_model.specs.Keys.{id_cmp, key_cmp}
-use Rattle.dk_model.specs.DurableWorlds.{DurableWorld, Agrees, answer}
+use Rattle.dk_types.specs.Keys.{id_cmp, key_cmp}
 use Rattle.dk_overlay.specs.Asked.{WasRead, WasNotRead, IsOnce, IsIndexed, Places, place_in, AddsPlace, IsIndexedLong}
 use Rattle.dk_overlay.proofs.Keys.{ids_total, ids_same, keys_total, keys_same, names_total, names_same}
 use Rattle.dk_overlay.proofs.Finding.{found_here, found_others}
@@ -18,15 +17,11 @@ use Rattle.dk_overlay.specs.Items.{same_item}
 use Rattle.dk_overlay.proofs.SameItems.{item_itself}
 use Rattle.dk_overlay.proofs.Tests.{Some_injective}
 
-all_at : {X : Type 0} (P : X → Type 0) (xs : List X) (i : ℕ) (x : X) → slice_get xs i ≡ Some x → AllByRecursion P xs → P x
+-- what holds of each item of a list holds of the one at a place
+pub all_at : {X : Type 0} (P : X → Type 0) (xs : List X) (i : ℕ) (x : X) → slice_get xs i ≡ Some x → AllByRecursion P xs → P x
 all_at P [] i x e h = cc
 all_at P (y ∷ xs) zero x e h = subst P (Some_injective _ _ e) h.0
 all_at P (y ∷ xs) (suc i) x e h = all_at P xs i x e h.1
-
--- a world that agrees with the reads gives what was read
-pub agrees_read : (d : DurableWorld) (reads : List (Item × Read)) (item : Item) (read : Read) → Agrees d reads → WasRead reads item read → answer d item ≡ read.answer
-unfolding Agrees
-agrees_read d reads item read h w = all_at (λ r. answer d r.0 ≡ r.1.answer) reads w.0 (item, read) w.1 h
 
 get_front : {X : Type 0} (xs : List X) (y : X) (i : ℕ) (x : X) → slice_get xs i ≡ Some x → slice_get (xs ++ y ∷ []) i ≡ Some x
 get_front [] y i x e = cc

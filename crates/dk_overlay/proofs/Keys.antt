@@ -6,7 +6,7 @@ use Rattle.dk_types.specs.declared.number.ObjectId.{ObjectId}
 use Rattle.dk_types.specs.declared.number.TaskKey.{TaskKey}
 use Rattle.dk_types.specs.Names.{bytes_cmp}
 use Rattle.dk_map.proofs.Keys.{then-IsAntisymmetric}
-use Rattle.dk_model.specs.Keys.{id_cmp, key_cmp}
+use Rattle.dk_types.specs.Keys.{id_cmp, key_cmp}
 
 pub ids_total : IsTotalOrder id_cmp
 ids_total = then_total (on_total (λ (t : ObjectId). t.run.0) nat_cmp_total) (on_total (λ (t : ObjectId). t.k) nat_cmp_total)

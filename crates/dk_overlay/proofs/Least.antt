@@ -6,7 +6,7 @@ use Rattle.std.specs.Ordering.{is_lt, is_eq, ordering_reverse}
 use Rattle.std.specs.Cmp.{IsTotalOrder, tied_itself}
 use Rattle.std.specs.FinMap.{FinMap, IsAntisymmetric, find, is_sorted, get, entries, entries_sorted, get-entries}
 use Rattle.std.specs.FinMap.Entries.{below_all}
-use Rattle.dk_model.specs.DurableWorlds.{first_key}
+use Rattle.dk_types.specs.Values.{first_key}
 use Rattle.dk_overlay.specs.Least.{passes, Least, lesser}
 use Rattle.dk_overlay.proofs.Tests.{first_of_and, second_of_and, less_from_T, or_false, or_left, or_right, and_left, and_true}
 

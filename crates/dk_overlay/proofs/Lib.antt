@@ -1,15 +1,9 @@
 pub mod Keys
 pub mod Tests
-pub mod Layers
 pub mod Least
 pub mod NextBound
 pub mod Finding
 pub mod Noting
 pub mod Asking
 pub mod Picking
-pub mod Nets
-pub mod Sound
-pub mod Owning
-pub mod Ending
-pub mod Counting
 pub mod SameItems

@@ -10,7 +10,7 @@ use Rattle.dk_types.specs.Names.{bytes_cmp}
 use Rattle.dk_map.specs.Entries.{IsOrdered}
 use Rattle.dk_map.specs.AsMap.{map_of, IsAfter, IsNext}
 use Rattle.dk_map.proofs.Maps.{get-map_of}
-use Rattle.dk_model.specs.DurableWorlds.{is_above}
+use Rattle.dk_types.specs.Values.{is_above}
 use Rattle.dk_overlay.specs.declared.change.Change.{Change}
 use Rattle.dk_overlay.specs.Least.{Least}
 use Rattle.dk_overlay.specs.Binding.{is_binding, is_bound_after, HasBound}

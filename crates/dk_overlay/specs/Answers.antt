@@ -1,10 +1,9 @@
 -- What an answer tells of an object, of a name, of the next name and of a task, where it is of that kind.
-use Rattle.std.specs.Prelude.{◌≡◌, ℕ, Bool, true, false, Option, Some, None, List, is_some, refl}
+use Rattle.std.specs.Prelude.{ℕ, Bool, true, false, Option, Some, None, List}
 use Rattle.dk_types.specs.declared.number.ObjectId.{ObjectId}
 use Rattle.dk_types.specs.declared.object.Object.{Object}
 use Rattle.dk_types.specs.declared.item.Answer.{Answer}
 use Rattle.dk_types.specs.declared.item.Answer.TheVariants as said
-use Rattle.dk_model.specs.DurableWorlds.{Task, object_answer, name_answer, task_answer}
 
 abbrev pub object_in : Answer → Option Object
 object_in (said.Object object) = Some object
@@ -41,16 +40,3 @@ is_pending said.NoName = false
 is_pending (said.Named id) = false
 is_pending (said.Next name) = false
 is_pending said.NoTask = false
-
--- they take a world's answers back to what stands there
-pub object_in-answer : (o : Option Object) → object_in (object_answer o) ≡ o
-object_in-answer None = refl
-object_in-answer (Some object) = refl
-
-pub id_in-answer : (o : Option ObjectId) → id_in (name_answer o) ≡ o
-id_in-answer None = refl
-id_in-answer (Some id) = refl
-
-pub is_pending-answer : (o : Option Task) → is_pending (task_answer o) ≡ is_some o
-is_pending-answer None = refl
-is_pending-answer (Some task) = refl

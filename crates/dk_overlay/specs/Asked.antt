@@ -8,7 +8,7 @@ use Rattle.dk_types.specs.declared.item.Read.{Read}
 use Rattle.dk_types.specs.declared.item.Answer.{Answer}
 use Rattle.dk_types.specs.Names.{bytes_cmp}
 use Rattle.dk_map.specs.Entries.{find}
-use Rattle.dk_model.specs.Keys.{id_cmp, key_cmp}
+use Rattle.dk_types.specs.Keys.{id_cmp, key_cmp}
 use Rattle.dk_overlay.specs.declared.reads.TheConstants.{FEW_READS}
 
 -- the item was read so

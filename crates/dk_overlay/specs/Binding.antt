@@ -5,7 +5,7 @@ use Rattle.std.specs.FinMap.{FinMap, get}
 use Rattle.dk_types.specs.declared.number.ObjectId.{ObjectId}
 use Rattle.dk_types.specs.Names.{bytes_cmp}
 use Rattle.dk_map.specs.Entries.{find}
-use Rattle.dk_model.specs.DurableWorlds.{is_above}
+use Rattle.dk_types.specs.Values.{is_above}
 use Rattle.dk_overlay.specs.declared.change.Change.{Change}
 
 -- whether a change binds its name

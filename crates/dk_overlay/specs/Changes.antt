@@ -1,6 +1,6 @@
 -- What a change makes of what stood at its key.
 use Rattle.std.specs.Prelude.{ℕ, Bool, true, false, Option, Some, None}
-use Rattle.dk_model.specs.DurableWorlds.{Task}
+use Rattle.dk_types.specs.Values.{Task}
 use Rattle.dk_overlay.specs.declared.change.Change.{Change}
 use Rattle.dk_overlay.specs.declared.change.Scheduled.{Scheduled}
 use Rattle.dk_overlay.specs.declared.change.TaskChange.{TaskChange}

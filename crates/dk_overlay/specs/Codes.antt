@@ -11,9 +11,9 @@ use Rattle.dk_types.specs.declared.item.Item.{Item}
 use Rattle.dk_types.specs.declared.item.Read.{Read}
 use Rattle.dk_types.specs.declared.job.Out.{Out}
 use Rattle.dk_types.specs.Names.{bytes_cmp}
-use Rattle.dk_model.specs.Keys.{id_cmp, key_cmp}
-use Rattle.dk_model.specs.declared.mode.Mode.{Mode}
-use Rattle.dk_model.specs.declared.mode.Mode.TheVariants.{Platform, Game}
+use Rattle.dk_types.specs.Keys.{id_cmp, key_cmp}
+use Rattle.dk_types.specs.declared.mode.Mode.{Mode}
+use Rattle.dk_types.specs.declared.mode.Mode.TheVariants.{Platform, Game}
 use Rattle.dk_overlay.specs.declared.change.Change.{Change}
 use Rattle.dk_overlay.specs.declared.change.Scheduled.{Scheduled}
 use Rattle.dk_overlay.specs.declared.change.TaskChange.{TaskChange}

@@ -2,12 +2,9 @@ pub mod Changes
 pub mod Least
 pub mod Binding
 pub mod Picks
-pub mod Layers
 pub mod Asked
 pub mod Answers
 pub mod Logged
 pub mod Codes
-pub mod Knowing
-pub mod Finishes
-pub mod Counting
+pub mod NetChanges
 pub mod Items

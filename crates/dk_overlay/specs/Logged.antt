@@ -1,5 +1,5 @@
 -- What a run has read and changed, as contracts see it, and what it comes to in a world.
-use Rattle.std.specs.Prelude.{ℕ, ◌+◌, ◌==◌, if◌then◌else◌, Some, None, List, ◌++◌, ◌∷◌, []}
+use Rattle.std.specs.Prelude.{ℕ, ◌+◌, Some, None, List, ◌++◌, ◌∷◌, []}
 use Rattle.std.specs.FinMap as map
 use Rattle.dk_types.specs.declared.number.RunNo.{RunNo}
 use Rattle.dk_types.specs.declared.number.ConnNo.{ConnNo}
@@ -11,18 +11,14 @@ use Rattle.dk_types.specs.declared.item.Item.TheVariants as ask
 use Rattle.dk_types.specs.declared.item.Read.{Read}
 use Rattle.dk_types.specs.declared.job.Out.{Out}
 use Rattle.dk_types.specs.Names.{bytes_cmp}
-use Rattle.dk_model.specs.declared.mode.Mode.{Mode}
-use Rattle.dk_model.specs.declared.mode.Mode.TheVariants.{Platform}
-use Rattle.dk_model.specs.Keys.{id_cmp, key_cmp}
-use Rattle.dk_model.specs.DurableWorlds.{DurableWorld, last_with}
-use Rattle.dk_model.specs.Runs.{Run}
-use Rattle.dk_model.specs.Steps.{next_due}
+use Rattle.dk_types.specs.declared.mode.Mode.{Mode}
+use Rattle.dk_types.specs.declared.mode.Mode.TheVariants.{Platform}
+use Rattle.dk_types.specs.Keys.{id_cmp, key_cmp}
 use Rattle.dk_overlay.specs.declared.change.Change.{Change}
 use Rattle.dk_overlay.specs.declared.change.Scheduled.{Scheduled}
 use Rattle.dk_overlay.specs.declared.change.TaskChange.{TaskChange}
 use Rattle.dk_overlay.specs.declared.change.TaskChange.TheVariants.{Added}
-use Rattle.dk_overlay.specs.Changes.{value_now, task_now, removing, moving}
-use Rattle.dk_overlay.specs.Layers.{layered}
+use Rattle.dk_overlay.specs.Changes.{removing, moving}
 
 pub record Logged : Type 0 where
   -- in the order in which they were first made
@@ -52,25 +48,6 @@ nothing_done run at = record {
   objects_made = 0;
   tasks_made = 0;
   mode = Platform;
-}
-
--- the run in its midst that the log comes to, where the world before it is d
-abbrev pub current : Logged → DurableWorld → Run
-current t d = record {
-  world = record {
-    objects = layered value_now t.objects d.objects;
-    names = layered value_now t.names d.names;
-    tasks = layered task_now t.tasks d.tasks;
-    commits = d.commits + 1;
-    last = last_with d.last t.run;
-  };
-  touched = t.touched;
-  outs = t.outs;
-  number = t.run;
-  at = t.at;
-  objects_made = t.objects_made;
-  tasks_made = t.tasks_made;
-  mode = t.mode;
 }
 
 -- one more read
@@ -116,7 +93,3 @@ moving_task t key from to = record t { tasks = map.insert t.tasks key (moving (m
 -- one more message
 abbrev pub sending : Logged → ConnNo → Out → Logged
 sending t to out = record t { outs = t.outs ++ (to, out) ∷ [] }
-
--- what a run does to its own task, where that is pending: a once-task is taken away, and a periodic one gets its next due moment
-abbrev pub passing_own : Logged → TaskKey → ℕ → ℕ → Logged
-passing_own t key due period = if period == 0 then removing_task t key else moving_task t key due (next_due due period t.at)

@@ -1,7 +1,7 @@
 -- What changes come to, as lists in the order of their keys.
 use Rattle.std.specs.Prelude.{ℕ, Bool, is_some, nat_eq, if◌then◌else◌, Option, Some, None, List, [], ◌∷◌}
-use Rattle.dk_model.specs.DurableWorlds.{Task}
-use Rattle.dk_model.specs.Effects.{same_value}
+use Rattle.dk_types.specs.Values.{Task}
+use Rattle.dk_types.specs.Values.{same_value}
 use Rattle.dk_overlay.specs.declared.change.Change.{Change}
 use Rattle.dk_overlay.specs.declared.change.TaskChange.{TaskChange}
 use Rattle.dk_overlay.specs.declared.change.TaskChange.TheVariants.{Added, Withdrawn, Dropped, Moved}

@@ -30,7 +30,7 @@ impl Drop for Index {
 
 impl Model for Index {
     ghost use Rattle.dk_types.specs.Names.{bytes_cmp};
-    ghost use Rattle.dk_model.specs.Keys.{id_cmp, key_cmp};
+    ghost use Rattle.dk_types.specs.Keys.{id_cmp, key_cmp};
     ghost use Rattle.dk_map.specs.Entries.{IsOrdered};
     ghost use Rattle.dk_overlay.specs.Asked.{Places};
     ghost use Rattle.dk_overlay.specs.Codes.{places_code};

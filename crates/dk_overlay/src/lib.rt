@@ -1,15 +1,15 @@
 //! What a run has read and changed: the reads in the order in which they were first made, the
 //! changes of objects, names and tasks, what was written and what was sent.
 //!
-//! A run's log is laid over any world that agrees with its reads. `Log::finish` gives the net effects
-//! of the changes. Where the reads come from, and what a run may do, is the business of `dk_txn`.
+//! It knows no world: its contracts speak of the lists and maps that it keeps. `Log::effects` gives the net
+//! effects of the changes. Where the reads come from, what a run may do and what it comes to in a world is
+//! the business of `dk_txn`.
 #![tactic(auto)]
 
 pub use answers::{copy_answer, copy_name, says_named, says_next, says_object, says_pending};
 pub use change::{Change, Scheduled, TaskChange, copy_change, copy_object, copy_value};
-pub use finished::{Finished, FinishedParts};
 pub use items::is_same_item;
-pub use log::Log;
+pub use log::{Log, LogParts};
 pub use names::NameChanges;
 pub use objects::ObjectChanges;
 pub use reads::Reads;
@@ -17,8 +17,6 @@ pub use tasks::TaskChanges;
 
 pub mod answers;
 pub mod change;
-mod finish;
-pub mod finished;
 mod index;
 pub mod items;
 pub mod log;
@@ -27,5 +25,4 @@ mod log_tests;
 pub mod names;
 pub mod objects;
 pub mod reads;
-pub mod sizes;
 pub mod tasks;

@@ -7,7 +7,7 @@ ghost use Rattle.dk_types.specs.declared.limits.TheConstants.{MOMENT_MOST_MS};
 ghost use Rattle.dk_overlay.specs.Asked.{WasRead, WasNotRead, WasAnswered, IsOnce};
 ghost use Rattle.dk_overlay.specs.Binding.{is_bound_after};
 ghost use Rattle.dk_overlay.specs.Changes.{settled};
-ghost use Rattle.dk_overlay.specs.Finishes.{net_changes};
+ghost use Rattle.dk_overlay.specs.NetChanges.{net_changes};
 ghost use Rattle.dk_overlay.specs.Least.{Least};
 ghost use Rattle.dk_overlay.specs.Logged.{nothing_done, reading, new_id, creating, changing_object, changing_name, new_key, scheduling, removing_task, moving_task, sending};
 
@@ -16,7 +16,7 @@ use crate::names::NameChanges;
 use crate::objects::ObjectChanges;
 use crate::reads::Reads;
 use crate::tasks::TaskChanges;
-use dk_model::Mode;
+use dk_types::Mode;
 use dk_types::{
     Answer, ConnNo, Effects, Item, Listed, Name, NoMemory, Object, ObjectId, Out, Read, RunNo,
     TaskKey,
@@ -26,12 +26,12 @@ use std::marker::Model;
 
 /// What a run has read and changed so far. Each call that is refused changes nothing.
 pub struct Log {
-    pub(crate) reads: Reads,
-    pub(crate) objects: ObjectChanges,
-    pub(crate) names: NameChanges,
-    pub(crate) tasks: TaskChanges,
-    pub(crate) touched: Vec<Item>,
-    pub(crate) outs: Vec<(ConnNo, Out)>,
+    reads: Reads,
+    objects: ObjectChanges,
+    names: NameChanges,
+    tasks: TaskChanges,
+    touched: Vec<Item>,
+    outs: Vec<(ConnNo, Out)>,
     run: RunNo,
     at: u64,
     objects_made: u32,
@@ -79,10 +79,10 @@ impl Model for Log {
 
 /// What a log hands over at the end: the reads, the items written and the messages.
 #[derive(Drop)]
-pub(crate) struct Parts {
-    pub(crate) reads: Vec<(Item, Read)>,
-    pub(crate) touched: Vec<Item>,
-    pub(crate) outs: Vec<(ConnNo, Out)>,
+pub struct LogParts {
+    pub reads: Vec<(Item, Read)>,
+    pub touched: Vec<Item>,
+    pub outs: Vec<(ConnNo, Out)>,
 }
 
 impl Log {
@@ -325,7 +325,7 @@ impl Log {
     }
 
     /// Hands over what does not depend on how the run ended.
-    pub(crate) fn into_parts(self) -> Parts
+    pub fn into_parts(self) -> LogParts
         ensures reads { result.reads.items ≡ self.reads }
         ensures once { IsOnce self.reads }
         ensures touched { result.touched.items ≡ self.touched }
@@ -345,7 +345,7 @@ impl Log {
             mode: _,
             alloc: _,
         } = self;
-        Parts {
+        LogParts {
             reads: reads.into_list(),
             touched,
             outs,

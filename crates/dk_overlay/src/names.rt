@@ -4,7 +4,7 @@ ghost use Rattle.std.specs.FinMap as map;
 ghost use Rattle.std.specs.Map.{keys_of};
 ghost use Rattle.std.specs.Option.{option_copied, option_map};
 ghost use Rattle.dk_types.specs.Names.{bytes_cmp};
-ghost use Rattle.dk_model.specs.Effects.{same_id};
+ghost use Rattle.dk_types.specs.Values.{same_id};
 ghost use Rattle.dk_overlay.specs.Least.{Least};
 ghost use Rattle.dk_overlay.specs.Binding.{is_bound_after, IsNoted};
 ghost use Rattle.dk_map.specs.Entries.{find, IsOrdered};

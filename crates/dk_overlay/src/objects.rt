@@ -3,7 +3,7 @@ ghost use Rattle.std.specs.Prelude.{◌≡◌, IfOk, OnOk, OnErr};
 ghost use Rattle.std.specs.FinMap as map;
 ghost use Rattle.std.specs.Map.{keys_of};
 ghost use Rattle.std.specs.Option.{option_copied, option_map};
-ghost use Rattle.dk_model.specs.Effects.{same_object, same_value};
+ghost use Rattle.dk_types.specs.Values.{same_object, same_value};
 ghost use Rattle.dk_overlay.specs.Picks.{picked, newly_set, taken_away};
 
 use crate::change::{Change, copy_change, copy_object};
@@ -26,7 +26,7 @@ impl Drop for ObjectChanges {
 impl Model for ObjectChanges {
     ghost use Rattle.std.specs.FinMap as map;
     ghost use Rattle.dk_types.specs.declared.object.Object.{Object};
-    ghost use Rattle.dk_model.specs.Keys.{id_cmp};
+    ghost use Rattle.dk_types.specs.Keys.{id_cmp};
     ghost use Rattle.dk_map.specs.AsMap.{map_of};
     ghost use Rattle.dk_map.specs.Entries.{IsOrdered};
     ghost use Rattle.dk_overlay.specs.declared.change.Change.{Change};

@@ -3,7 +3,7 @@ ghost use Rattle.std.specs.Prelude.{◌≡◌, IfOk, OnOk, OnErr, map as list_ma
 ghost use Rattle.std.specs.FinMap as map;
 ghost use Rattle.std.specs.Map.{keys_of};
 ghost use Rattle.std.specs.Option.{option_map};
-ghost use Rattle.dk_model.specs.Effects.{pending_of};
+ghost use Rattle.dk_types.specs.Values.{pending_of};
 ghost use Rattle.dk_overlay.specs.declared.change.TaskChange.TheVariants.{Added};
 ghost use Rattle.dk_overlay.specs.Changes.{removing, moving, settled};
 ghost use Rattle.dk_overlay.specs.Picks.{picked, task_added, task_dropped, task_moved};
@@ -27,7 +27,7 @@ impl Drop for TaskChanges {
 
 impl Model for TaskChanges {
     ghost use Rattle.std.specs.FinMap as map;
-    ghost use Rattle.dk_model.specs.Keys.{key_cmp};
+    ghost use Rattle.dk_types.specs.Keys.{key_cmp};
     ghost use Rattle.dk_map.specs.AsMap.{map_of};
     ghost use Rattle.dk_map.specs.Entries.{IsOrdered};
     ghost use Rattle.dk_overlay.specs.declared.change.TaskChange.{TaskChange};

@@ -12,8 +12,8 @@ use Rattle.dk_types.specs.declared.job.Job.{Job}
 use Rattle.dk_types.specs.declared.job.Job.TheVariants as job
 use Rattle.dk_types.specs.declared.job.Out.{Out}
 use Rattle.dk_types.specs.declared.job.Out.TheVariants as out
-use Rattle.dk_model.specs.declared.mode.Mode.{Mode}
-use Rattle.dk_model.specs.declared.mode.Mode.TheVariants.{Game, Platform}
+use Rattle.dk_types.specs.declared.mode.Mode.{Mode}
+use Rattle.dk_types.specs.declared.mode.Mode.TheVariants.{Game, Platform}
 use Rattle.dk_model.specs.declared.records.SessionRecord.{SessionRecord}
 use Rattle.dk_model.specs.declared.records.ChannelRecord.{ChannelRecord}
 use Rattle.dk_model.specs.DurableWorlds.{DurableWorld}

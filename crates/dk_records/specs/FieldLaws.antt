@@ -2,10 +2,10 @@
 use Rattle.std.specs.Prelude.{ℕ, List, Option}
 use Rattle.dk_types.specs.declared.number.ObjectId.{ObjectId}
 use Rattle.dk_types.specs.Names.{IsName}
-use Rattle.dk_wire.specs.Fields.{IsId, name_spelling, id_spelling}
-use Rattle.dk_wire.specs.Exact.{IsExact}
-use Rattle.dk_wire.specs.Payload.{next_name, next_id}
-use Rattle.dk_wire.proofs.NextLaws.{next_name_exact, next_id_exact}
+use Rattle.dk_types.specs.Fields.{IsId, name_spelling, id_spelling}
+use Rattle.dk_types.specs.Exact.{IsExact}
+use Rattle.dk_types.specs.Payload.{next_name, next_id}
+use Rattle.dk_types.proofs.NextLaws.{next_name_exact, next_id_exact}
 
 pub each_name_exact : (before : Option (List ℕ)) → IsExact IsName name_spelling next_name
 each_name_exact before = next_name_exact

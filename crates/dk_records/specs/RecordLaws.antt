@@ -3,12 +3,12 @@ use Rattle.std.proofs.Common.{◌≡◌, ℕ, zero, suc, ◌==◌, Bool, true, f
 use Rattle.std.proofs.lemmas.Bool.{ltb-true}
 use Rattle.dk_types.specs.declared.job.Session.{Session}
 use Rattle.dk_types.specs.Names.{IsName}
-use Rattle.dk_wire.specs.Fields.{IsU8, IsU64}
-use Rattle.dk_wire.specs.Exact.{IsExact}
-use Rattle.dk_wire.specs.Lists.{IsList}
-use Rattle.dk_wire.proofs.Composing.{then_exact, last_exact, checked_exact}
-use Rattle.dk_wire.proofs.NextLaws.{next_u8_exact, next_u64_exact, next_name_exact}
-use Rattle.dk_wire.proofs.ListLaws.{list_exact}
+use Rattle.dk_types.specs.Fields.{IsU8, IsU64}
+use Rattle.dk_types.specs.Exact.{IsExact}
+use Rattle.dk_types.specs.Lists.{IsList}
+use Rattle.dk_types.proofs.Composing.{then_exact, last_exact, checked_exact}
+use Rattle.dk_types.proofs.NextLaws.{next_u8_exact, next_u64_exact, next_name_exact}
+use Rattle.dk_types.proofs.ListLaws.{list_exact}
 use Rattle.dk_model.specs.declared.records.SessionRecord.{SessionRecord}
 use Rattle.dk_model.specs.declared.records.ChannelRecord.{ChannelRecord}
 use Rattle.dk_model.specs.declared.records.Delivery.{Delivery}

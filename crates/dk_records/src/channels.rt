@@ -1,6 +1,7 @@
 //! The record of a channel as bytes.
 ghost use Rattle.std.specs.Prelude.{◌≡◌, IfOk, nat_lt};
-ghost use Rattle.dk_wire.specs.Payload.{Decodes, Gives, next_u8, checked};
+ghost use Rattle.dk_types.specs.Payload.{next_u8, checked};
+ghost use Rattle.dk_wire.specs.Payload.{Decodes, Gives};
 ghost use Rattle.dk_model.specs.Records.{channel_bytes, next_channel, flag, delivery_number, delivery_of};
 ghost use Rattle.dk_records.specs.RecordLaws.{IsChannelRecord};
 

@@ -9,8 +9,8 @@ pub struct NameForm;
 
 impl Form<Name> for NameForm {
     ghost use Rattle.dk_types.specs.Names.{IsName};
-    ghost use Rattle.dk_wire.specs.Fields.{name_spelling};
-    ghost use Rattle.dk_wire.specs.Payload.{next_name};
+    ghost use Rattle.dk_types.specs.Fields.{name_spelling};
+    ghost use Rattle.dk_types.specs.Payload.{next_name};
     ghost use Rattle.dk_records.specs.FieldLaws.{each_name_exact};
 
     ghost fits = { λ _. IsName };
@@ -38,8 +38,8 @@ impl Form<Name> for NameForm {
 pub struct IdForm;
 
 impl Form<ObjectId> for IdForm {
-    ghost use Rattle.dk_wire.specs.Fields.{IsId, id_spelling};
-    ghost use Rattle.dk_wire.specs.Payload.{next_id};
+    ghost use Rattle.dk_types.specs.Fields.{IsId, id_spelling};
+    ghost use Rattle.dk_types.specs.Payload.{next_id};
     ghost use Rattle.dk_records.specs.FieldLaws.{each_id_exact};
 
     ghost fits = { λ _. IsId };

@@ -10,18 +10,19 @@ use Rattle.dk_types.specs.declared.item.Item.{Item}
 use Rattle.dk_types.specs.declared.item.Read.{Read}
 use Rattle.dk_types.specs.declared.fault.AppFault.{AppFault}
 use Rattle.dk_types.specs.declared.fault.AppFault.TheVariants.{Refused}
-use Rattle.dk_wire.specs.Fields.{u8_spelling, u64_spelling, name_spelling}
-use Rattle.dk_wire.specs.Lists.{list_spelling}
+use Rattle.dk_types.specs.Fields.{u8_spelling, u64_spelling, name_spelling}
+use Rattle.dk_types.specs.Lists.{list_spelling}
 use Rattle.dk_wire.proofs.LengthLaws.{length-u8, length-u64, length-list}
 use Rattle.dk_model.specs.declared.records.Delivery.{Delivery}
 use Rattle.dk_model.specs.Records.{session_bytes, channel_bytes, member_bytes, flag, delivery_number}
-use Rattle.dk_model.specs.declared.mode.Mode.{Mode}
+use Rattle.dk_types.specs.declared.mode.Mode.{Mode}
 use Rattle.dk_model.specs.DurableWorlds.{DurableWorld, Agrees}
 use Rattle.dk_model.specs.Runs as act
 use Rattle.dk_model.specs.Runs.{Run, Act, give, and_then, carry_on, found, change_found, with_object}
 use Rattle.dk_model.specs.References.{get_as}
 use Rattle.dk_model.specs.Platforms.{platform_bound, found_as}
-use Rattle.dk_overlay.specs.Logged.{Logged, current}
+use Rattle.dk_overlay.specs.Logged.{Logged}
+use Rattle.dk_txn.specs.Current.{current}
 use Rattle.dk_txn.specs.declared.refusal.Refusal.{Refusal}
 use Rattle.dk_txn.specs.declared.refusal.Refusal.TheVariants as refusal
 use Rattle.dk_txn.specs.declared.txn.Txn.{Txn}

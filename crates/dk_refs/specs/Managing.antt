@@ -2,9 +2,9 @@
 use Rattle.std.specs.Prelude.{◌≡◌, ◌↔◌, ℕ, Option, Some, List, Result, Ok, Err}
 use Rattle.std.proofs.Common.{sym, ap, ◌∙◌}
 use Rattle.std.specs.Result.{result_ok}
-use Rattle.dk_wire.specs.Rest.{Rest, IsBytes}
-use Rattle.dk_wire.specs.Exact.{IsExact}
-use Rattle.dk_wire.specs.Payload.{whole}
+use Rattle.dk_types.specs.Rest.{Rest, IsBytes}
+use Rattle.dk_types.specs.Exact.{IsExact}
+use Rattle.dk_types.specs.Payload.{whole}
 use Rattle.dk_wire.proofs.WholeLaws.{whole_takes, whole_again}
 use Rattle.dk_model.specs.Records.{value_of}
 

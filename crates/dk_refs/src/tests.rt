@@ -10,9 +10,9 @@ use std::test::*;
 
 impl Managed for Name {
     ghost use Rattle.dk_types.specs.Names.{IsName};
-    ghost use Rattle.dk_wire.specs.Fields.{name_spelling};
-    ghost use Rattle.dk_wire.specs.Payload.{next_name};
-    ghost use Rattle.dk_wire.proofs.NextLaws.{next_name_exact};
+    ghost use Rattle.dk_types.specs.Fields.{name_spelling};
+    ghost use Rattle.dk_types.specs.Payload.{next_name};
+    ghost use Rattle.dk_types.proofs.NextLaws.{next_name_exact};
     ghost use Rattle.dk_model.specs.Records.{value_of};
     ghost use Rattle.dk_refs.specs.Managing.{reads_exactly};
 

@@ -8,20 +8,21 @@ use Rattle.dk_types.specs.declared.item.Item.{Item}
 use Rattle.dk_types.specs.declared.item.Read.{Read}
 use Rattle.dk_types.specs.declared.job.Job.{Job}
 use Rattle.dk_types.specs.declared.fault.AppFault.{AppFault}
-use Rattle.dk_model.specs.declared.mode.Mode.TheVariants.{Game}
+use Rattle.dk_types.specs.declared.mode.Mode.TheVariants.{Game}
 use Rattle.dk_model.specs.Keys.{key_cmp}
 use Rattle.dk_model.specs.DurableWorlds.{Agrees}
 use Rattle.dk_model.specs.Runs.{Act, begun, within}
 use Rattle.dk_model.specs.Steps.{work, ended}
 use Rattle.dk_model.specs.Finishes.{IsNew, told_step, KeepsLaw}
 use Rattle.dk_overlay.specs.declared.change.TaskChange.TheVariants.{Moved}
-use Rattle.dk_overlay.specs.declared.finished.Finished.{Finished}
-use Rattle.dk_overlay.specs.Logged.{Logged, current, nothing_done}
-use Rattle.dk_overlay.specs.Knowing.{IsSound, MovesAlone, MovesOwn, JobFits, OwnIsAsked}
-use Rattle.dk_overlay.specs.Finishes.{told, TellsEnd}
-use Rattle.dk_overlay.proofs.Layers.{at_empty}
-use Rattle.dk_overlay.proofs.Sound.{sound_start}
-use Rattle.dk_overlay.proofs.Owning.{current_start}
+use Rattle.dk_txn.specs.declared.finished.Finished.{Finished}
+use Rattle.dk_overlay.specs.Logged.{Logged, nothing_done}
+use Rattle.dk_txn.specs.Current.{current}
+use Rattle.dk_txn.specs.Knowing.{IsSound, MovesAlone, MovesOwn, JobFits, OwnIsAsked}
+use Rattle.dk_txn.specs.Finishes.{told, TellsEnd}
+use Rattle.dk_txn.proofs.Layers.{at_empty}
+use Rattle.dk_txn.proofs.Sound.{sound_start}
+use Rattle.dk_txn.proofs.Owning.{current_start}
 use Rattle.dk_txn.specs.declared.txn.Txn.{Txn}
 use Rattle.dk_txn.specs.Does.{KeepsFor, DoesFor, Keeps, AllGiven, outcome_told}
 use Rattle.dk_txn.specs.Law.{IsBegun}

@@ -1,3 +1,11 @@
+pub mod Answering
+pub mod Agreeing
+pub mod Layers
+pub mod Sound
+pub mod Nets
+pub mod Owning
+pub mod Ending
+pub mod Counting
 pub mod Kit
 pub mod Reading
 pub mod ObjectCalls

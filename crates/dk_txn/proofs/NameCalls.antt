@@ -12,13 +12,15 @@ use Rattle.dk_model.specs.DurableWorlds.{DurableWorld, Agrees, answer}
 use Rattle.dk_model.specs.Runs as act
 use Rattle.dk_model.specs.Runs.{found, with_name, unbind_found}
 use Rattle.dk_overlay.specs.declared.change.Change.{Change}
-use Rattle.dk_overlay.specs.Answers.{id_in, id_in-answer}
+use Rattle.dk_overlay.specs.Answers.{id_in}
+use Rattle.dk_txn.proofs.Answering.{id_in-answer}
 use Rattle.dk_overlay.specs.Changes.{value_now}
-use Rattle.dk_overlay.specs.Layers.{newest}
-use Rattle.dk_overlay.specs.Logged.{Logged, current, changing_name}
+use Rattle.dk_txn.specs.Layers.{newest}
+use Rattle.dk_overlay.specs.Logged.{Logged, changing_name}
+use Rattle.dk_txn.specs.Current.{current}
 use Rattle.dk_overlay.proofs.Keys.{names_total, names_same}
-use Rattle.dk_overlay.proofs.Layers.{get-layered, layered-insert}
-use Rattle.dk_overlay.proofs.Sound.{sound_name}
+use Rattle.dk_txn.proofs.Layers.{get-layered, layered-insert}
+use Rattle.dk_txn.proofs.Sound.{sound_name}
 use Rattle.dk_overlay.proofs.Tests.{Some_injective}
 use Rattle.dk_txn.specs.declared.refusal.Refusal.{Refusal}
 use Rattle.dk_txn.specs.declared.refusal.Refusal.TheVariants as refusal

@@ -17,11 +17,12 @@ use Rattle.dk_overlay.specs.declared.change.Change.{Change}
 use Rattle.dk_overlay.specs.Answers.{next_in}
 use Rattle.dk_overlay.specs.Binding.{is_binding, is_bound_after}
 use Rattle.dk_overlay.specs.Changes.{value_now}
-use Rattle.dk_overlay.specs.Layers.{layered, newest}
+use Rattle.dk_txn.specs.Layers.{layered, newest}
 use Rattle.dk_overlay.specs.Least.{passes, Least, lesser}
-use Rattle.dk_overlay.specs.Logged.{Logged, current}
+use Rattle.dk_overlay.specs.Logged.{Logged}
+use Rattle.dk_txn.specs.Current.{current}
 use Rattle.dk_overlay.proofs.Keys.{names_total, names_same}
-use Rattle.dk_overlay.proofs.Layers.{get-layered}
+use Rattle.dk_txn.proofs.Layers.{get-layered}
 use Rattle.dk_overlay.proofs.Least.{pass_at, pass_some, pass, ordered, Least-same, Least-or, Least-unique, first_key-least}
 use Rattle.dk_overlay.proofs.NextBound.{above_after, after_above}
 use Rattle.dk_overlay.proofs.Tests.{Some_injective, and_left, and_right, and_true, not_false, contrary, false_unless}

@@ -17,13 +17,15 @@ use Rattle.dk_model.specs.DurableWorlds.{DurableWorld, Agrees, answer}
 use Rattle.dk_model.specs.Runs as act
 use Rattle.dk_model.specs.Runs.{Run, Act, found, with_object, change_found, change_object}
 use Rattle.dk_overlay.specs.declared.change.Change.{Change}
-use Rattle.dk_overlay.specs.Answers.{object_in, object_in-answer}
+use Rattle.dk_overlay.specs.Answers.{object_in}
+use Rattle.dk_txn.proofs.Answering.{object_in-answer}
 use Rattle.dk_overlay.specs.Changes.{value_now}
-use Rattle.dk_overlay.specs.Layers.{newest}
-use Rattle.dk_overlay.specs.Logged.{Logged, current, changing_object, new_id, creating}
+use Rattle.dk_txn.specs.Layers.{newest}
+use Rattle.dk_overlay.specs.Logged.{Logged, changing_object, new_id, creating}
+use Rattle.dk_txn.specs.Current.{current}
 use Rattle.dk_overlay.proofs.Keys.{ids_total, ids_same}
-use Rattle.dk_overlay.proofs.Layers.{get-layered, layered-insert}
-use Rattle.dk_overlay.proofs.Sound.{sound_object, sound_as}
+use Rattle.dk_txn.proofs.Layers.{get-layered, layered-insert}
+use Rattle.dk_txn.proofs.Sound.{sound_object, sound_as}
 use Rattle.dk_overlay.proofs.Tests.{Some_injective}
 use Rattle.dk_txn.specs.declared.refusal.Refusal.{Refusal}
 use Rattle.dk_txn.specs.declared.refusal.Refusal.TheVariants as refusal

@@ -10,11 +10,13 @@ use Rattle.dk_types.specs.declared.fault.AppFault.TheVariants.{Refused}
 use Rattle.dk_model.specs.DurableWorlds.{DurableWorld, Agrees, answer}
 use Rattle.dk_model.specs.Runs.{found}
 use Rattle.dk_overlay.specs.Asked.{IsAsked}
-use Rattle.dk_overlay.specs.Logged.{Logged, current, reading}
-use Rattle.dk_overlay.specs.Knowing.{IsSound, MovesAlone}
-use Rattle.dk_overlay.proofs.Sound.{sound_reading}
+use Rattle.dk_overlay.specs.Logged.{Logged, reading}
+use Rattle.dk_txn.specs.Current.{current}
+use Rattle.dk_txn.specs.Knowing.{IsSound, MovesAlone}
+use Rattle.dk_txn.proofs.Sound.{sound_reading}
 use Rattle.dk_overlay.proofs.Tests.{Some_injective}
-use Rattle.dk_overlay.proofs.Asking.{agrees_read, WasRead-last}
+use Rattle.dk_overlay.proofs.Asking.{WasRead-last}
+use Rattle.dk_txn.proofs.Agreeing.{agrees_read}
 use Rattle.dk_txn.specs.declared.refusal.Refusal.{Refusal}
 use Rattle.dk_txn.specs.declared.txn.Txn.{Txn}
 use Rattle.dk_txn.specs.Refusals.{refusal_fault}

@@ -18,16 +18,18 @@ use Rattle.dk_model.specs.Steps.{own_task, next_due}
 use Rattle.dk_overlay.specs.declared.change.Scheduled.{Scheduled}
 use Rattle.dk_overlay.specs.declared.change.TaskChange.{TaskChange}
 use Rattle.dk_overlay.specs.declared.change.TaskChange.TheVariants.{Added, Withdrawn, Dropped, Moved}
-use Rattle.dk_overlay.specs.Answers.{is_pending, is_pending-answer}
+use Rattle.dk_overlay.specs.Answers.{is_pending}
+use Rattle.dk_txn.proofs.Answering.{is_pending-answer}
 use Rattle.dk_overlay.specs.Changes.{task_now, task_made, moved_to, settled, removing}
-use Rattle.dk_overlay.specs.Layers.{newest}
-use Rattle.dk_overlay.specs.Logged.{Logged, current, changing_task, new_key, scheduling, removing_task, moving_task, passing_own, sending}
+use Rattle.dk_txn.specs.Layers.{newest}
+use Rattle.dk_overlay.specs.Logged.{Logged, changing_task, new_key, scheduling, removing_task, moving_task, sending}
+use Rattle.dk_txn.specs.Current.{current, passing_own}
 use Rattle.dk_model.specs.Finishes.{IsNew}
-use Rattle.dk_overlay.specs.Knowing.{IsSound, MovesAlone}
+use Rattle.dk_txn.specs.Knowing.{IsSound, MovesAlone}
 use Rattle.dk_overlay.proofs.Keys.{keys_total, keys_same}
-use Rattle.dk_overlay.proofs.Layers.{get-layered, at_changed}
-use Rattle.dk_overlay.proofs.Sound.{sound_as, sound_task, removing_stood, removing_unmoved}
-use Rattle.dk_overlay.proofs.Owning.{current_task, current_removed, own_passed, own_absent, knows_passed, moves_passed}
+use Rattle.dk_txn.proofs.Layers.{get-layered, at_changed}
+use Rattle.dk_txn.proofs.Sound.{sound_as, sound_task, removing_stood, removing_unmoved}
+use Rattle.dk_txn.proofs.Owning.{current_task, current_removed, own_passed, own_absent, knows_passed, moves_passed}
 use Rattle.dk_overlay.proofs.Tests.{Some_injective, none_some}
 use Rattle.dk_txn.specs.declared.refusal.Refusal.{Refusal}
 use Rattle.dk_txn.specs.declared.refusal.Refusal.TheVariants as refusal

@@ -13,11 +13,12 @@ use Rattle.dk_model.specs.DurableWorlds.{DurableWorld, Agrees, is_above}
 use Rattle.dk_model.specs.Runs.{Act, change_object, is_reserved_kind}
 use Rattle.dk_overlay.specs.declared.change.Change.{Change}
 use Rattle.dk_overlay.specs.Changes.{value_now, task_now}
-use Rattle.dk_overlay.specs.Layers.{layered}
+use Rattle.dk_txn.specs.Layers.{layered}
 use Rattle.dk_overlay.specs.Least.{passes, Least}
-use Rattle.dk_overlay.specs.Logged.{Logged, current}
+use Rattle.dk_overlay.specs.Logged.{Logged}
+use Rattle.dk_txn.specs.Current.{current}
 use Rattle.dk_model.specs.Finishes.{IsNew}
-use Rattle.dk_overlay.specs.Knowing.{IsSound, MovesAlone}
+use Rattle.dk_txn.specs.Knowing.{IsSound, MovesAlone}
 use Rattle.dk_txn.specs.declared.txn.Txn.{Txn}
 use Rattle.dk_txn.specs.declared.refusal.Refusal.{Refusal}
 use Rattle.dk_txn.specs.Refusals.{refusal_fault}

@@ -1,3 +1,8 @@
+pub mod Layers
+pub mod Current
+pub mod Knowing
+pub mod Finishes
+pub mod Counting
 pub mod Refusals
 pub mod Listing
 pub mod Bindings

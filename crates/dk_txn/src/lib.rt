@@ -6,17 +6,20 @@
 #![tactic(auto)]
 
 pub use dk_model::Mode;
-pub use dk_overlay::Finished;
+pub use finished::{Finished, FinishedParts};
 pub use list_view::ListView;
 pub use refusal::Refusal;
 pub use txn::Txn;
 pub use view::View;
 
 mod checks;
+mod ending;
+pub mod finished;
 pub mod list_view;
 pub mod names;
 pub mod objects;
 pub mod refusal;
+pub mod sizes;
 pub mod tasks;
 #[cfg(test)]
 mod tests;

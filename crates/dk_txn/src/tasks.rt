@@ -8,6 +8,7 @@ ghost use Rattle.dk_model.specs.Steps.{own_task as own_act};
 ghost use Rattle.dk_overlay.specs.Asked.{IsAsked};
 ghost use Rattle.dk_txn.specs.Refusals.{refusal_fault, TellsLength};
 
+use crate::ending::pass_own_task;
 use crate::checks::{body_len, is_bad_period, is_too_long, too_long};
 use crate::refusal::Refusal;
 use crate::txn::Txn;
@@ -147,7 +148,7 @@ impl<'a, V: View> Txn<'a, V> {
         if !self.is_pending(key)? {
             return Ok(false);
         }
-        self.log.pass_own_task(key, due, period)?;
+        pass_own_task(&mut self.log, key, due, period)?;
         Ok(true)
     }
 }

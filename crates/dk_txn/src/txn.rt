@@ -3,12 +3,14 @@ ghost use Rattle.std.specs.Prelude.{◌≡◌, ◌≤◌, IfOk};
 ghost use Rattle.dk_types.specs.declared.limits.TheConstants.{MOMENT_MOST_MS};
 ghost use Rattle.dk_model.specs.DurableWorlds.{DurableWorld, Agrees, answer};
 ghost use Rattle.dk_overlay.specs.Asked.{IsAsked, IsOnce};
-ghost use Rattle.dk_overlay.specs.Finishes.{TellsEnd};
+ghost use Rattle.dk_txn.specs.Finishes.{TellsEnd};
 ghost use Rattle.dk_overlay.specs.Logged.{nothing_done};
 
+use crate::ending;
+use crate::finished::Finished;
 use crate::view::View;
 use dk_model::Mode;
-use dk_overlay::{Finished, Log, copy_answer};
+use dk_overlay::{Log, copy_answer};
 use dk_types::{Answer, AppFault, Item, Job, NoMemory, RunNo};
 use std::alloc::Global;
 use std::mem;
@@ -86,7 +88,7 @@ impl<'a, V: View> Txn<'a, V> {
     {
         let empty = Log::new(self.log.allocator(), RunNo(0), 0);
         let log = mem::replace(&mut self.log, empty);
-        log.finish(job, end)
+        ending::finish(log, job, end)
     }
 
     /// Ends the run, with the fault over which it gave up, if there is one. A run whose effects are written in more than
@@ -98,6 +100,6 @@ impl<'a, V: View> Txn<'a, V> {
         ensures view_stays { self.exit.0.now ≡ self.entry.view.now }
     {
         let Txn { view: _, log } = self;
-        log.finish(job, end)
+        ending::finish(log, job, end)
     }
 }

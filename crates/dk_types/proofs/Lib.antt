@@ -1,1 +1,8 @@
 pub mod FaultCounts
+pub mod Steps
+pub mod Numbers
+pub mod FieldLaws
+pub mod ExactLaws
+pub mod Composing
+pub mod NextLaws
+pub mod ListLaws

@@ -3,3 +3,11 @@ pub mod NameFaults
 pub mod GameIds
 pub mod GameIdFaults
 pub mod Faults
+pub mod Rest
+pub mod Fields
+pub mod Reading
+pub mod Exact
+pub mod Payload
+pub mod Lists
+pub mod Keys
+pub mod Values

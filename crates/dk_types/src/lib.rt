@@ -13,9 +13,11 @@ pub use game_id::{GameId, GameIdRefused};
 pub use item::{Answer, Item, Read, Seen};
 pub use job::{Input, Job, Out, Session};
 pub use listed::Listed;
+pub use mode::Mode;
 pub use name::{Name, NameRefused};
 pub use number::{ConnNo, ObjectId, RunNo, TaskKey};
 pub use object::Object;
+pub use refused::WireRefused;
 pub use side::Side;
 pub use words::Words;
 
@@ -28,9 +30,11 @@ pub mod item;
 pub mod job;
 pub mod limits;
 pub mod listed;
+pub mod mode;
 pub mod name;
 pub mod number;
 pub mod object;
+pub mod refused;
 pub mod side;
 #[cfg(test)]
 mod tests;

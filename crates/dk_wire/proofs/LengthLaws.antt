@@ -4,8 +4,8 @@ use Rattle.std.specs.List.{flat_map}
 use Rattle.std.proofs.lemmas.List.Concat.{length-flat_map}
 use Rattle.dk_types.specs.declared.number.ObjectId.{ObjectId}
 use Rattle.dk_types.specs.declared.number.TaskKey.{TaskKey}
-use Rattle.dk_wire.specs.Fields.{u8_spelling, u16_spelling, u32_spelling, u64_spelling, name_spelling, blob_spelling, id_spelling, key_spelling, id_of_key}
-use Rattle.dk_wire.specs.Lists.{list_spelling}
+use Rattle.dk_types.specs.Fields.{u8_spelling, u16_spelling, u32_spelling, u64_spelling, name_spelling, blob_spelling, id_spelling, key_spelling, id_of_key}
+use Rattle.dk_types.specs.Lists.{list_spelling}
 use Rattle.dk_wire.specs.Lengths.{name_length, blob_length, list_length}
 
 pub length-u8 : (n : ℕ) → length (u8_spelling n) ≡ 1

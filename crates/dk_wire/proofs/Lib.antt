@@ -1,11 +1,4 @@
-pub mod Steps
-pub mod Numbers
-pub mod FieldLaws
-pub mod ExactLaws
 pub mod PayloadLaws
 pub mod Loop
-pub mod Composing
-pub mod NextLaws
-pub mod ListLaws
 pub mod WholeLaws
 pub mod LengthLaws

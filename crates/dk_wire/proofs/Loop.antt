@@ -4,10 +4,10 @@ use Rattle.std.specs.List.{slice_get}
 use Rattle.std.proofs.lemmas.List.{append-nil}
 use Rattle.dk_wire.specs.declared.payload.PayloadRefused.{PayloadRefused}
 use Rattle.dk_wire.specs.declared.payload.PayloadRefused.TheVariants.{NotInGrammar, NoMemory}
-use Rattle.dk_wire.specs.Rest.{Rest}
-use Rattle.dk_wire.specs.Reading.{◌>>=◌}
+use Rattle.dk_types.specs.Rest.{Rest}
+use Rattle.dk_types.specs.Reading.{◌>>=◌}
 use Rattle.dk_wire.specs.Payload.{Misses}
-use Rattle.dk_wire.specs.Lists.{items_at}
+use Rattle.dk_types.specs.Lists.{items_at}
 
 -- the last item, if there is one
 abbrev pub last_of : {A : Type 0} → List A → Option A

@@ -1,13 +1,14 @@
 -- Readings whose faults are places.
 use Rattle.std.specs.Prelude.{IfErr}
 use Rattle.std.proofs.Common.{◌≢◌, ◌≡◌, ℕ, Result, Ok, Err, refl, ap}
-use Rattle.dk_wire.specs.declared.refused.WireRefused.{WireRefused}
-use Rattle.dk_wire.specs.declared.refused.WireRefused.TheVariants.{Short, Extra, BadTag, TooLong, NoMemory}
+use Rattle.dk_types.specs.declared.refused.WireRefused.{WireRefused}
+use Rattle.dk_types.specs.declared.refused.WireRefused.TheVariants.{Short, Extra, BadTag, TooLong, NoMemory}
 use Rattle.dk_wire.specs.declared.payload.PayloadRefused.{PayloadRefused}
 use Rattle.dk_wire.specs.declared.payload.PayloadRefused.TheVariants as payload
-use Rattle.dk_wire.specs.Rest.{Rest}
-use Rattle.dk_wire.specs.Reading.{Reads}
-use Rattle.dk_wire.specs.Payload.{placed, told_of, Gives}
+use Rattle.dk_types.specs.Rest.{Rest}
+use Rattle.dk_types.specs.Reading.{Reads}
+use Rattle.dk_types.specs.Payload.{placed}
+use Rattle.dk_wire.specs.Payload.{told_of, Gives}
 
 -- what is told of a field that was taken is what reading gives, with its fault at the field's place
 pub told_gives : {A : Type 0} (reading : Rest → Result (A × Rest) WireRefused) (old : Rest) (at : ℕ) (taken : Result A WireRefused) (new : Rest) (result : Result A PayloadRefused) → at ≡ old.at → result ≡ told_of at taken → Reads reading old taken new → Gives (λ r. placed r.at (reading r)) old result new

@@ -6,13 +6,14 @@ use Rattle.std.proofs.lemmas.Bool.{eqb-true}
 use Rattle.std.proofs.lemmas.List.{append-nil, nil_from_length}
 use Rattle.dk_wire.specs.declared.payload.PayloadRefused.{PayloadRefused}
 use Rattle.dk_wire.specs.declared.payload.PayloadRefused.TheVariants.{NotInGrammar, NoMemory}
-use Rattle.dk_wire.specs.declared.refused.WireRefused.{WireRefused}
-use Rattle.dk_wire.specs.declared.refused.WireRefused.TheVariants.{Extra}
-use Rattle.dk_wire.specs.Rest.{Rest, IsBytes}
-use Rattle.dk_wire.specs.Reading.{◌>>=◌, end_at}
-use Rattle.dk_wire.specs.Exact.{IsExact}
-use Rattle.dk_wire.specs.Payload.{placed, next_end, whole, Misses, Decodes}
-use Rattle.dk_wire.proofs.Steps.{bind_ok, ok_is}
+use Rattle.dk_types.specs.declared.refused.WireRefused.{WireRefused}
+use Rattle.dk_types.specs.declared.refused.WireRefused.TheVariants.{Extra}
+use Rattle.dk_types.specs.Rest.{Rest, IsBytes}
+use Rattle.dk_types.specs.Reading.{◌>>=◌, end_at}
+use Rattle.dk_types.specs.Exact.{IsExact}
+use Rattle.dk_types.specs.Payload.{placed, next_end, whole}
+use Rattle.dk_wire.specs.Payload.{Misses, Decodes}
+use Rattle.dk_types.proofs.Steps.{bind_ok, ok_is}
 
 -- at the end nothing is left
 nothing_left : (r : Rest) (u : Unit {0}) → next_end r ≡ Ok u → r.bytes ≡ []

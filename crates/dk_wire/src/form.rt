@@ -5,10 +5,11 @@
 //! `proofs/Composing`. Lists, `encode` and `decode` then come with their laws. The crate `dk_wire_uses` is a whole one.
 ghost use Rattle.std.specs.Prelude.{◌≡◌, ◌++◌, ℕ, List, Option, None, Result, Ok, OnOk, IfOk, MatchResult};
 ghost use Rattle.std.specs.Option.{option_copied};
-ghost use Rattle.dk_wire.specs.Rest.{Rest};
-ghost use Rattle.dk_wire.specs.Exact.{IsExact};
-ghost use Rattle.dk_wire.specs.Payload.{Gives, Misses, Decodes, whole};
-ghost use Rattle.dk_wire.specs.Lists.{IsList, list_spelling, items_at, list_at};
+ghost use Rattle.dk_types.specs.Rest.{Rest};
+ghost use Rattle.dk_types.specs.Exact.{IsExact};
+ghost use Rattle.dk_types.specs.Payload.{whole};
+ghost use Rattle.dk_wire.specs.Payload.{Gives, Misses, Decodes};
+ghost use Rattle.dk_types.specs.Lists.{IsList, list_spelling, items_at, list_at};
 
 use crate::payload::PayloadRefused;
 use crate::reader::Reader;

@@ -5,11 +5,11 @@ ghost use Rattle.byteorder.specs.Endian.{big_bytes, big_number};
 ghost use Rattle.dk_types.specs.Names.{IsName};
 ghost use Rattle.dk_types.specs.declared.number.ObjectId.{ObjectId};
 ghost use Rattle.dk_types.specs.declared.number.TaskKey.{TaskKey};
-ghost use Rattle.dk_wire.specs.Fields.{IsU8, IsU16, IsU32, IsU64, IsBlob, IsId, IsKey, u8_spelling, u16_spelling, u32_spelling, u64_spelling, name_spelling, blob_spelling, id_spelling, key_spelling};
-ghost use Rattle.dk_wire.specs.Reading.{u8_at, u16_at, u32_at, u64_at, name_at, blob_at, id_at};
-ghost use Rattle.dk_wire.specs.Payload.{next_u8, next_u16, next_u32, next_u64, next_name, next_blob, next_id, next_key};
-ghost use Rattle.dk_wire.specs.Exact.{IsExact, IsPrefixFree};
-ghost use Rattle.dk_wire.specs.Lists.{IsList, list_spelling, list_at};
+ghost use Rattle.dk_types.specs.Fields.{IsU8, IsU16, IsU32, IsU64, IsBlob, IsId, IsKey, u8_spelling, u16_spelling, u32_spelling, u64_spelling, name_spelling, blob_spelling, id_spelling, key_spelling};
+ghost use Rattle.dk_types.specs.Reading.{u8_at, u16_at, u32_at, u64_at, name_at, blob_at, id_at};
+ghost use Rattle.dk_types.specs.Payload.{next_u8, next_u16, next_u32, next_u64, next_name, next_blob, next_id, next_key};
+ghost use Rattle.dk_types.specs.Exact.{IsExact, IsPrefixFree};
+ghost use Rattle.dk_types.specs.Lists.{IsList, list_spelling, list_at};
 ghost use Rattle.dk_wire.specs.Lengths.{name_length, blob_length, list_length};
 
 use crate::form::Form;

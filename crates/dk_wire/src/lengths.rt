@@ -1,6 +1,6 @@
 //! How many bytes a spelling has, without spelling it.
 ghost use Rattle.std.specs.Prelude.{◌≡◌, length};
-ghost use Rattle.dk_wire.specs.Fields.{name_spelling, blob_spelling};
+ghost use Rattle.dk_types.specs.Fields.{name_spelling, blob_spelling};
 
 use dk_types::{Blob, Name};
 

@@ -7,9 +7,9 @@
 #![tactic(auto)]
 
 pub use form::{Form, decode, encode, put_list, take_list};
+pub use dk_types::WireRefused;
 pub use payload::PayloadRefused;
 pub use reader::Reader;
-pub use refused::WireRefused;
 pub use writer::Writer;
 
 pub mod form;
@@ -18,7 +18,6 @@ pub mod lengths;
 pub mod payload;
 pub mod reader;
 mod reading;
-pub mod refused;
 #[cfg(test)]
 mod tests;
 pub mod writer;

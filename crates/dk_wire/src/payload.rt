@@ -1,10 +1,11 @@
 //! Reading a payload of fields, where a fault is told by its place alone.
 ghost use Rattle.std.specs.Prelude.{◌≡◌, ◌≢◌, Ok, IfErr, MatchResult};
 ghost use Rattle.dk_wire.specs.declared.payload.PayloadRefused.TheVariants.{NoMemory as OutOfMemory};
-ghost use Rattle.dk_wire.specs.Payload.{Gives, Misses, told_of, next_u8, next_u16, next_u32, next_u64, next_name, next_blob, next_id, next_key, next_end};
+ghost use Rattle.dk_types.specs.Payload.{next_u8, next_u16, next_u32, next_u64, next_name, next_blob, next_id, next_key, next_end};
+ghost use Rattle.dk_wire.specs.Payload.{Gives, Misses, told_of};
 
 use crate::reader::Reader;
-use crate::refused::WireRefused;
+use dk_types::WireRefused;
 use dk_types::{Blob, Name, NoMemory, ObjectId, TaskKey};
 use std::alloc::{AllocError, AllocFailed, Global};
 

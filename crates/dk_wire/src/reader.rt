@@ -1,12 +1,12 @@
 //! Taking fields from the front.
 ghost use Rattle.std.specs.Prelude.{◌≡◌, ◌≢◌, IfErr, ◌<◌, ◌^◌};
 ghost use Rattle.dk_types.specs.Names.{IsName};
-ghost use Rattle.dk_wire.specs.Rest.{Rest, IsBytes};
-ghost use Rattle.dk_wire.specs.Fields.{IsU8, IsU16, IsU32, IsU64, IsBlob, IsId, u8_spelling, u16_spelling, u32_spelling, u64_spelling, name_spelling, blob_spelling, id_spelling};
-ghost use Rattle.dk_wire.specs.Reading.{Reads, u8_at, u16_at, u32_at, u64_at, name_at, blob_at, id_at, end_at};
-ghost use Rattle.dk_wire.specs.Exact.{TakesFront};
+ghost use Rattle.dk_types.specs.Rest.{Rest, IsBytes};
+ghost use Rattle.dk_types.specs.Fields.{IsU8, IsU16, IsU32, IsU64, IsBlob, IsId, u8_spelling, u16_spelling, u32_spelling, u64_spelling, name_spelling, blob_spelling, id_spelling};
+ghost use Rattle.dk_types.specs.Reading.{Reads, u8_at, u16_at, u32_at, u64_at, name_at, blob_at, id_at, end_at};
+ghost use Rattle.dk_types.specs.Exact.{TakesFront};
 
-use crate::refused::WireRefused;
+use dk_types::WireRefused;
 use dk_types::{Blob, Name, ObjectId};
 use std::alloc::Global;
 use std::marker::Model;
@@ -20,7 +20,7 @@ pub struct Reader<'a> {
 
 impl<'a> Model for Reader<'a> {
     ghost use Rattle.std.specs.Prelude.{◌+◌, ◌<◌, ◌^◌, length};
-    ghost use Rattle.dk_wire.specs.Rest.{Rest};
+    ghost use Rattle.dk_types.specs.Rest.{Rest};
 
     ghost Value = { Rest };
 

@@ -1,10 +1,10 @@
 //! How each kind of field is taken.
 ghost use Rattle.std.specs.Prelude.{◌≡◌, ◌≢◌, ◌+◌, ◌<◌, ◌≤◌, ◌^◌, ℕ, length, take, drop, slice_index, Ok, Err, IfOk, IfErr};
-ghost use Rattle.dk_wire.specs.Rest.{Rest, IsBytes, moved};
-ghost use Rattle.dk_wire.specs.Reading.{Reads, Refuses, bytes_at, text_of, u8_at, u16_at, u32_at, u64_at, name_at, blob_at, id_at};
+ghost use Rattle.dk_types.specs.Rest.{Rest, IsBytes, moved};
+ghost use Rattle.dk_types.specs.Reading.{Reads, Refuses, bytes_at, text_of, u8_at, u16_at, u32_at, u64_at, name_at, blob_at, id_at};
 
 use crate::reader::Reader;
-use crate::refused::WireRefused;
+use dk_types::WireRefused;
 use byteorder::{BigEndian, ByteOrder};
 use dk_types::limits::NUMBERS_END;
 use dk_types::{Blob, Name, NameRefused, ObjectId, RunNo};

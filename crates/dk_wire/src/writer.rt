@@ -1,6 +1,6 @@
 //! Putting fields at the end.
 ghost use Rattle.std.specs.Prelude.{◌≡◌, ◌<◌, ◌≤◌, ◌^◌, ◌++◌, [], length, OnOk, OnErr};
-ghost use Rattle.dk_wire.specs.Fields.{u8_spelling, u16_spelling, u32_spelling, u64_spelling, name_spelling, blob_spelling, id_spelling, key_spelling};
+ghost use Rattle.dk_types.specs.Fields.{u8_spelling, u16_spelling, u32_spelling, u64_spelling, name_spelling, blob_spelling, id_spelling, key_spelling};
 
 use byteorder::{BigEndian, ByteOrder};
 use dk_types::{Blob, Name, NoMemory, ObjectId, TaskKey};

@@ -3,11 +3,11 @@ use Rattle.std.specs.Prelude.{◌≡◌, ℕ, Bool, true, List, ◌++◌, Option
 use Rattle.std.specs.Ordering.{is_lt}
 use Rattle.dk_types.specs.Names.{IsName, bytes_cmp}
 use Rattle.dk_wire_uses.specs.declared.scores.Scores.{Scores}
-use Rattle.dk_wire.specs.Rest.{Rest}
-use Rattle.dk_wire.specs.Fields.{IsU64, u64_spelling, name_spelling}
-use Rattle.dk_wire.specs.Reading.{◌>>=◌}
-use Rattle.dk_wire.specs.Payload.{next_name, next_u64, checked}
-use Rattle.dk_wire.specs.Lists.{IsList, list_spelling, list_at}
+use Rattle.dk_types.specs.Rest.{Rest}
+use Rattle.dk_types.specs.Fields.{IsU64, u64_spelling, name_spelling}
+use Rattle.dk_types.specs.Reading.{◌>>=◌}
+use Rattle.dk_types.specs.Payload.{next_name, next_u64, checked}
+use Rattle.dk_types.specs.Lists.{IsList, list_spelling, list_at}
 
 -- the name stands behind that of the row before it, if there is one
 abbrev pub is_behind : Option (List ℕ × ℕ) → List ℕ → Bool

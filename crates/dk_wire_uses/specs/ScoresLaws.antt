@@ -1,11 +1,11 @@
 -- The example is exact: a line for each field, and no fact about bytes.
 use Rattle.std.proofs.Common.{ℕ, List, Option, refl, leb, arith}
 use Rattle.std.proofs.lemmas.Bool.{leb-true}
-use Rattle.dk_wire.specs.Exact.{IsExact}
+use Rattle.dk_types.specs.Exact.{IsExact}
 use Rattle.dk_wire_uses.specs.Scores.{is_behind, IsRow, row_spelling, row_at, AreScores, scores_spelling, scores_at}
-use Rattle.dk_wire.proofs.Composing.{then_exact, last_exact, checked_exact}
-use Rattle.dk_wire.proofs.NextLaws.{next_name_exact, next_u64_exact}
-use Rattle.dk_wire.proofs.ListLaws.{list_exact}
+use Rattle.dk_types.proofs.Composing.{then_exact, last_exact, checked_exact}
+use Rattle.dk_types.proofs.NextLaws.{next_name_exact, next_u64_exact}
+use Rattle.dk_types.proofs.ListLaws.{list_exact}
 
 pub row_exact : (before : Option (List ℕ × ℕ)) → IsExact (IsRow before) row_spelling (row_at before)
 unfolding row_at

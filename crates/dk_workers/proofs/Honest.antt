@@ -13,9 +13,9 @@ use Rattle.dk_model.specs.Lawful.{AreLawful}
 use Rattle.dk_model.specs.Openings.{opening}
 use Rattle.dk_model.specs.Sights.{grants, IsHonestRead}
 use Rattle.dk_laws.proofs.ClaimedOnce.{claimed_once}
-use Rattle.dk_overlay.specs.declared.finished.Finished.{Finished}
-use Rattle.dk_overlay.specs.Finishes.{told}
-use Rattle.dk_overlay.specs.Knowing.{JobFits}
+use Rattle.dk_txn.specs.declared.finished.Finished.{Finished}
+use Rattle.dk_txn.specs.Finishes.{told}
+use Rattle.dk_txn.specs.Knowing.{JobFits}
 use Rattle.dk_core.specs.StampedWorlds.{Stamped, read_now, seen_now}
 use Rattle.dk_core.specs.Changes.{IsFirstChanged}
 use Rattle.dk_core.specs.declared.durable.changed.Changed.{Changed}

@@ -11,7 +11,7 @@ use Rattle.dk_types.specs.declared.event.ClaimReply.TheVariants as reply
 use Rattle.dk_types.specs.declared.fault.NoMemory.{NoMemory}
 use Rattle.dk_model.specs.DurableWorlds.{DurableWorld}
 use Rattle.dk_model.specs.Events.{Meaning}
-use Rattle.dk_overlay.specs.declared.finished.Finished.{Finished}
+use Rattle.dk_txn.specs.declared.finished.Finished.{Finished}
 use Rattle.dk_core.specs.StampedWorlds.{Stamped, read_now}
 use Rattle.dk_core.specs.declared.world.Core.{Core}
 use Rattle.dk_core.specs.declared.claimed.Claimed.{Claimed}

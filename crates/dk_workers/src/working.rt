@@ -1,7 +1,7 @@
 //! One job after another.
 ghost use Rattle.std.specs.Prelude.{◌≡◌, IfOk};
 ghost use Rattle.dk_model.specs.Finishes.{KeepsLaw};
-ghost use Rattle.dk_overlay.specs.Finishes.{told};
+ghost use Rattle.dk_txn.specs.Finishes.{told};
 ghost use Rattle.dk_core.specs.Cores.{IsGranted, IsStanding};
 ghost use Rattle.dk_workers.specs.Working.{AreReadsNow, CommitsOrGivesBack, EndsRun, IsStandingFor, Serves};
 

@@ -5,7 +5,8 @@ use Rattle.dk_types.specs.declared.item.Item.{Item}
 use Rattle.dk_types.specs.declared.item.Read.{Read}
 use Rattle.dk_types.specs.declared.fault.AppFault.TheVariants.{Refused}
 use Rattle.dk_model.specs.Runs.{Run, and_then, refuse, TOO_LONG}
-use Rattle.dk_overlay.specs.Logged.{Logged, current}
+use Rattle.dk_overlay.specs.Logged.{Logged}
+use Rattle.dk_txn.specs.Current.{current}
 use Rattle.dk_txn.specs.Bindings.{binding}
 use Rattle.dk_txn.specs.declared.txn.Txn.{Txn}
 use Rattle.dk_txn.specs.Does.{Does}

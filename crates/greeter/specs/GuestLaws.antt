@@ -1,8 +1,8 @@
 -- A guest is read exactly.
 use Rattle.std.proofs.Common.{Option, None, refl}
-use Rattle.dk_wire.specs.Exact.{IsExact}
-use Rattle.dk_wire.proofs.Composing.{last_exact}
-use Rattle.dk_wire.proofs.NextLaws.{next_u64_exact}
+use Rattle.dk_types.specs.Exact.{IsExact}
+use Rattle.dk_types.proofs.Composing.{last_exact}
+use Rattle.dk_types.proofs.NextLaws.{next_u64_exact}
 use Rattle.dk_refs.specs.Managing.{ReadsExactly, reads_exactly}
 use Rattle.greeter.specs.declared.guest.Guest.{Guest}
 use Rattle.greeter.specs.Guests.{IsGuest, guest_bytes, next_guest, guest_of}

@@ -9,7 +9,8 @@ use Rattle.dk_types.specs.declared.fault.AppFault.{AppFault}
 use Rattle.dk_types.specs.declared.fault.AppFault.TheVariants.{Refused}
 use Rattle.dk_model.specs.Runs.{Run, Act, and_then, refuse, TOO_LONG}
 use Rattle.dk_model.specs.References.{get_as}
-use Rattle.dk_overlay.specs.Logged.{Logged, current}
+use Rattle.dk_overlay.specs.Logged.{Logged}
+use Rattle.dk_txn.specs.Current.{current}
 use Rattle.dk_overlay.proofs.Tests.{Some_injective}
 use Rattle.dk_txn.specs.declared.txn.Txn.{Txn}
 use Rattle.dk_txn.specs.declared.refusal.Refusal.{Refusal}

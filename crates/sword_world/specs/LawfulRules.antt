@@ -7,8 +7,8 @@ use Rattle.dk_types.specs.declared.job.Job.{Job}
 use Rattle.dk_types.specs.declared.job.Job.TheVariants as job
 use Rattle.dk_types.specs.declared.job.Out.TheVariants as out
 use Rattle.dk_types.specs.Names.{IsName}
-use Rattle.dk_wire.specs.Fields.{u8_spelling, name_spelling, id_spelling}
-use Rattle.dk_wire.specs.Lists.{list_spelling}
+use Rattle.dk_types.specs.Fields.{u8_spelling, name_spelling, id_spelling}
+use Rattle.dk_types.specs.Lists.{list_spelling}
 use Rattle.dk_model.specs.Runs.{TOO_LONG}
 use Rattle.dk_model.specs.Records.{is_name_too_long}
 use Rattle.dk_model.specs.Lawful.{IsJob, AreLawful}

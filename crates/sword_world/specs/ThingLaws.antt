@@ -2,16 +2,16 @@
 use Rattle.std.proofs.Common.{◌≡◌, ℕ, zero, suc, ◌+◌, true, Option, Some, None, List, [], ◌++◌, length, Ok, nat_lt, ltb-true, refl, ap, subst, arith}
 use Rattle.dk_types.specs.declared.number.ObjectId.{ObjectId}
 use Rattle.dk_types.specs.Names.{IsName}
-use Rattle.dk_wire.specs.Rest.{Rest, Takes}
-use Rattle.dk_wire.specs.Fields.{IsU8, IsId, u8_spelling, id_spelling}
-use Rattle.dk_wire.specs.Exact.{IsExact}
-use Rattle.dk_wire.specs.Lists.{IsList}
-use Rattle.dk_wire.specs.Reading.{◌>>=◌}
-use Rattle.dk_wire.specs.Payload.{next_id}
-use Rattle.dk_wire.proofs.Composing.{then_exact, last_exact, none_exact, alike_exact, checked_exact}
-use Rattle.dk_wire.proofs.Steps.{bind_ok, ok_is}
-use Rattle.dk_wire.proofs.NextLaws.{next_u8_exact, next_name_exact, next_id_exact}
-use Rattle.dk_wire.proofs.ListLaws.{list_exact}
+use Rattle.dk_types.specs.Rest.{Rest, Takes}
+use Rattle.dk_types.specs.Fields.{IsU8, IsId, u8_spelling, id_spelling}
+use Rattle.dk_types.specs.Exact.{IsExact}
+use Rattle.dk_types.specs.Lists.{IsList}
+use Rattle.dk_types.specs.Reading.{◌>>=◌}
+use Rattle.dk_types.specs.Payload.{next_id}
+use Rattle.dk_types.proofs.Composing.{then_exact, last_exact, none_exact, alike_exact, checked_exact}
+use Rattle.dk_types.proofs.Steps.{bind_ok, ok_is}
+use Rattle.dk_types.proofs.NextLaws.{next_u8_exact, next_name_exact, next_id_exact}
+use Rattle.dk_types.proofs.ListLaws.{list_exact}
 use Rattle.dk_records.specs.FieldLaws.{each_id_exact}
 use Rattle.dk_refs.specs.Managing.{ReadsExactly, reads_exactly}
 use Rattle.sword_world.specs.declared.things.Room.{Room}

@@ -1,11 +1,11 @@
 -- What SwordWorld keeps: things, the room and players, as the bytes of managed objects.
 use Rattle.std.specs.Prelude.{ℕ, ◌==◌, Option, Some, None, List, [], ◌∷◌, ◌++◌, nat_lt, Result, Ok, if◌then◌else◌}
 use Rattle.dk_types.specs.declared.number.ObjectId.{ObjectId}
-use Rattle.dk_wire.specs.Rest.{Rest}
-use Rattle.dk_wire.specs.Fields.{u8_spelling, name_spelling, id_spelling}
-use Rattle.dk_wire.specs.Reading.{◌>>=◌}
-use Rattle.dk_wire.specs.Payload.{next_u8, next_name, next_id, checked}
-use Rattle.dk_wire.specs.Lists.{list_spelling, list_at}
+use Rattle.dk_types.specs.Rest.{Rest}
+use Rattle.dk_types.specs.Fields.{u8_spelling, name_spelling, id_spelling}
+use Rattle.dk_types.specs.Reading.{◌>>=◌}
+use Rattle.dk_types.specs.Payload.{next_u8, next_name, next_id, checked}
+use Rattle.dk_types.specs.Lists.{list_spelling, list_at}
 use Rattle.dk_model.specs.Records.{value_of}
 use Rattle.sword_world.specs.declared.things.Room.{Room}
 use Rattle.sword_world.specs.declared.things.Thing.{Thing}

@@ -1,6 +1,7 @@
 //! How what the game keeps is written in bytes.
 ghost use Rattle.std.specs.Prelude.{◌≡◌, ◌++◌, OnOk, nat_lt};
-ghost use Rattle.dk_wire.specs.Payload.{Gives, next_u8, checked};
+ghost use Rattle.dk_types.specs.Payload.{next_u8, checked};
+ghost use Rattle.dk_wire.specs.Payload.{Gives};
 ghost use Rattle.sword_world.specs.Things.{carried_bytes, next_carried, next_item};
 
 use crate::things::{Player, Room, Thing};

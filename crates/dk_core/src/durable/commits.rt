@@ -1,7 +1,7 @@
 //! Commits of finished runs.
 ghost use Rattle.std.specs.Prelude.{◌≡◌, ◌+◌, ◌<◌, ◌^◌, OnOk};
 ghost use Rattle.dk_model.specs.Effects.{after};
-ghost use Rattle.dk_overlay.specs.Finishes.{told};
+ghost use Rattle.dk_txn.specs.Finishes.{told};
 ghost use Rattle.dk_core.specs.StampedWorlds.{durable_of, with_room};
 ghost use Rattle.dk_core.specs.Rooms.{HasRoom, IsNoLess};
 ghost use Rattle.dk_core.specs.Publishing.{published, committed};
@@ -12,7 +12,7 @@ use crate::durable::publish::{
     unbind_names,
 };
 use crate::durable::world::StampedWorld;
-use dk_overlay::{Finished, FinishedParts};
+use dk_txn::{Finished, FinishedParts};
 use dk_types::{Effects, Item, NoMemory, RunNo};
 
 impl StampedWorld {

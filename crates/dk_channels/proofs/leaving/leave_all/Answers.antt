@@ -1,4 +1,4 @@
-use Rattle.dk_model.specs.declared.mode.Mode.TheVariants.{Platform}
+use Rattle.dk_types.specs.declared.mode.Mode.TheVariants.{Platform}
 use Rattle.dk_model.specs.Platforms as platform
 use Rattle.dk_txn.specs.declared.refusal.Refusal.TheVariants as refusal
 use Rattle.dk_txn.proofs.Kit.{within_does}

@@ -1,5 +1,5 @@
 use Rattle.std.proofs.Common.{ap, ◌∙◌}
-use Rattle.dk_model.specs.declared.mode.Mode.TheVariants as mode
+use Rattle.dk_types.specs.declared.mode.Mode.TheVariants as mode
 use Rattle.dk_txn.proofs.Kit.{within_does}
 use Rattle.dk_game.proofs.parts.game_part.Goals as goal
 

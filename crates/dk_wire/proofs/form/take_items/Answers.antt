@@ -1,7 +1,7 @@
 use Rattle.std.proofs.Common.{◌≡◌, None}
 use Rattle.std.specs.Option.{option_copied}
 use Rattle.std.proofs.lemmas.Result.{err_from_is_err_and}
-use Rattle.dk_wire.specs.Lists.{items_at}
+use Rattle.dk_types.specs.Lists.{items_at}
 use Rattle.dk_wire.proofs.Loop.{last_of, goes_on, ends, is_done}
 use Rattle.dk_wire.proofs.form.take_items.Goals as goal
 

@@ -1,5 +1,5 @@
 use Rattle.std.proofs.Common.{◌≡◌, ◌-◌, None}
-use Rattle.dk_wire.specs.Lists.{items_at}
+use Rattle.dk_types.specs.Lists.{items_at}
 use Rattle.dk_wire.proofs.Loop.{last_of, with_front}
 use Rattle.dk_wire.proofs.form.take_items.Given as goal
 

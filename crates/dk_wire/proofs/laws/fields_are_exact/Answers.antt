@@ -1,4 +1,4 @@
-use Rattle.dk_wire.proofs.FieldLaws.{u8_exact, u16_exact, u32_exact, u64_exact, name_exact, blob_exact, id_exact}
+use Rattle.dk_types.proofs.FieldLaws.{u8_exact, u16_exact, u32_exact, u64_exact, name_exact, blob_exact, id_exact}
 use Rattle.dk_wire.proofs.laws.fields_are_exact.Goals as goal
 
 pub returns-clause-u8 : goal.returns-clause-u8

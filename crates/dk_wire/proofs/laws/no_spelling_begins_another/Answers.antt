@@ -1,11 +1,11 @@
 use Rattle.std.proofs.Common.{arith, lit<}
 use Rattle.dk_types.specs.Names.{IsName}
-use Rattle.dk_wire.specs.Fields.{IsU8, IsU16, IsU32, IsU64, IsBlob, IsId, IsKey, u8_spelling, u16_spelling, u32_spelling, u64_spelling, name_spelling, blob_spelling, id_spelling, key_spelling}
-use Rattle.dk_wire.specs.Reading.{u8_at, u16_at, u32_at, u64_at, name_at, blob_at, id_at}
-use Rattle.dk_wire.proofs.FieldLaws.{u8_exact, u16_exact, u32_exact, u64_exact, name_exact, blob_exact, id_exact}
-use Rattle.dk_wire.specs.Payload.{next_key}
-use Rattle.dk_wire.proofs.NextLaws.{next_key_exact}
-use Rattle.dk_wire.proofs.ExactLaws.{prefix_free}
+use Rattle.dk_types.specs.Fields.{IsU8, IsU16, IsU32, IsU64, IsBlob, IsId, IsKey, u8_spelling, u16_spelling, u32_spelling, u64_spelling, name_spelling, blob_spelling, id_spelling, key_spelling}
+use Rattle.dk_types.specs.Reading.{u8_at, u16_at, u32_at, u64_at, name_at, blob_at, id_at}
+use Rattle.dk_types.proofs.FieldLaws.{u8_exact, u16_exact, u32_exact, u64_exact, name_exact, blob_exact, id_exact}
+use Rattle.dk_types.specs.Payload.{next_key}
+use Rattle.dk_types.proofs.NextLaws.{next_key_exact}
+use Rattle.dk_types.proofs.ExactLaws.{prefix_free}
 use Rattle.dk_wire.proofs.laws.no_spelling_begins_another.Goals as goal
 
 pub returns-clause-u8 : goal.returns-clause-u8

@@ -1,5 +1,5 @@
 use Rattle.std.proofs.Common.{refl}
-use Rattle.dk_wire.proofs.Numbers.{wide16, wide32, wide64}
+use Rattle.dk_types.proofs.Numbers.{wide16, wide32, wide64}
 use Rattle.dk_wire.proofs.laws.numbers_are_big_endian.Goals as goal
 
 pub returns-clause-u16 : goal.returns-clause-u16

@@ -1,4 +1,4 @@
-use Rattle.dk_wire.proofs.NextLaws.{next_u8_exact, next_u16_exact, next_u32_exact, next_u64_exact, next_name_exact, next_blob_exact, next_id_exact, next_key_exact}
+use Rattle.dk_types.proofs.NextLaws.{next_u8_exact, next_u16_exact, next_u32_exact, next_u64_exact, next_name_exact, next_blob_exact, next_id_exact, next_key_exact}
 use Rattle.dk_wire.proofs.laws.payload_fields_are_exact.Goals as goal
 
 pub returns-clause-u8 : goal.returns-clause-u8

@@ -1,6 +1,6 @@
 use Rattle.std.proofs.Common.{◌≡◌, ℕ, ◌+◌, List, length, length-append, arith}
-use Rattle.dk_wire.specs.Fields.{u64_spelling, name_spelling}
-use Rattle.dk_wire.specs.Lists.{list_spelling}
+use Rattle.dk_types.specs.Fields.{u64_spelling, name_spelling}
+use Rattle.dk_types.specs.Lists.{list_spelling}
 use Rattle.dk_wire.specs.Lengths.{name_length, list_length}
 use Rattle.dk_wire.proofs.LengthLaws.{length-u64, length-name, length-list}
 use Rattle.dk_wire_uses.specs.Scores.{row_spelling}

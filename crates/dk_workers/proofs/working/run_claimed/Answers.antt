@@ -1,6 +1,6 @@
 use Rattle.std.proofs.Common.{sym, subst, ◌∙◌, ◌≤◌}
 use Rattle.dk_types.specs.declared.limits.TheConstants.{MOMENT_MOST_MS}
-use Rattle.dk_overlay.specs.Knowing.{JobFits}
+use Rattle.dk_txn.specs.Knowing.{JobFits}
 use Rattle.dk_workers.specs.Working.{AreReadsNow}
 use Rattle.dk_workers.proofs.Honest.{claim_within, reads_now}
 use Rattle.dk_workers.proofs.working.run_claimed.Goals as goal

@@ -2,7 +2,7 @@ use Rattle.std.proofs.Common.{◌≡◌, rules, Some, ap, sym, ◌∙◌}
 use Rattle.dk_types.specs.declared.item.Item.TheVariants as ask
 use Rattle.dk_types.specs.Names.{bytes_cmp}
 use Rattle.dk_map.specs.Entries.{put}
-use Rattle.dk_model.specs.Keys.{id_cmp, key_cmp}
+use Rattle.dk_types.specs.Keys.{id_cmp, key_cmp}
 use Rattle.dk_overlay.proofs.Asking.{adds_object, adds_name, adds_next, adds_task, added}
 use Rattle.dk_overlay.proofs.index.Index.add.Goals as goal
 

@@ -1,6 +1,6 @@
 use Rattle.std.proofs.Common.{◌≡◌, rules}
 use Rattle.dk_types.specs.Names.{bytes_cmp}
-use Rattle.dk_model.specs.Effects.{same_id}
+use Rattle.dk_types.specs.Values.{same_id}
 use Rattle.dk_overlay.specs.Picks.{newly_set}
 use Rattle.dk_overlay.proofs.Picking.{picks_begin, picks_none, picks_some, picks_end}
 use Rattle.dk_overlay.proofs.names.NameChanges.bound.Goals as goal

@@ -1,6 +1,6 @@
 use Rattle.std.proofs.Common.{◌≡◌, ◌++◌, map}
 use Rattle.std.specs.FinMap.{entries}
-use Rattle.dk_model.specs.Effects.{same_id}
+use Rattle.dk_types.specs.Values.{same_id}
 use Rattle.dk_overlay.specs.Picks.{picked, newly_set}
 use Rattle.dk_overlay.proofs.Picking.{seen}
 use Rattle.dk_overlay.proofs.names.NameChanges.bound.Given as goal

@@ -1,5 +1,5 @@
 use Rattle.std.proofs.Common.{◌≡◌, rules}
-use Rattle.dk_model.specs.Keys.{id_cmp}
+use Rattle.dk_types.specs.Keys.{id_cmp}
 use Rattle.dk_overlay.specs.Picks.{taken_away}
 use Rattle.dk_overlay.proofs.Picking.{maps_begin, maps_none, maps_some, maps_end}
 use Rattle.dk_overlay.proofs.objects.ObjectChanges.removed.Goals as goal

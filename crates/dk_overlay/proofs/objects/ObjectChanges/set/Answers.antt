@@ -1,7 +1,7 @@
 use Rattle.std.proofs.Common.{ap, ◌∙◌}
 use Rattle.dk_map.specs.Entries.{put}
 use Rattle.dk_map.proofs.Seen.{put_seen}
-use Rattle.dk_model.specs.Keys.{id_cmp}
+use Rattle.dk_types.specs.Keys.{id_cmp}
 use Rattle.dk_overlay.proofs.Keys.{ids_total}
 use Rattle.dk_overlay.proofs.objects.ObjectChanges.set.Goals as goal
 

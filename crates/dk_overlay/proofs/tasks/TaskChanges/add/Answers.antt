@@ -1,7 +1,7 @@
 use Rattle.std.proofs.Common.{ap, ◌∙◌}
 use Rattle.dk_map.specs.Entries.{put}
 use Rattle.dk_map.proofs.Seen.{put_seen}
-use Rattle.dk_model.specs.Keys.{key_cmp}
+use Rattle.dk_types.specs.Keys.{key_cmp}
 use Rattle.dk_overlay.specs.declared.change.TaskChange.TheVariants.{Added}
 use Rattle.dk_overlay.proofs.Keys.{keys_total}
 use Rattle.dk_overlay.proofs.tasks.TaskChanges.add.Goals as goal

@@ -1,6 +1,6 @@
 use Rattle.std.proofs.Common.{◌≡◌, ◌++◌, map}
 use Rattle.std.specs.FinMap.{entries}
-use Rattle.dk_model.specs.Effects.{pending_of}
+use Rattle.dk_types.specs.Values.{pending_of}
 use Rattle.dk_overlay.specs.Picks.{picked, task_added}
 use Rattle.dk_overlay.proofs.Picking.{seen}
 use Rattle.dk_overlay.proofs.tasks.TaskChanges.added.Given as goal

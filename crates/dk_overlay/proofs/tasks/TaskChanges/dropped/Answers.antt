@@ -1,5 +1,5 @@
 use Rattle.std.proofs.Common.{◌≡◌, rules}
-use Rattle.dk_model.specs.Keys.{key_cmp}
+use Rattle.dk_types.specs.Keys.{key_cmp}
 use Rattle.dk_overlay.specs.Picks.{task_dropped}
 use Rattle.dk_overlay.proofs.Picking.{maps_begin, maps_none, maps_some, maps_end}
 use Rattle.dk_overlay.proofs.tasks.TaskChanges.dropped.Goals as goal

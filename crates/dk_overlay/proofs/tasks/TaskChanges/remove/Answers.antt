@@ -2,7 +2,7 @@ use Rattle.std.proofs.Common.{ap, ◌∙◌}
 use Rattle.std.specs.FinMap as map
 use Rattle.dk_map.specs.Entries.{put, find}
 use Rattle.dk_map.proofs.Seen.{put_seen, get_seen}
-use Rattle.dk_model.specs.Keys.{key_cmp}
+use Rattle.dk_types.specs.Keys.{key_cmp}
 use Rattle.dk_overlay.specs.Changes.{removing}
 use Rattle.dk_overlay.proofs.Keys.{keys_total}
 use Rattle.dk_overlay.proofs.tasks.TaskChanges.remove.Goals as goal

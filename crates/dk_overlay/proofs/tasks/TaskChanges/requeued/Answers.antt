@@ -1,5 +1,5 @@
 use Rattle.std.proofs.Common.{◌≡◌, rules}
-use Rattle.dk_model.specs.Keys.{key_cmp}
+use Rattle.dk_types.specs.Keys.{key_cmp}
 use Rattle.dk_overlay.specs.Picks.{task_moved}
 use Rattle.dk_overlay.proofs.Picking.{picks_begin, picks_none, picks_some, picks_end}
 use Rattle.dk_overlay.proofs.tasks.TaskChanges.requeued.Goals as goal

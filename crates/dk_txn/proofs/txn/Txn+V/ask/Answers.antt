@@ -1,6 +1,6 @@
 use Rattle.std.proofs.Common.{IfSome, refl, sym, subst, ◌∙◌}
 use Rattle.dk_overlay.specs.Asked.{WasAnswered}
-use Rattle.dk_overlay.proofs.Asking.{agrees_read}
+use Rattle.dk_txn.proofs.Agreeing.{agrees_read}
 use Rattle.dk_txn.proofs.Reading.{keeps_read, keeps_unread, reading_answers, reading_asked}
 use Rattle.dk_txn.proofs.txn.Txn+V.ask.Goals as goal
 

@@ -1,5 +1,5 @@
-use Rattle.dk_wire.specs.Reading.{blob_at}
-use Rattle.dk_wire.specs.Payload.{next_blob}
+use Rattle.dk_types.specs.Reading.{blob_at}
+use Rattle.dk_types.specs.Payload.{next_blob}
 use Rattle.dk_wire.proofs.PayloadLaws.{told_gives}
 use Rattle.dk_wire.proofs.reader.Reader.next_blob.Goals as goal
 

@@ -1,5 +1,5 @@
-use Rattle.dk_wire.specs.Reading.{u16_at}
-use Rattle.dk_wire.specs.Payload.{next_u16}
+use Rattle.dk_types.specs.Reading.{u16_at}
+use Rattle.dk_types.specs.Payload.{next_u16}
 use Rattle.dk_wire.proofs.PayloadLaws.{told_gives, told_memory}
 use Rattle.dk_wire.proofs.reader.Reader.next_u16.Goals as goal
 

@@ -1,8 +1,8 @@
 use Rattle.std.proofs.Common.{arith}
-use Rattle.dk_wire.specs.Fields.{IsBlob, blob_spelling}
-use Rattle.dk_wire.specs.Reading.{blob_at}
-use Rattle.dk_wire.proofs.FieldLaws.{blob_exact}
-use Rattle.dk_wire.proofs.ExactLaws.{takes_front}
+use Rattle.dk_types.specs.Fields.{IsBlob, blob_spelling}
+use Rattle.dk_types.specs.Reading.{blob_at}
+use Rattle.dk_types.proofs.FieldLaws.{blob_exact}
+use Rattle.dk_types.proofs.ExactLaws.{takes_front}
 use Rattle.dk_wire.proofs.reader.Reader.take_blob.Goals as goal
 
 pub returns-clause-front : goal.returns-clause-front

@@ -1,7 +1,7 @@
-use Rattle.dk_wire.specs.Fields.{IsId, id_spelling}
-use Rattle.dk_wire.specs.Reading.{id_at}
-use Rattle.dk_wire.proofs.FieldLaws.{id_exact}
-use Rattle.dk_wire.proofs.ExactLaws.{takes_front}
+use Rattle.dk_types.specs.Fields.{IsId, id_spelling}
+use Rattle.dk_types.specs.Reading.{id_at}
+use Rattle.dk_types.proofs.FieldLaws.{id_exact}
+use Rattle.dk_types.proofs.ExactLaws.{takes_front}
 use Rattle.dk_wire.proofs.reader.Reader.take_id.Goals as goal
 
 pub returns-clause-front : goal.returns-clause-front

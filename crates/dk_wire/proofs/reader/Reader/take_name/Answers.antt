@@ -1,8 +1,8 @@
 use Rattle.dk_types.specs.Names.{IsName}
-use Rattle.dk_wire.specs.Fields.{name_spelling}
-use Rattle.dk_wire.specs.Reading.{name_at}
-use Rattle.dk_wire.proofs.FieldLaws.{name_exact}
-use Rattle.dk_wire.proofs.ExactLaws.{takes_front}
+use Rattle.dk_types.specs.Fields.{name_spelling}
+use Rattle.dk_types.specs.Reading.{name_at}
+use Rattle.dk_types.proofs.FieldLaws.{name_exact}
+use Rattle.dk_types.proofs.ExactLaws.{takes_front}
 use Rattle.dk_wire.proofs.reader.Reader.take_name.Goals as goal
 
 pub returns-clause-front : goal.returns-clause-front

@@ -1,7 +1,7 @@
-use Rattle.dk_wire.specs.Fields.{IsU64, u64_spelling}
-use Rattle.dk_wire.specs.Reading.{u64_at}
-use Rattle.dk_wire.proofs.FieldLaws.{u64_exact}
-use Rattle.dk_wire.proofs.ExactLaws.{takes_front}
+use Rattle.dk_types.specs.Fields.{IsU64, u64_spelling}
+use Rattle.dk_types.specs.Reading.{u64_at}
+use Rattle.dk_types.proofs.FieldLaws.{u64_exact}
+use Rattle.dk_types.proofs.ExactLaws.{takes_front}
 use Rattle.dk_wire.proofs.reader.Reader.take_u64.Goals as goal
 
 pub returns-clause-front : goal.returns-clause-front

@@ -1,7 +1,7 @@
 use Rattle.std.proofs.Common.{◌≡◌, length, sym, ap, ◌∙◌}
 use Rattle.std.proofs.lemmas.List.{length-map}
 use Rattle.std.specs.FinMap as map
-use Rattle.dk_model.specs.Keys.{key_cmp}
+use Rattle.dk_types.specs.Keys.{key_cmp}
 use Rattle.dk_tasks.specs.Tasks.{Kept, bare, durable_tasks}
 use Rattle.dk_tasks.proofs.Durable.{entries-durable}
 use Rattle.dk_core.proofs.durable.world.StampedWorld.pending_len.Goals as goal

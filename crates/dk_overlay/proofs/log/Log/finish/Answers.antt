@@ -1,9 +1,0 @@
-use Rattle.std.proofs.Common.{IfOk, sym, subst}
-use Rattle.dk_overlay.specs.Finishes.{TellsEnd}
-use Rattle.dk_overlay.proofs.log.Log.finish.Goals as goal
-
-pub returns-in-Ok-clause-told : goal.returns-in-Ok-clause-told
-returns-in-Ok-clause-told c = subst (λ e. IfOk c.come_to_end.result (TellsEnd c.args.self c.args.job.now e)) (sym c.in-Ok.is) c.come_to_end.ensures.told
-
-pub returns-in-Err-clause-told : goal.returns-in-Err-clause-told
-returns-in-Err-clause-told c = subst (λ e. IfOk c.fail.result (TellsEnd c.args.self c.args.job.now e)) (sym c.in-Err.is) c.fail.ensures.told

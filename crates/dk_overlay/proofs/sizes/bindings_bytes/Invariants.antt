@@ -1,8 +1,0 @@
-use Rattle.std.proofs.Common.{take}
-use Rattle.dk_model.specs.Effects.{list_length, binding_length}
-use Rattle.dk_overlay.specs.Counting.{Counts}
-use Rattle.dk_overlay.proofs.sizes.bindings_bytes.Given as goal
-
--- the items so far are counted
-abbrev pub invariant-loop-name : goal.invariant-loop-name
-invariant-loop-name l = Counts l.bytes (list_length binding_length (take l.name-index l.bindings))

@@ -1,0 +1,49 @@
+-- What a finished run tells.
+use Rattle.std.specs.Prelude.{◌≡◌, Result}
+use Rattle.dk_types.specs.declared.job.Job.{Job}
+use Rattle.dk_types.specs.declared.fault.AppFault.{AppFault}
+use Rattle.dk_model.specs.DurableWorlds.{DurableWorld, Agrees}
+use Rattle.dk_model.specs.Runs.{begun}
+use Rattle.dk_model.specs.Steps.{ended, failed, kept_by}
+use Rattle.dk_model.specs.Finishes.{Told, told_step, IsNew, HasOwnTask}
+use Rattle.dk_txn.specs.declared.finished.Finished.{Finished}
+use Rattle.dk_overlay.specs.Logged.{Logged}
+use Rattle.dk_txn.specs.Current.{current}
+use Rattle.dk_txn.specs.Knowing.{IsSound, KnowsBefore, MovesStand, MovesOwn, JobFits, OwnIsAsked}
+
+-- what a finished run tells
+abbrev pub told : Finished → Told
+told f = record { outcome = f.outcome; effects = f.effects; touched = f.touched.items; outs = f.outs.items }
+
+-- d is a world in which the run may be: it agrees with what was read, no object and no task has the run's number, and the
+-- job's own task stands in it as the job says
+pub record MayBeIn (t : Logged) (job : Job) (d : DurableWorld) : Type 0 where
+  pub agrees : Agrees d t.reads
+  pub new : IsNew d t.run
+  pub stands : HasOwnTask d job
+
+-- the log of a run as its calls leave it: its changes know what was there before, it asked for its own task, whose moments are
+-- within their limits, and moved no other
+pub record IsLogOf (t : Logged) (job : Job) : Type 0 where
+  pub sound : IsSound t
+  pub asked : OwnIsAsked job t
+  pub own : MovesOwn job t
+  pub fits : JobFits job
+
+-- in every world in which the run may be, it tells what the definitions tell of a run that comes to this end
+abbrev pub TellsEnd : Logged → Job → Result (Unit {0}) AppFault → Finished → Type 0
+TellsEnd t job end f = IsLogOf t job → (d : DurableWorld) → MayBeIn t job d → told f ≡ told_step d (ended job d (begun t.run t.at d) (end, current t d))
+
+-- the same of a run that fails
+abbrev pub TellsFailed : Logged → Job → AppFault → Finished → Type 0
+TellsFailed t job fault f = IsLogOf t job → (d : DurableWorld) → MayBeIn t job d → told f ≡ told_step d (failed job (begun t.run t.at d) fault)
+
+-- in d the log k comes to what a failed run keeps of its own task
+pub record IsKeptIn (t : Logged) (job : Job) (k : Logged) (d : DurableWorld) : Type 0 where
+  pub is : current k d ≡ kept_by job (begun t.run t.at d)
+  pub knows : KnowsBefore k d
+  pub moves : MovesStand k d
+
+-- the same in every world in which the run may be
+abbrev pub IsKept : Logged → Job → Logged → Type 0
+IsKept t job k = IsLogOf t job → (d : DurableWorld) → MayBeIn t job d → IsKeptIn t job k d
