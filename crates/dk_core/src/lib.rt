@@ -21,8 +21,6 @@ mod commits;
 pub mod durable;
 mod events;
 mod granting;
-mod opening;
+pub mod opening;
 pub mod prepared;
-#[cfg(test)]
-mod tests;
 pub mod world;

@@ -1,5 +1,5 @@
 //! Calls of a core, each answered as a test wants it. They keep what the calls after them ask for.
-ghost use Rattle.std.specs.Prelude.{IfOk};
+ghost use Rattle.std.specs.Prelude.{◌≤◌, IfOk};
 ghost use Rattle.dk_model.specs.Lawful.{IsInput};
 ghost use Rattle.dk_core.specs.Cores.{IsGranted};
 ghost use Rattle.dk_workers.specs.Working.{IsStandingFor};
@@ -8,29 +8,37 @@ use dk_core::{Changed, Claimed, Core, Handed, PostRefused, PrepareRefused};
 use dk_game::Game;
 use dk_workers::{Ran, Step, work_once};
 use dk_txn::Finished;
-use dk_types::{ConnNo, Durable, Input, Listed, Name};
+use dk_types::{Blob, ConnNo, Durable, Input, Listed, Name, RunNo};
 use std::alloc::Global;
+use std::process::Abort;
 use std::test::Fail;
 
 /// The pass of every call.
-const PASS: u32 = 7;
+pub(crate) const PASS: u32 = 7;
 
-pub(crate) fn text(alloc: Global, bytes: &[u8]) -> Result<Name, Fail> {
-    Ok(Name::new(alloc, bytes).ok().ok_or("a name")?)
+pub(crate) fn text(alloc: Global, text: &str) -> Result<Name, Fail> {
+    Ok(Name::new(alloc, text.as_bytes()).ok().ok_or("a name")?)
 }
 
-/// A core on the world before the first run.
-pub(crate) fn opened<G: Game>(alloc: Global, game: &G) -> Result<Core, Fail>
+/// A core on a world in which nothing stands, before the first run or after it.
+pub(crate) fn opened<G: Game>(
+    alloc: Global,
+    game: &G,
+    commits: u64,
+    budget: Option<u64>,
+) -> Result<Core, Fail>
+    requires { commits ≤ 1 }
     ensures { IfOk result (IsStandingFor (G.rules game.now)) }
 {
+    let last = if commits == 0 { None } else { Some(RunNo(0)) };
     let durable = Durable {
-        commits: 0,
-        last: None,
+        commits,
+        last,
         objects: Listed::from_vec(Vec::new(alloc)),
         names: Listed::from_vec(Vec::new(alloc)),
         tasks: Listed::from_vec(Vec::new(alloc)),
     };
-    match Core::open(alloc, durable, None) {
+    match Core::open(alloc, durable, budget) {
         Ok(core) => Ok(core),
         Err(_) => Err(Fail::from("a core")),
     }
@@ -122,12 +130,12 @@ pub(crate) fn connect<G: Game>(
     alloc: Global,
     _game: &G,
     core: &mut Core,
-    bytes: &[u8],
+    name: &str,
 ) -> Result<ConnNo, Fail>
     requires { IsStandingFor (G.rules _game.now) core.old }
     ensures { IfOk result (λ _. IsStandingFor (G.rules _game.now) core.new) }
 {
-    let name = text(alloc, bytes)?;
+    let name = text(alloc, name)?;
     match core.connect(&name) {
         Ok(conn) => Ok(conn),
         Err(_) => Err(Fail::from("a connection")),
@@ -145,6 +153,31 @@ pub(crate) fn post<G: Game>(
     ensures { IfOk result (λ _. IsStandingFor (G.rules _game.now) core.new) }
 {
     Ok(core.post(conn, input))
+}
+
+/// A message of so many bytes.
+fn message(rt: &impl Abort, alloc: Global, len: usize) -> Result<Input, Fail>
+    ensures { IfOk result IsInput }
+{
+    assert!(rt; len <= 4096);
+    let bytes = vec![in alloc; 0; len]?;
+    Ok(Input::Message(Blob::from_vec(bytes)))
+}
+
+/// The same of so many bytes.
+pub(crate) fn post_bytes<G: Game>(
+    rt: &impl Abort,
+    alloc: Global,
+    game: &G,
+    core: &mut Core,
+    conn: ConnNo,
+    len: usize,
+) -> Result<Result<(), PostRefused>, Fail>
+    requires { IsStandingFor (G.rules game.now) core.old }
+    ensures { IfOk result (λ _. IsStandingFor (G.rules game.now) core.new) }
+{
+    let input = message(rt, alloc, len)?;
+    post(game, core, conn, input)
 }
 
 pub(crate) fn hand<G: Game>(

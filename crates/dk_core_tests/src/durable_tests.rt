@@ -1,92 +1,164 @@
-// Runs on a world, committed one after another.
-use crate::{Changed, Committed, StampedWorld};
-use dk_overlay::{Change, Finished, Log, Scheduled};
-use dk_types::{
-    Answer, Blob, Item, Job, Name, NoMemory, Object, ObjectId, Read, RunNo, Seen, TaskKey,
-};
+//! Commits on a stamped world, one after another: what is seen of four items after each.
+
+use dk_core::Changed;
+use dk_core::durable::StampedWorld;
+use dk_txn::{Finished, Txn, View};
+use dk_types::{Blob, Item, Job, Name, ObjectId, Read, RunNo, Seen, TaskKey};
 use std::alloc::Global;
 use std::process::Abort;
 use std::test::Fail;
+
+/// What a run does.
+#[derive(Clone, Copy, Debug)]
+enum Deed {
+    /// It makes an object and binds the name to it.
+    Builds,
+    /// It schedules a task for 10 ms and every 10 ms from then on.
+    Schedules,
+    /// It takes up that task, which is moved to 20 ms.
+    Recurs,
+    /// It unbinds the name.
+    Leaves,
+}
+
+/// A run, and what is seen after its commit of the object, the name, the next name and the task.
+#[derive(Clone, Copy)]
+struct Row {
+    run: u64,
+    deed: Deed,
+    object: Option<u64>,
+    name: Option<u64>,
+    task: Option<u64>,
+}
+
+const BUILT: ObjectId = ObjectId {
+    run: RunNo(0),
+    k: 0,
+};
+
+/// An object that no run makes.
+const NEVER: ObjectId = ObjectId {
+    run: RunNo(7),
+    k: 0,
+};
+
+const SCHEDULED: TaskKey = TaskKey {
+    run: RunNo(1),
+    k: 0,
+};
 
 fn hall(alloc: Global) -> Result<Name, Fail> {
     Ok(Name::new(alloc, b"hall").ok().ok_or("a name")?)
 }
 
-fn first_id(run: u64) -> ObjectId {
-    ObjectId {
-        run: RunNo(run),
-        k: 0,
+fn empty(alloc: Global) -> Blob {
+    Blob::from_vec(Vec::new(alloc))
+}
+
+fn act<V: View>(alloc: Global, txn: &mut Txn<'_, V>, deed: Deed, name: &Name) -> Option<()> {
+    match deed {
+        Deed::Builds => {
+            let id = txn.create(1, empty(alloc)).ok()?;
+            txn.bind(name, id).ok()
+        }
+        Deed::Schedules => txn
+            .schedule_periodic(3, empty(alloc), 10, 10)
+            .ok()
+            .map(|_| ()),
+        Deed::Recurs => txn.own_task(SCHEDULED, 10, 10).ok().map(|_| ()),
+        Deed::Leaves => txn.unbind(name).ok(),
     }
 }
 
-/// A run that makes an object and binds the name to it.
-fn builds(alloc: Global, name: &Name, run: u64) -> Result<Finished, NoMemory> {
-    let mut log = Log::new(alloc, RunNo(run), 0);
-    let id = log.create_object(Object {
-        kind: 1,
-        bytes: Blob::from_vec(Vec::new(alloc)),
-    })?;
-    log.change_name(
-        name,
-        Change {
-            before: None,
-            after: Some(id),
-        },
-    )?;
-    log.finish(&Job::Initialize, Ok(()))
+fn run_over<V: View>(alloc: Global, view: &mut V, row: &Row, name: &Name) -> Result<Finished, Fail> {
+    let mut txn = Txn::begin(alloc, view, RunNo(row.run), 0);
+    act(alloc, &mut txn, row.deed, name).ok_or("a call")?;
+    Ok(txn.end(&Job::Initialize, Ok(()))?)
 }
 
-/// A run that unbinds the name.
-fn leaves(alloc: Global, name: &Name, was: ObjectId, run: u64) -> Result<Finished, NoMemory> {
-    let mut log = Log::new(alloc, RunNo(run), 0);
-    log.change_name(
-        name,
-        Change {
-            before: Some(was),
-            after: None,
-        },
-    )?;
-    log.finish(&Job::Initialize, Ok(()))
-}
-
-/// A run that schedules a task for 10 ms and every 10 ms from then on.
-fn schedules(alloc: Global, run: u64) -> Result<Finished, NoMemory> {
-    let mut log = Log::new(alloc, RunNo(run), 0);
-    log.schedule_task(Scheduled {
-        due: 10,
-        period: 10,
-        kind: 3,
-        arg: Blob::from_vec(Vec::new(alloc)),
-    })?;
-    log.finish(&Job::Initialize, Ok(()))
-}
-
-/// A run that moves the task from 10 ms to 20 ms.
-fn moves(alloc: Global, key: TaskKey, run: u64) -> Result<Finished, NoMemory> {
-    let mut log = Log::new(alloc, RunNo(run), 15);
-    log.move_task(key, 10, 20)?;
-    log.finish(&Job::Initialize, Ok(()))
-}
-
+/// A run of the row, committed.
 fn commit(
     rt: &impl Abort,
+    alloc: Global,
     world: &mut StampedWorld,
-    run: u64,
-    finished: Result<Finished, NoMemory>,
-) -> Result<Committed, Fail> {
-    let finished = finished.ok().ok_or("a run")?;
+    row: &Row,
+    name: &Name,
+) -> Result<u64, Fail> {
+    let mut look = world.look();
+    let finished = run_over(alloc, &mut look, row, name)?;
     assert!(rt; world.commits() < 1000);
     match world.reserve_for(&finished) {
-        Ok(()) => Ok(world.commit(finished, RunNo(run))),
+        Ok(()) => Ok(world.commit(finished, RunNo(row.run))),
         Err(_) => Err(Fail::from("room")),
     }
 }
 
-fn named(id: ObjectId, stamp: u64) -> Read {
-    Read {
-        answer: Answer::Named(id),
-        seen: Seen::At(stamp),
+fn at(stamp: Option<u64>) -> Seen {
+    match stamp {
+        None => Seen::Absent,
+        Some(stamp) => Seen::At(stamp),
     }
+}
+
+fn seen(world: &StampedWorld, item: &Item) -> Result<Seen, Fail> {
+    Ok(world.read(item).ok().ok_or("a read")?.seen)
+}
+
+/// What is seen of the four items is what the row says.
+fn assert_seen(rt: &impl Abort, world: &StampedWorld, row: &Row, name: &Name) -> Result<(), Fail> {
+    let next = match row.name {
+        None => None,
+        Some(_) => Some(name.clone()?),
+    };
+    let rows = [
+        (Item::Object(BUILT), at(row.object)),
+        (Item::Bound(name.clone()?), at(row.name)),
+        (Item::NextAfter(None), Seen::Next(next)),
+        (Item::Task(SCHEDULED), at(row.task)),
+    ];
+    for (item, wanted) in &rows {
+        assert!(rt; seen(world, item)? == *wanted, "{item:?} after run {}", row.run);
+    }
+    Ok(())
+}
+
+const ROWS: [Row; 4] = [
+    Row { run: 0, deed: Deed::Builds, object: Some(1), name: Some(1), task: None },
+    Row { run: 1, deed: Deed::Schedules, object: Some(1), name: Some(1), task: Some(2) },
+    // A task that is due again keeps its stamp.
+    Row { run: 4, deed: Deed::Recurs, object: Some(1), name: Some(1), task: Some(2) },
+    Row { run: 3, deed: Deed::Leaves, object: Some(1), name: None, task: Some(2) },
+];
+
+#[test]
+fn each_commit_stamps_what_it_wrote(rt: HostRuntime) -> Result<(), Fail> {
+    let alloc = rt.alloc();
+    let name = hall(alloc)?;
+    let mut world = StampedWorld::new(alloc);
+    let mut seq = 0u64;
+    for row in &ROWS {
+        seq = seq.saturating_add(1);
+        assert_eq!(rt; commit(&rt, alloc, &mut world, row, &name)?, seq);
+        assert_seen(&rt, &world, row, &name)?;
+    }
+    assert_eq!(rt; world.last(), Some(RunNo(4)));
+    assert!(rt; world.least_due(19).is_none());
+    assert_eq!(rt; world.least_due(20), Some(SCHEDULED));
+    Ok(())
+}
+
+/// The reads of an object and of the name, as the empty world answers them.
+fn first_reads(
+    alloc: Global,
+    world: &StampedWorld,
+    name: &Name,
+) -> Result<Vec<(Item, Read)>, Fail> {
+    let mut reads = Vec::new(alloc);
+    for item in [Item::Object(NEVER), Item::Bound(name.clone()?)] {
+        let read = world.read(&item).ok().ok_or("a read")?;
+        reads.push((item, read))?;
+    }
+    Ok(reads)
 }
 
 #[test]
@@ -94,13 +166,9 @@ fn a_stale_read_is_told(rt: HostRuntime) -> Result<(), Fail> {
     let alloc = rt.alloc();
     let name = hall(alloc)?;
     let mut world = StampedWorld::new(alloc);
-    let object = Item::Object(first_id(7));
-    let before = world.read(&object).ok().ok_or("a read")?;
-    let bound = Item::Bound(hall(alloc)?);
-    let stale = world.read(&bound).ok().ok_or("a read")?;
-    let reads = vec![in alloc; (object, before), (bound, stale)]?;
+    let reads = first_reads(alloc, &world, &name)?;
     assert!(rt; world.first_changed(&reads) == Ok(None));
-    assert_eq!(rt; commit(&rt, &mut world, 0, builds(alloc, &name, 0))?.seq, 1);
+    commit(&rt, alloc, &mut world, &ROWS[0], &name)?;
     let changed = Changed {
         item: Item::Bound(name),
         found: Seen::Absent,
@@ -111,53 +179,15 @@ fn a_stale_read_is_told(rt: HostRuntime) -> Result<(), Fail> {
 }
 
 #[test]
-fn an_unbound_name_is_gone(rt: HostRuntime) -> Result<(), Fail> {
-    let alloc = rt.alloc();
-    let name = hall(alloc)?;
-    let mut world = StampedWorld::new(alloc);
-    commit(&rt, &mut world, 0, builds(alloc, &name, 0))?;
-    let done = commit(&rt, &mut world, 3, leaves(alloc, &name, first_id(0), 3))?;
-    assert_eq!(rt; done.seq, 2);
-    let next = Read {
-        answer: Answer::Next(None),
-        seen: Seen::Next(None),
-    };
-    assert!(rt; world.read(&Item::NextAfter(None)) == Ok(next));
-    let object = world.read(&Item::Object(first_id(0)));
-    assert!(rt; object.ok().ok_or("a read")?.seen == Seen::At(1));
-    assert_eq!(rt; world.last(), Some(RunNo(3)));
-    Ok(())
-}
-
-#[test]
-fn a_task_that_is_due_again_keeps_its_stamp(rt: HostRuntime) -> Result<(), Fail> {
-    let alloc = rt.alloc();
-    let mut world = StampedWorld::new(alloc);
-    commit(&rt, &mut world, 0, schedules(alloc, 0))?;
-    let Some(key) = world.least_due(10) else {
-        return Err(Fail::from("a task"));
-    };
-    commit(&rt, &mut world, 1, moves(alloc, key, 1))?;
-    assert!(rt; world.least_due(19).is_none());
-    assert_eq!(rt; world.least_due(20), Some(key));
-    let pending = Read {
-        answer: Answer::Task,
-        seen: Seen::At(1),
-    };
-    assert!(rt; world.read(&Item::Task(key)) == Ok(pending));
-    Ok(())
-}
-
-#[test]
 fn a_list_is_opened_and_copied(rt: HostRuntime) -> Result<(), Fail> {
     let alloc = rt.alloc();
     let name = hall(alloc)?;
     let mut world = StampedWorld::new(alloc);
-    commit(&rt, &mut world, 0, builds(alloc, &name, 0))?;
-    commit(&rt, &mut world, 1, schedules(alloc, 1))?;
+    commit(&rt, alloc, &mut world, &ROWS[0], &name)?;
+    commit(&rt, alloc, &mut world, &ROWS[1], &name)?;
     let list = world.durable(alloc).ok().ok_or("a list")?;
     let again = StampedWorld::open(alloc, list).ok().ok_or("a world")?;
     assert!(rt; again.durable(alloc) == world.durable(alloc));
-    assert!(rt; again.read(&Item::Bound(name)) == Ok(named(first_id(0), 2)));
+    assert!(rt; seen(&again, &Item::Bound(name))? == Seen::At(2));
     Ok(())
 }

@@ -2,10 +2,10 @@
 ghost use Rattle.std.specs.Prelude.{IfOk};
 ghost use Rattle.dk_workers.specs.Working.{IsStandingFor};
 
-use crate::driving::{PASS, connect, hand, post_bytes};
+use crate::driving::{PASS, claim, connect, hand, post_bytes};
 use dk_core::{Core, PostRefused};
 use dk_game::Game;
-use dk_types::{ConnNo, Job, Out, Outcome, RunNo};
+use dk_types::{ConnNo, Job, Out, Outcome};
 use dk_workers::{Step, work_once};
 use std::alloc::Global;
 use std::process::Abort;
@@ -18,16 +18,25 @@ pub(crate) enum Row {
     Connect(&'static str, u64),
     /// A message of so many bytes is posted to a connection.
     Post(u64, usize, Result<(), PostRefused>),
-    /// A worker's step claims a job as this run and commits it, well, as this commit.
-    Runs(u64, u64),
-    /// A worker's step finds nothing to run.
-    Idle,
-    /// A worker's step finds that so many claims are granted, and no more may be.
-    Spent(u64),
+    /// A worker's step comes to this.
+    Works(Work),
     /// A claim gets this job, and stays.
     Claims(Claimable),
     /// A hand of at most so many messages gives so many, of which the last is this one, and tells the end or not.
-    Hand(u64, u32, usize, Told, bool),
+    Hands(u64, u32, usize, Told, bool),
+}
+
+/// What a worker's step comes to.
+#[derive(Clone, Copy, Debug, PartialEq, Eq)]
+pub(crate) enum Work {
+    /// A job is claimed as this run, and ends well, as this commit.
+    Runs(u64, u64),
+    /// The same, but it fails.
+    Fails(u64, u64),
+    Idle,
+    /// So many claims are granted, and no more may be.
+    Spent(u64),
+    Exhausted,
 }
 
 /// A job, by what tells it from the others of a test.
@@ -72,18 +81,91 @@ fn told(out: Option<&Out>) -> Told {
     }
 }
 
-/// A worker's step: the run and the commit, where there was one.
-fn work<G: Game>(
+fn work_of(step: &Step) -> Work {
+    match step {
+        Step::Ran(ran) if ran.outcome == Outcome::Ok => Work::Runs(ran.run.0, ran.seq),
+        Step::Ran(ran) => Work::Fails(ran.run.0, ran.seq),
+        Step::Idle => Work::Idle,
+        Step::Spent { granted } => Work::Spent(*granted),
+        Step::Exhausted { .. } => Work::Exhausted,
+    }
+}
+
+/// A worker's step.
+fn work<G: Game>(alloc: Global, game: &G, core: &mut Core) -> Result<Work, Fail>
+    requires { IsStandingFor (G.rules game.now) core.old }
+    ensures { IfOk result (λ _. IsStandingFor (G.rules game.now) core.new) }
+{
+    match work_once(alloc, game, core, PASS) {
+        Ok(step) => Ok(work_of(&step)),
+        Err(_) => Err(Fail::from("memory")),
+    }
+}
+
+/// A hand: how many messages, the last of them, and whether the connection is gone.
+fn handed<G: Game>(
+    game: &G,
+    core: &mut Core,
+    conn: ConnNo,
+    most: u32,
+) -> Result<(usize, Told, bool), Fail>
+    requires { IsStandingFor (G.rules game.now) core.old }
+    ensures { IfOk result (λ _. IsStandingFor (G.rules game.now) core.new) }
+{
+    let handed = hand(game, core, conn, most)?;
+    let outs = handed.outs.as_slice();
+    Ok((outs.len(), told(outs.last()), handed.end))
+}
+
+/// The call of a row answers what the row says.
+fn answer<G: Game>(
     rt: &impl Abort,
     alloc: Global,
     game: &G,
     core: &mut Core,
-) -> Result<Step, Fail>
+    row: &Row,
+) -> Result<(), Fail>
     requires { IsStandingFor (G.rules game.now) core.old }
     ensures { IfOk result (λ _. IsStandingFor (G.rules game.now) core.new) }
 {
-    let Ok(step) = work_once(alloc, game, core, PASS) else {
-        return Err(Fail::from("memory"));
-    };
-    Ok(step)
+    match *row {
+        Row::Connect(name, number) => {
+            let conn = connect(alloc, game, core, name)?;
+            assert!(rt; conn.0 == number, "{row:?}");
+        }
+        Row::Post(conn, len, reply) => {
+            let told = post_bytes(rt, alloc, game, core, ConnNo(conn), len)?;
+            assert!(rt; told == reply, "{row:?}");
+        }
+        Row::Works(wanted) => {
+            let worked = work(alloc, game, core)?;
+            assert!(rt; worked == wanted, "{row:?}");
+        }
+        Row::Claims(wanted) => {
+            let claimed = claim(game, core)?;
+            assert!(rt; claimable(claimed.job()) == wanted, "{row:?}");
+        }
+        Row::Hands(conn, most, count, last, end) => {
+            let told = handed(game, core, ConnNo(conn), most)?;
+            assert!(rt; told == (count, last, end), "{row:?}");
+        }
+    }
+    Ok(())
+}
+
+/// Each row's call, one after another.
+pub(crate) fn play<G: Game>(
+    rt: &impl Abort,
+    alloc: Global,
+    game: &G,
+    core: &mut Core,
+    rows: &[Row],
+) -> Result<(), Fail>
+    requires { IsStandingFor (G.rules game.now) core.old }
+    ensures { IfOk result (λ _. IsStandingFor (G.rules game.now) core.new) }
+{
+    for row in rows {
+        answer(rt, alloc, game, core, row)?;
+    }
+    Ok(())
 }

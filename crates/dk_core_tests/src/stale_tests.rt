@@ -1,21 +1,15 @@
-//! Two runs that read the same, and a connection to which more is sent than may wait.
+//! A run that was begun before another's commit is refused, and run again.
 ghost use Rattle.std.specs.Prelude.{IfOk};
-ghost use Rattle.dk_model.specs.Lawful.{IsInput};
 ghost use Rattle.dk_core.specs.Cores.{IsGranted};
 ghost use Rattle.dk_workers.specs.Working.{IsStandingFor};
 ghost use Rattle.dk_core_tests.specs.Twins.{twins_rules};
 
-use crate::Twins;
-use crate::driving::{
-    claim, commit, commit_stale, connect, hand, opened, post, serve, serve_beside, text,
-};
-use dk_core::{Changed, Claimed, Core, PostRefused};
+use crate::driving::{claim, commit, commit_stale, opened, serve, serve_beside, text};
+use crate::twins::Twins;
+use dk_core::{Changed, Claimed, Core};
 use dk_txn::{Finished, ListView, Txn, View};
-use dk_types::limits::{MOMENT_MOST_MS, OUTS_MOST_COUNT};
-use dk_types::{
-    AppFault, Blob, ConnNo, Input, Item, Job, Name, Object, ObjectId, Out, Outcome, Read, RunNo,
-    Seen, TaskKey,
-};
+use dk_types::limits::MOMENT_MOST_MS;
+use dk_types::{AppFault, Item, Job, Name, Object, ObjectId, Outcome, Read, RunNo, Seen, TaskKey};
 use std::alloc::Global;
 use std::process::Abort;
 use std::test::Fail;
@@ -24,7 +18,7 @@ use std::test::Fail;
 fn begun(alloc: Global) -> Result<Core, Fail>
     ensures { IfOk result (IsStandingFor twins_rules) }
 {
-    let mut core = opened(alloc, &Twins)?;
+    let mut core = opened(alloc, &Twins, 0, None)?;
     serve(alloc, &Twins, &mut core)?;
     Ok(core)
 }
@@ -146,9 +140,9 @@ fn stale_names(rt: &impl Abort, alloc: Global) -> Result<(Core, Claimed, Changed
 
 fn name_between(alloc: Global) -> Result<Changed, Fail> {
     Ok(Changed {
-        item: Item::NextAfter(Some(text(alloc, b"a")?)),
-        found: Seen::Next(Some(text(alloc, b"c")?)),
-        now: Seen::Next(Some(text(alloc, b"b")?)),
+        item: Item::NextAfter(Some(text(alloc, "a")?)),
+        found: Seen::Next(Some(text(alloc, "c")?)),
+        now: Seen::Next(Some(text(alloc, "b")?)),
     })
 }
 
@@ -218,85 +212,4 @@ fn a_run_that_saw_two_worlds_is_refused(rt: HostRuntime) -> Result<(), Fail> {
     let seq = commit(&Twins, &mut core, reader, again)?;
     assert_eq!(rt; seq, 3);
     Ok(())
-}
-
-/// A message of so many bytes.
-fn message(rt: &impl Abort, alloc: Global, len: usize) -> Result<Input, Fail>
-    ensures { IfOk result IsInput }
-{
-    assert!(rt; len <= 4096);
-    let bytes = vec![in alloc; 0; len]?;
-    Ok(Input::Message(Blob::from_vec(bytes)))
-}
-
-fn post_bytes(
-    rt: &impl Abort,
-    alloc: Global,
-    core: &mut Core,
-    conn: ConnNo,
-    len: usize,
-) -> Result<Result<(), PostRefused>, Fail>
-    requires { IsStandingFor twins_rules core.old }
-    ensures { IfOk result (λ _. IsStandingFor twins_rules core.new) }
-{
-    let input = message(rt, alloc, len)?;
-    post(&Twins, core, conn, input)
-}
-
-/// A core on which alice is logged in and both tasks have run.
-fn with_alice(alloc: Global) -> Result<(Core, ConnNo), Fail>
-    ensures { IfOk result (λ made. IsStandingFor twins_rules made.0) }
-{
-    let mut core = opened(alloc, &Twins)?;
-    let conn = connect(alloc, &Twins, &mut core, b"alice")?;
-    serve(alloc, &Twins, &mut core)?;
-    serve(alloc, &Twins, &mut core)?;
-    serve(alloc, &Twins, &mut core)?;
-    serve(alloc, &Twins, &mut core)?;
-    Ok((core, conn))
-}
-
-/// As many messages wait as may wait, and two more inputs.
-fn with_full_outbox(rt: &impl Abort, alloc: Global) -> Result<(Core, ConnNo), Fail>
-    ensures { IfOk result (λ made. IsStandingFor twins_rules made.0) }
-{
-    let (mut core, conn) = with_alice(alloc)?;
-    let accepted = hand(&Twins, &mut core, conn, 1)?;
-    assert!(rt; accepted.outs.as_slice() == [Out::Accepted].as_slice());
-    let most = post_bytes(rt, alloc, &mut core, conn, 4096)?;
-    assert_eq!(rt; most, Ok(()));
-    serve(alloc, &Twins, &mut core)?;
-    let first = post_bytes(rt, alloc, &mut core, conn, 1)?;
-    assert_eq!(rt; first, Ok(()));
-    let second = post_bytes(rt, alloc, &mut core, conn, 1)?;
-    assert_eq!(rt; second, Ok(()));
-    Ok((core, conn))
-}
-
-/// The end of alice's session is what is claimed next.
-fn assert_cut_off(rt: &impl Abort, alloc: Global, core: &mut Core, conn: ConnNo) -> Result<(), Fail>
-    requires { IsStandingFor twins_rules core.old }
-{
-    let last = claim(&Twins, core)?;
-    let end = Job::Disconnect {
-        conn,
-        name: text(alloc, b"alice")?,
-        graceful: false,
-    };
-    assert!(rt; *last.job() == end);
-    Ok(())
-}
-
-#[test]
-fn one_message_too_many_cuts_a_connection_off(rt: HostRuntime) -> Result<(), Fail> {
-    let alloc = rt.alloc();
-    let (mut core, conn) = with_full_outbox(&rt, alloc)?;
-    serve(alloc, &Twins, &mut core)?;
-    let closed = post_bytes(&rt, alloc, &mut core, conn, 1)?;
-    assert_eq!(rt; closed, Err(PostRefused::Closed));
-    serve(alloc, &Twins, &mut core)?;
-    let handed = hand(&Twins, &mut core, conn, 5000)?;
-    assert_eq!(rt; handed.outs.as_slice().len() as u64, OUTS_MOST_COUNT);
-    assert!(rt; !handed.end);
-    assert_cut_off(&rt, alloc, &mut core, conn)
 }

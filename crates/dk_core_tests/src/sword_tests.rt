@@ -21,11 +21,11 @@ use sword_world::SwordWorld;
 fn before_the_look(alloc: Global) -> Result<(Core, ConnNo), Fail>
     ensures { IfOk result (λ made. IsStandingFor sword_rules made.0) }
 {
-    let mut core = opened(alloc, &SwordWorld)?;
+    let mut core = opened(alloc, &SwordWorld, 0, None)?;
     serve(alloc, &SwordWorld, &mut core)?;
-    let alice = connect(alloc, &SwordWorld, &mut core, b"alice")?;
+    let alice = connect(alloc, &SwordWorld, &mut core, "alice")?;
     serve(alloc, &SwordWorld, &mut core)?;
-    connect(alloc, &SwordWorld, &mut core, b"bob")?;
+    connect(alloc, &SwordWorld, &mut core, "bob")?;
     let look = Input::Message(Blob::copy_of(alloc, b"look")?);
     post(&SwordWorld, &mut core, alice, look)?
         .ok()
@@ -43,7 +43,7 @@ fn looks(
 ) -> Result<Finished, Fail> {
     let job = Job::Message {
         conn: alice,
-        name: text(alloc, b"alice")?,
+        name: text(alloc, "alice")?,
         body: Blob::copy_of(alloc, b"look")?,
     };
     assert!(rt; *claimed.job() == job);

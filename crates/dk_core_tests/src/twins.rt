@@ -15,8 +15,7 @@ const TWIN_KIND: u16 = 1;
 
 /// The game. Its first run makes the two objects and plans two tasks, a task changes both, and a message is answered by as
 /// many messages as it has bytes.
-#[derive(Clone, Copy, Debug)]
-pub struct Twins;
+pub(crate) struct Twins;
 
 fn empty(alloc: Global) -> Blob
     ensures { result ≡ [] }
