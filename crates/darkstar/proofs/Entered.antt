@@ -19,7 +19,7 @@ use Rattle.dk_model.specs.Scripts.{LineNames, AllMayStand, names_after}
 use Rattle.dk_model.specs.Transcripts.{Playing, EntersAll}
 use Rattle.dk_progress.specs.Fitness.{IsFit}
 use Rattle.dk_core.specs.declared.world.Core.{Core}
-use Rattle.dk_core.specs.Cores.{world_of, Enters}
+use Rattle.dk_core.specs.Cores.{world_of, Adds}
 use Rattle.dk_workers.proofs.Honest.{standing_then, enters_goes}
 use Rattle.darkstar.specs.declared.play.state.Play.{Play}
 use Rattle.darkstar.specs.Plays.{means_of, playing_of, IsGoing, CanBeEntered, IsReadyFor, AllMean, IsReadyForAll, IsEntered, EntersLine, EntersLines}
@@ -46,14 +46,14 @@ pub going_less : (rules : Meaning) (p : Play) (more less : ℕ) → less ≤ mor
 going_less rules p more less le going = record { standing = going.standing; fit = fit_less (world_of p.core) p.opened.items more less le going.fit }
 
 -- no Connect of such a play is refused for want of numbers
-pub connect_draws : (p : Play) (l : Line) (new : Core) (name : List ℕ) (next : ℕ) → IsReadyFor p l → ((pass : ℕ) → Enters p.core new (event.Connect pass name (connected.Exhausted next))) → ⊥
+pub connect_draws : (p : Play) (l : Line) (new : Core) (name : List ℕ) (next : ℕ) → IsReadyFor p l → ((pass : ℕ) → Adds p.core new (event.Connect pass name (connected.Exhausted next) ∷ [])) → ⊥
 connect_draws p l new name next ready enters =
     let s = ready.going.standing in
     let h = goes_happens ready.rules p.core new (event.Connect 0 name (connected.Exhausted next)) s (enters_goes ready.rules ready.lawful p.core new (event.Connect 0 name (connected.Exhausted next)) (enters 0)) in
     connect_fit ready.rules (world_of p.core) (world_of new) p.opened.items 0 0 name (connected.Exhausted next) ready.going.fit h
 
 -- a login's Connect
-pub login_entered : (old new : Play) (name : List ℕ) (conn : ConnNo) → ((pass : ℕ) → Enters old.core new.core (event.Connect pass name (connected.Number conn)))
+pub login_entered : (old new : Play) (name : List ℕ) (conn : ConnNo) → ((pass : ℕ) → Adds old.core new.core (event.Connect pass name (connected.Number conn) ∷ []))
     → means_of new.means.entries ≡ maps.insert (means_of old.means.entries) name conn → new.opened.items ≡ old.opened.items ++ conn ∷ []
     → new.events.items ≡ old.events.items ++ event.Connect 0 name (connected.Number conn) ∷ [] → EntersLine old (line.Login name) new
 login_entered old new name conn enters means opened told rules more lawful going =
@@ -72,7 +72,7 @@ login_entered old new name conn enters means opened told rules more lawful going
     }
 
 -- a send's Post
-pub send_entered : (old new : Play) (name text : List ℕ) (conn : ConnNo) (reply : PostReply) → ((pass : ℕ) → Enters old.core new.core (event.Post pass conn (input.Message text) reply))
+pub send_entered : (old new : Play) (name text : List ℕ) (conn : ConnNo) (reply : PostReply) → ((pass : ℕ) → Adds old.core new.core (event.Post pass conn (input.Message text) reply ∷ []))
     → maps.get (means_of old.means.entries) name ≡ Some conn → new.means.entries ≡ old.means.entries → new.opened.items ≡ old.opened.items
     → new.events.items ≡ old.events.items ++ event.Post 0 conn (input.Message text) reply ∷ [] → EntersLine old (line.Send name text) new
 send_entered old new name text conn reply enters meant means opened told rules more lawful going =

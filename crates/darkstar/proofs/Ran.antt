@@ -13,9 +13,9 @@ use Rattle.dk_model.specs.Sendings.{IsTerse}
 use Rattle.dk_model.specs.Transcripts.{Follows, IsQuiet}
 use Rattle.dk_progress.specs.Fitness.{IsFit, left}
 use Rattle.dk_core.specs.declared.world.Core.{Core}
-use Rattle.dk_core.specs.Cores.{world_of}
+use Rattle.dk_core.specs.Cores.{world_of, AddsBy}
 use Rattle.dk_workers.specs.declared.working.Ran.{Ran}
-use Rattle.dk_workers.specs.Working.{Goes, claim_of, commit_of}
+use Rattle.dk_workers.specs.Working.{claim_of, commit_of}
 use Rattle.dk_workers.proofs.Honest.{standing_then}
 use Rattle.darkstar.specs.declared.play.state.Play.{Play}
 use Rattle.darkstar.specs.Plays.{IsGoing, Serves, left_of}
@@ -24,11 +24,11 @@ use Rattle.darkstar.proofs.Led.{goes_happens, goes_both}
 use Rattle.dk_progress.proofs.Granted.{all_granted}
 use Rattle.dk_progress.proofs.Ran.{run_less}
 
-module _ (rules : Meaning) (lawful : AreLawful rules) (terse : IsTerse rules) (old new : Play) (core : Core) (ran : Ran) (start : IsGoing rules old 0) (served : Goes rules old.core core (claim_of 0 ran ∷ commit_of 0 ran ∷ []))
+module _ (rules : Meaning) (lawful : AreLawful rules) (terse : IsTerse rules) (old new : Play) (core : Core) (ran : Ran) (start : IsGoing rules old 0) (served : AddsBy rules old.core core (claim_of 0 ran ∷ commit_of 0 ran ∷ []))
     (told : new.events.items ≡ old.events.items ++ claim_of 0 ran ∷ commit_of 0 ran ∷ [])
     (same : new ≡ record { core = core; means = old.means; opened = old.opened; events = new.events }) where
-  goes : Goes rules old.core new.core (claim_of 0 ran ∷ commit_of 0 ran ∷ [])
-  goes = subst (λ (c : Core). Goes rules old.core c (claim_of 0 ran ∷ commit_of 0 ran ∷ [])) (sym (ap (λ (p : Play). p.core) same)) served
+  goes : AddsBy rules old.core new.core (claim_of 0 ran ∷ commit_of 0 ran ∷ [])
+  goes = subst (λ (c : Core). AddsBy rules old.core c (claim_of 0 ran ∷ commit_of 0 ran ∷ [])) (sym (ap (λ (p : Play). p.core) same)) served
 
   opened : new.opened.items ≡ old.opened.items
   opened = ap (λ (p : Play). p.opened.items) same
@@ -64,16 +64,16 @@ module _ (rules : Meaning) (lawful : AreLawful rules) (terse : IsTerse rules) (o
 
 module _ (rules : Meaning) (old : Play) (new : Core) (start : IsGoing rules old 0) where
   -- no claim is beyond a budget or without a number
-  pub never_spent : (granted : ℕ) → Goes rules old.core new (event.Claim 0 (reply.Spent granted) ∷ []) → ⊥
+  pub never_spent : (granted : ℕ) → AddsBy rules old.core new (event.Claim 0 (reply.Spent granted) ∷ []) → ⊥
   never_spent granted goes =
       (all_granted (world_of old.core) old.opened.items 0 start.fit).unspent rules 0 granted (world_of new) (goes_happens rules old.core new (event.Claim 0 (reply.Spent granted)) start.standing goes)
 
-  pub never_exhausted : (next : ℕ) → Goes rules old.core new (event.Claim 0 (reply.Exhausted next) ∷ []) → ⊥
+  pub never_exhausted : (next : ℕ) → AddsBy rules old.core new (event.Claim 0 (reply.Exhausted next) ∷ []) → ⊥
   never_exhausted next goes =
       (all_granted (world_of old.core) old.opened.items 0 start.fit).drawn rules 0 next (world_of new) (goes_happens rules old.core new (event.Claim 0 (reply.Exhausted next)) start.standing goes)
 
 -- nothing is left to run
-pub idle_quiet : (rules : Meaning) (old new : Play) → IsGoing rules old 0 → Goes rules old.core new.core (event.Claim 0 reply.Nothing ∷ [])
+pub idle_quiet : (rules : Meaning) (old new : Play) → IsGoing rules old 0 → AddsBy rules old.core new.core (event.Claim 0 reply.Nothing ∷ [])
     → new.events.items ≡ old.events.items → new.means.entries ≡ old.means.entries → new.opened.items ≡ old.opened.items → Serves rules old new × IsQuiet (world_of new.core)
 idle_quiet rules old new start goes told means opened =
     let h = goes_happens rules old.core new.core (event.Claim 0 reply.Nothing) start.standing goes in

@@ -109,7 +109,7 @@ pub record IsHanded (old : Core) (before : List Event) (conn : ConnNo) (new : Co
   pub outs : List Out
   pub end : Bool
   pub told : events ≡ before ++ event.Hand 0 conn OUTS_MOST_COUNT outs end ∷ []
-  pub enters : core.Enters old new (event.Hand 0 conn OUTS_MOST_COUNT outs end)
+  pub enters : core.Adds old new (event.Hand 0 conn OUTS_MOST_COUNT outs end ∷ [])
 
 -- the connections were handed all that waited for them, and that is told
 pub record AreHanded (rules : Meaning) (old : Play) (conns : List ConnNo) (new : Play) : Type 0 where

@@ -14,13 +14,13 @@ use Rattle.dk_core.specs.declared.world.Core.{Core}
 use Rattle.dk_core.specs.declared.claimed.Claimed.{Claimed}
 use Rattle.dk_core.specs.declared.answers.PrepareRefused.{PrepareRefused}
 use Rattle.dk_core.specs.declared.answers.PrepareRefused.TheVariants as prepare_refused
-use Rattle.dk_core.specs.Cores.{Enters, Stays, IsGranted}
+use Rattle.dk_core.specs.Cores.{Adds, Stays, IsGranted}
 use Rattle.dk_core.specs.Answers.{Posted, CommitsOrTells}
 use Rattle.dk_workers.specs.Working.{IsStandingFor}
 use Rattle.dk_workers.proofs.Honest.{entered}
 
 pub stayed : (rules : Meaning) (old new : Core) → IsStandingFor rules old → Stays old new → IsStandingFor rules new
-stayed rules old new s stays = record { opened = s.opened; budget = s.budget; events = s.events; stands = stays rules s.opened s.budget s.events s.stands }
+stayed rules old new s stays = record { opened = s.opened; budget = s.budget; events = s.events ++ []; stands = stays rules s.opened s.budget s.events s.stands }
 
 pub posted_so : (rules : Meaning) → AreLawful rules → (old new : Core) (conn : ConnNo) (input : Input) (r : Result (Unit {0}) PostRefused) → IsStandingFor rules old → Posted old new conn input r → IsStandingFor rules new
 posted_so rules lawful old new conn input (Ok taken) s p = entered rules lawful old new (event.Post 0 conn input posted.Taken) s (p 0)

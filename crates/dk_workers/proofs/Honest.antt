@@ -22,10 +22,10 @@ use Rattle.dk_core.specs.declared.durable.changed.Changed.{Changed}
 use Rattle.dk_game.proofs.Lent.{job_fits}
 use Rattle.dk_core.specs.declared.world.Core.{Core}
 use Rattle.dk_core.specs.declared.claimed.Claimed.{Claimed}
-use Rattle.dk_core.specs.Cores.{world_of, StandsFor, IsStanding, IsGranted, Enters}
+use Rattle.dk_core.specs.Cores.{world_of, StandsFor, IsStanding, IsGranted, Adds, AddsBy}
 use Rattle.dk_core.proofs.Opened.{read_at}
 use Rattle.dk_core.proofs.Standing.{sound_of}
-use Rattle.dk_workers.specs.Working.{AreReadsNow, IsStandingFor, Goes}
+use Rattle.dk_workers.specs.Working.{AreReadsNow, IsStandingFor}
 
 -- reads that a look gave are those of the world, where it keeps what the world reads
 pub reads_now : (w v : Stamped) → ((item : Item) (read : Read) → read ≡ read_now w item → read ≡ read_now v item) → (reads : List (Item × Read)) → AllByRecursion (λ r. r.1 ≡ read_now v r.0) reads → AreReadsNow w reads
@@ -79,18 +79,18 @@ module _ (rules : Meaning) (lawful : AreLawful rules) (c : Core) (claimed : Clai
     honest_now f law all = record { law = law; honest = honest_reads f.reads.items all }
 
 -- events one after another
-pub goes_then : (rules : Meaning) (a b c : Core) (first second : Event) → Goes rules a b (first ∷ []) → Goes rules b c (second ∷ []) → Goes rules a c (first ∷ second ∷ [])
+pub goes_then : (rules : Meaning) (a b c : Core) (first second : Event) → AddsBy rules a b (first ∷ []) → AddsBy rules b c (second ∷ []) → AddsBy rules a c (first ∷ second ∷ [])
 goes_then rules a b c first second g h d budget events s =
     subst (λ es. StandsFor rules d budget es c) (append_assoc events (first ∷ []) (second ∷ [])) (h d budget (events ++ first ∷ []) (g d budget events s))
 
 -- the core stands for some history of the rules still
-pub standing_then : (rules : Meaning) (a b : Core) (more : List Event) → IsStandingFor rules a → Goes rules a b more → IsStandingFor rules b
+pub standing_then : (rules : Meaning) (a b : Core) (more : List Event) → IsStandingFor rules a → AddsBy rules a b more → IsStandingFor rules b
 standing_then rules a b more s g = record { opened = s.opened; budget = s.budget; events = s.events ++ more; stands = g s.opened s.budget s.events s.stands }
 
 -- what is entered by any lawful rules is entered by these
-pub enters_goes : (rules : Meaning) → AreLawful rules → (old new : Core) (e : Event) → Enters old new e → Goes rules old new (e ∷ [])
+pub enters_goes : (rules : Meaning) → AreLawful rules → (old new : Core) (e : Event) → Adds old new (e ∷ []) → AddsBy rules old new (e ∷ [])
 enters_goes rules lawful old new e enters d budget events s = enters rules d budget events lawful s
 
 -- so the core stands for some history of them still
-pub entered : (rules : Meaning) → AreLawful rules → (old new : Core) (e : Event) → IsStandingFor rules old → Enters old new e → IsStandingFor rules new
+pub entered : (rules : Meaning) → AreLawful rules → (old new : Core) (e : Event) → IsStandingFor rules old → Adds old new (e ∷ []) → IsStandingFor rules new
 entered rules lawful old new e s enters = standing_then rules old new (e ∷ []) s (enters_goes rules lawful old new e enters)

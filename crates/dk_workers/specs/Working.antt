@@ -16,7 +16,7 @@ use Rattle.dk_core.specs.StampedWorlds.{Stamped, read_now}
 use Rattle.dk_core.specs.declared.world.Core.{Core}
 use Rattle.dk_core.specs.declared.claimed.Claimed.{Claimed}
 use Rattle.dk_core.specs.Answers.{Commits}
-use Rattle.dk_core.specs.Cores.{StandsFor, Enters}
+use Rattle.dk_core.specs.Cores.{StandsFor, Adds, AddsBy}
 use Rattle.dk_workers.specs.declared.working.Ran.{Ran}
 use Rattle.dk_workers.specs.declared.working.Step.{Step}
 use Rattle.dk_workers.specs.declared.working.Step.TheVariants as step
@@ -28,10 +28,6 @@ pub record IsStandingFor (rules : Meaning) (c : Core) : Type 0 where
   pub events : List Event
   pub stands : StandsFor rules opened budget events c
 
--- a core that stood for a history of these rules stands for it with these events at its end
-abbrev pub Goes : Meaning → Core → Core → List Event → Type 0
-Goes rules old new more = (d : DurableWorld) (budget : Option ℕ) (events : List Event) → StandsFor rules d budget events old → StandsFor rules d budget (events ++ more) new
-
 -- each read is what the world answers, and what is seen of it
 abbrev pub AreReadsNow : Stamped → List (Item × Read) → Type 0
 AreReadsNow w reads = AllByRecursion (λ r. r.1 ≡ read_now w r.0) reads
@@ -39,7 +35,7 @@ AreReadsNow w reads = AllByRecursion (λ r. r.1 ≡ read_now w r.0) reads
 -- the run is committed, or its claim is given back
 abbrev pub CommitsOrGivesBack : Core → Core → Claimed → Finished → Result ℕ NoMemory → Type 0
 CommitsOrGivesBack old new claimed f (Ok seq) = Commits old new claimed f seq
-CommitsOrGivesBack old new claimed f (Err refused) = Enters old new (event.Release claimed.pass claimed.run)
+CommitsOrGivesBack old new claimed f (Err refused) = Adds old new (event.Release claimed.pass claimed.run ∷ [])
 
 -- the commit of a run
 abbrev pub commit_of : ℕ → Ran → Event
@@ -51,8 +47,8 @@ claim_of pass ran = event.Claim pass (reply.Granted ran.run ran.at ran.job)
 
 -- the claimed run is committed, or its claim is given back
 abbrev pub EndsRun : Meaning → Core → Core → Claimed → Result Ran NoMemory → Type 0
-EndsRun rules old new claimed (Ok ran) = (claim_of claimed.pass ran ≡ event.Claim claimed.pass (reply.Granted claimed.run claimed.at claimed.job)) × Goes rules old new (commit_of claimed.pass ran ∷ [])
-EndsRun rules old new claimed (Err refused) = Goes rules old new (event.Release claimed.pass claimed.run ∷ [])
+EndsRun rules old new claimed (Ok ran) = (claim_of claimed.pass ran ≡ event.Claim claimed.pass (reply.Granted claimed.run claimed.at claimed.job)) × AddsBy rules old new (commit_of claimed.pass ran ∷ [])
+EndsRun rules old new claimed (Err refused) = AddsBy rules old new (event.Release claimed.pass claimed.run ∷ [])
 
 -- the events of one claim: that of a run is followed at once by its commit
 abbrev pub events_of : ℕ → Step → List Event
@@ -66,9 +62,9 @@ pub record IsGivenBack (rules : Meaning) (old new : Core) (pass : ℕ) : Type 0 
   pub run : RunNo
   pub at : ℕ
   pub job : Job
-  pub goes : Goes rules old new (event.Claim pass (reply.Granted run at job) ∷ event.Release pass run ∷ [])
+  pub goes : AddsBy rules old new (event.Claim pass (reply.Granted run at job) ∷ event.Release pass run ∷ [])
 
 -- what one claim came to; after want of memory nothing happened, or a job was claimed and given back
-abbrev pub Serves : Meaning → Core → Core → ℕ → Result Step NoMemory → Type 0
-Serves rules old new pass (Ok s) = Goes rules old new (events_of pass s)
-Serves rules old new pass (Err refused) = (new ≡ old) ⊎ IsGivenBack rules old new pass
+abbrev pub Works : Meaning → Core → Core → ℕ → Result Step NoMemory → Type 0
+Works rules old new pass (Ok s) = AddsBy rules old new (events_of pass s)
+Works rules old new pass (Err refused) = (new ≡ old) ⊎ IsGivenBack rules old new pass

@@ -3,7 +3,7 @@ ghost use Rattle.std.specs.Prelude.{◌≡◌, IfOk};
 ghost use Rattle.dk_model.specs.Finishes.{KeepsLaw};
 ghost use Rattle.dk_txn.specs.Finishes.{told};
 ghost use Rattle.dk_core.specs.Cores.{IsGranted, IsStanding};
-ghost use Rattle.dk_workers.specs.Working.{AreReadsNow, CommitsOrGivesBack, EndsRun, IsStandingFor, Serves};
+ghost use Rattle.dk_workers.specs.Working.{AreReadsNow, CommitsOrGivesBack, EndsRun, IsStandingFor, Works};
 
 use dk_core::{ClaimRefused, Claimed, Core, PrepareRefused};
 use dk_game::{Game, run_over};
@@ -106,7 +106,7 @@ pub fn work_once<G: Game>(
     pass: u32,
 ) -> Result<Step, NoMemory>
     requires standing { IsStandingFor (G.rules game.now) core.old }
-    ensures { Serves (G.rules game.now) core.old core.new pass result }
+    ensures { Works (G.rules game.now) core.old core.new pass result }
 {
     let claimed = match core.claim(pass) {
         Ok(Some(claimed)) => claimed,

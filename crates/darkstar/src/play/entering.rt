@@ -1,9 +1,9 @@
 //! The lines of a script, entered as connects and posts.
-ghost use Rattle.std.specs.Prelude.{ℕ, IfOk, OnOk};
+ghost use Rattle.std.specs.Prelude.{ℕ, ◌∷◌, [], IfOk, OnOk};
 ghost use Rattle.dk_types.specs.declared.event.Event.TheVariants as event;
 ghost use Rattle.dk_model.specs.declared.script.Line.TheVariants as line;
 ghost use Rattle.dk_model.specs.Lawful.{IsInput};
-ghost use Rattle.dk_core.specs.Cores.{Enters};
+ghost use Rattle.dk_core.specs.Cores.{Adds};
 ghost use Rattle.darkstar.specs.Plays.{EntersLine, EntersLines, IsReadyFor, IsReadyForAll};
 
 use super::state::Play;
@@ -14,7 +14,7 @@ use dk_types::{Blob, ConnNo, ConnectReply, Event, Input, Name, NoMemory, PostRep
 /// Puts an input last in its connection's queue, where there is place, and answers whether there is.
 fn post(core: &mut Core, conn: ConnNo, input: Input) -> Result<PostReply, NoMemory>
     requires { IsInput input }
-    ensures { IfOk result (λ reply. (pass : ℕ) → Enters core.old core.new (event.Post pass conn input reply)) }
+    ensures { IfOk result (λ reply. (pass : ℕ) → Adds core.old core.new (event.Post pass conn input reply ∷ [])) }
 {
     match core.post(conn, input) {
         Ok(()) => Ok(PostReply::Taken),

@@ -17,5 +17,5 @@ returns g c =
       λ d budget events s.
           subst (λ e. StandsFor rules d budget (events ++ e ∷ []) c.commit_run.new.core)
           (λ i. event.Commit claimed.pass (sym c.run-run.ensures i) c.in_ok-seq.seq (sym c.outcome-outcome.ensures i))
-          (c.in_ok-seq.ensures rules d budget events lawful s (honest_now rules lawful c.args.core.now claimed c.requires.granted d budget events s c.in-Ok.finished c.in-Ok.ensures.law c.in-Ok.ensures.now)),
+          (c.in_ok-seq.ensures rules d budget events lawful (honest_now rules lawful c.args.core.now claimed c.requires.granted d budget events s c.in-Ok.finished c.in-Ok.ensures.law c.in-Ok.ensures.now) s),
     )

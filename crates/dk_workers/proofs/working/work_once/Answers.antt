@@ -2,7 +2,7 @@ use Rattle.std.proofs.Common.{Ok, [], ◌∷◌, subst, inr}
 use Rattle.dk_types.specs.declared.event.Event.TheVariants as event
 use Rattle.dk_types.specs.declared.event.ClaimReply.TheVariants as reply
 use Rattle.dk_core.specs.Answers.{Claims}
-use Rattle.dk_workers.specs.Working.{Goes}
+use Rattle.dk_core.specs.Cores.{AddsBy}
 use Rattle.dk_workers.proofs.Honest.{goes_then, standing_then}
 use Rattle.dk_workers.proofs.working.work_once.Goals as goal
 
@@ -26,5 +26,5 @@ returns-in-Err g c =
       job = claimed.job;
       goes = goes_then rules c.args.core.now c.claim.new.self c.end_claimed.new.core (event.Claim c.args.pass (reply.Granted claimed.run claimed.at claimed.job)) (event.Release c.args.pass claimed.run)
           (λ d budget events s. claims.0 rules d budget events lawful s)
-          (subst (λ p. Goes rules c.claim.new.self c.end_claimed.new.core (event.Release p claimed.run ∷ [])) claims.2 c.in-Err.ensures);
+          (subst (λ p. AddsBy rules c.claim.new.self c.end_claimed.new.core (event.Release p claimed.run ∷ [])) claims.2 c.in-Err.ensures);
     }
