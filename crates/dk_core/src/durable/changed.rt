@@ -6,7 +6,6 @@ ghost use Rattle.dk_core.specs.StampedWorlds.{stamp_in, sight_of, read_now, seen
 ghost use Rattle.dk_core.specs.Changes.{same_seen, TellsChanged};
 
 use crate::durable::world::StampedWorld;
-use dk_overlay::{copy_name, copy_object};
 use dk_types::{Answer, Item, Name, NoMemory, ObjectId, Read, Seen, TaskKey};
 
 /// A read that no longer stands: what it saw of its item, and what is seen of it now.
@@ -37,27 +36,6 @@ fn copy_next(name: Option<&Name>) -> Result<Option<Name>, NoMemory>
     }
 }
 
-fn copy_seen(seen: &Seen) -> Result<Seen, NoMemory>
-    ensures { IfOk result (λ copy. copy ≡ seen.now) }
-{
-    match seen {
-        Seen::Absent => Ok(Seen::Absent),
-        Seen::At(stamp) => Ok(Seen::At(*stamp)),
-        Seen::Next(name) => Ok(Seen::Next(copy_name(name)?)),
-    }
-}
-
-fn copy_item(item: &Item) -> Result<Item, NoMemory>
-    ensures { IfOk result (λ copy. copy ≡ item.now) }
-{
-    match item {
-        Item::Object(id) => Ok(Item::Object(*id)),
-        Item::Bound(name) => Ok(Item::Bound(name.clone()?)),
-        Item::NextAfter(after) => Ok(Item::NextAfter(copy_name(after)?)),
-        Item::Task(key) => Ok(Item::Task(*key)),
-    }
-}
-
 impl StampedWorld {
     /// What the world answers to an item, and what is seen of it. An object is copied.
     pub fn read(&self, item: &Item) -> Result<Read, NoMemory>
@@ -80,7 +58,7 @@ impl StampedWorld {
                 seen: Seen::Absent,
             }),
             Some((object, stamp)) => Ok(Read {
-                answer: Answer::Object(copy_object(object)?),
+                answer: Answer::Object(object.clone()?),
                 seen: Seen::At(stamp),
             }),
         }
@@ -174,8 +152,8 @@ impl StampedWorld {
         for (item, read) in reads {
             if !self.stands(item, &read.seen) {
                 return Ok(Some(Changed {
-                    item: copy_item(item)?,
-                    found: copy_seen(&read.seen)?,
+                    item: item.clone()?,
+                    found: read.seen.clone()?,
                     now: self.seen(item)?,
                 }));
             }

@@ -13,22 +13,9 @@ use crate::durable::publish::{add_tasks, bind_names, set_objects};
 use crate::durable::world::StampedWorld;
 use dk_names::Names;
 use dk_objects::Objects;
-use dk_overlay::copy_object;
 use dk_tasks::Tasks;
 use dk_types::{Durable, Listed, Name, NoMemory, Object, ObjectId, Pending};
 use std::alloc::Global;
-
-fn copy_task(task: &Pending) -> Result<Pending, NoMemory>
-    ensures { IfOk result (λ copy. copy ≡ task.now) }
-{
-    Ok(Pending {
-        key: task.key,
-        due: task.due,
-        period: task.period,
-        kind: task.kind,
-        arg: task.arg.clone()?,
-    })
-}
 
 /// A copy of the objects in the order of their ids.
 fn list_objects(objects: &Objects, alloc: Global) -> Result<Vec<(ObjectId, Object)>, NoMemory>
@@ -36,7 +23,7 @@ fn list_objects(objects: &Objects, alloc: Global) -> Result<Vec<(ObjectId, Objec
 {
     let mut list = Vec::new(alloc);
     for (id, stamped) in objects.entries(alloc)? {
-        list.push((*id, copy_object(&stamped.0)?))?;
+        list.push((*id, stamped.0.clone()?))?;
     }
     Ok(list)
 }
@@ -58,7 +45,7 @@ fn list_tasks(tasks: &Tasks, alloc: Global) -> Result<Vec<Pending>, NoMemory>
 {
     let mut list = Vec::new(alloc);
     for task in tasks.in_order(alloc)? {
-        list.push(copy_task(task)?)?;
+        list.push(task.clone()?)?;
     }
     Ok(list)
 }
