@@ -12,7 +12,7 @@ use crate::lists::{is_member, with_channel, with_member};
 use crate::saving::save_both;
 use dk_model::Mode;
 use dk_refs::{ChannelRecord, ManagedRef, SessionRecord};
-use dk_sessions::own_record;
+use dk_refs::own_record;
 use dk_txn::{Refusal, Txn, View};
 use dk_types::{Name, Session};
 use std::alloc::Global;

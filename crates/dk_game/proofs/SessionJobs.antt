@@ -13,7 +13,7 @@ use Rattle.dk_model.specs.Records.{session_name}
 use Rattle.dk_model.specs.Runs.{Run, Act, and_then, send}
 use Rattle.dk_model.specs.Steps.{login, login_found, leave_channels}
 use Rattle.dk_overlay.specs.Logged.{Logged}
-use Rattle.dk_sessions.specs.Lookups.{is_recorded}
+use Rattle.dk_refs.specs.Lookups.{is_recorded}
 use Rattle.dk_txn.specs.declared.txn.Txn.{Txn}
 use Rattle.dk_txn.specs.Does.{KeepsFor, DoesFor, Does, Leads, failure}
 use Rattle.dk_txn.proofs.Kit.{does_as}

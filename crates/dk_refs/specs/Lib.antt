@@ -1,3 +1,4 @@
 pub mod Managing
 pub mod Telling
 pub mod RecordReads
+pub mod Lookups

@@ -8,9 +8,13 @@
 
 pub use dk_model::{ChannelRecord, Delivery, SessionRecord};
 pub use managed::{Managed, decode_as};
+pub use own_records::{own_record, record_if_connected};
+pub use recorded::{is_recorded, session_name};
 pub use reference::ManagedRef;
 
 pub mod managed;
+pub mod own_records;
+pub mod recorded;
 pub mod records;
 pub mod reference;
 #[cfg(test)]

@@ -21,7 +21,7 @@ use Rattle.dk_txn.specs.Refusals.{refusal_fault}
 use Rattle.dk_txn.specs.Does.{Does}
 use Rattle.dk_txn.proofs.Kit.{then_does, does_as, stops}
 use Rattle.dk_txn.proofs.ObjectCalls.{refused_here}
-use Rattle.dk_sessions.specs.Lookups.{IsTooLong}
+use Rattle.dk_refs.specs.Lookups.{IsTooLong}
 use Rattle.dk_sessions.specs.Openings.{recording, taking}
 
 -- what follows where a name was looked up

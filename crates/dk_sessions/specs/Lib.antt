@@ -1,2 +1,2 @@
-pub mod Lookups
+pub use Rattle.dk_refs.specs.Lookups
 pub mod Openings

@@ -6,12 +6,11 @@
 #![tactic(auto)]
 
 pub use opening::{close_record, open_record};
-pub use recorded::{is_recorded, session_name};
-pub use records::{find, is_connected, own_record, record_if_connected};
+pub use dk_refs::{is_recorded, own_record, record_if_connected, session_name};
+pub use records::{find, is_connected};
 pub use sending::send;
 
 pub mod opening;
-pub mod recorded;
 pub mod records;
 pub mod sending;
 #[cfg(test)]

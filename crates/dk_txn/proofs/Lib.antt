@@ -4,7 +4,7 @@ pub mod Layers
 pub mod Sound
 pub mod Nets
 pub mod Owning
-pub mod Ending
+pub mod RunEnds
 pub mod Counting
 pub mod Kit
 pub mod Reading

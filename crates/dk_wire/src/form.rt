@@ -68,7 +68,7 @@ fn decode_any<T: Drop, F: Form<T>>(alloc: Global, payload: &[u8]) -> Result<T, P
 }
 
 /// Puts the number of the items, the low 32 bits of it where there are more, and the items. Where there is no memory, what the writer holds is not said: let it go.
-#[tactic(auto, unfolding(crate::specs::Lists::list_spelling))]
+#[tactic(auto, unfolding(dk_types::specs::Lists::list_spelling))]
 pub fn put_list<T, F: Form<T>>(writer: &mut Writer, items: &[T]) -> Result<(), NoMemory>
     ensures { OnOk result (writer.new ≡ writer.old ++ list_spelling F.spelling items.now) }
 {
@@ -80,7 +80,7 @@ pub fn put_list<T, F: Form<T>>(writer: &mut Writer, items: &[T]) -> Result<(), N
 }
 
 /// Takes a list: its count, and that many items, each behind the one before it.
-#[tactic(auto, unfolding(crate::specs::Lists::list_at))]
+#[tactic(auto, unfolding(dk_types::specs::Lists::list_at))]
 pub fn take_list<T: Drop, F: Form<T>>(
     alloc: Global,
     reader: &mut Reader<'_>,

@@ -11,7 +11,7 @@ pub const COUNT_BYTES: u64 = 4;
 pub const ID_BYTES: u64 = 12;
 
 /// The bytes of a name's spelling.
-#[tactic(auto, unfolding(crate::specs::Fields::name_spelling))]
+#[tactic(auto, unfolding(dk_types::specs::Fields::name_spelling))]
 pub fn name_bytes(name: &Name) -> u64
     ensures { result ≡ length (name_spelling name.now) }
 {
@@ -19,7 +19,7 @@ pub fn name_bytes(name: &Name) -> u64
 }
 
 /// The bytes of a blob's spelling.
-#[tactic(auto, unfolding(crate::specs::Fields::blob_spelling, crate::specs::Fields::u32_spelling))]
+#[tactic(auto, unfolding(dk_types::specs::Fields::blob_spelling, dk_types::specs::Fields::u32_spelling))]
 pub fn blob_bytes(blob: &Blob) -> u64
     ensures { result ≡ length (blob_spelling blob.now) }
 {

@@ -99,7 +99,7 @@ impl<'a> Reader<'a> {
     }
 
     /// The key of a task, which has the form of an id.
-    #[tactic(auto, unfolding(crate::specs::Payload::next_key))]
+    #[tactic(auto, unfolding(dk_types::specs::Payload::next_key))]
     pub fn next_key(&mut self) -> Result<TaskKey, PayloadRefused>
         ensures gives { Gives next_key self.old result self.new }
         ensures memory { IfErr result (λ e. e ≢ PayloadRefused.NoMemory) }
@@ -112,7 +112,7 @@ impl<'a> Reader<'a> {
     }
 
     /// Refuses the place where bytes are left. Takes no memory.
-    #[tactic(auto, unfolding(crate::specs::Payload::next_end, crate::specs::Reading::end_at))]
+    #[tactic(auto, unfolding(dk_types::specs::Payload::next_end, dk_types::specs::Reading::end_at))]
     pub fn next_end(&self) -> Result<(), PayloadRefused>
         ensures gives { MatchResult result (λ done. next_end self.now ≡ Ok done) (λ e. Misses e (next_end self.now)) }
         ensures memory { IfErr result (λ e. e ≢ PayloadRefused.NoMemory) }

@@ -46,7 +46,7 @@ impl<'a> Reader<'a> {
     }
 
     /// Refuses where bytes are left.
-    #[tactic(auto, unfolding(crate::specs::Reading::end_at))]
+    #[tactic(auto, unfolding(dk_types::specs::Reading::end_at))]
     pub fn end(&self) -> Result<(), WireRefused>
         ensures { result ≡ end_at self.now }
     {

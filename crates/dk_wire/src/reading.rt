@@ -11,7 +11,7 @@ use dk_types::{Blob, Name, NameRefused, ObjectId, RunNo};
 use std::alloc::Global;
 
 impl<'a> Reader<'a> {
-    #[tactic(auto, unfolding(crate::specs::Reading::u8_at))]
+    #[tactic(auto, unfolding(dk_types::specs::Reading::u8_at))]
     pub(crate) fn read_u8(&mut self) -> Result<u8, WireRefused>
         ensures reads { Reads u8_at self.old result self.new }
         ensures bytes { IsBytes self.old.bytes }
@@ -21,7 +21,7 @@ impl<'a> Reader<'a> {
         Ok(front[0])
     }
 
-    #[tactic(auto, unfolding(crate::specs::Reading::u16_at))]
+    #[tactic(auto, unfolding(dk_types::specs::Reading::u16_at))]
     pub(crate) fn read_u16(&mut self) -> Result<u16, WireRefused>
         ensures reads { Reads u16_at self.old result self.new }
         ensures bytes { IsBytes self.old.bytes }
@@ -31,7 +31,7 @@ impl<'a> Reader<'a> {
         Ok(BigEndian::read_u16(front))
     }
 
-    #[tactic(auto, unfolding(crate::specs::Reading::u32_at))]
+    #[tactic(auto, unfolding(dk_types::specs::Reading::u32_at))]
     pub(crate) fn read_u32(&mut self) -> Result<u32, WireRefused>
         ensures reads { Reads u32_at self.old result self.new }
         ensures bytes { IsBytes self.old.bytes }
@@ -41,7 +41,7 @@ impl<'a> Reader<'a> {
         Ok(BigEndian::read_u32(front))
     }
 
-    #[tactic(auto, unfolding(crate::specs::Reading::u64_at))]
+    #[tactic(auto, unfolding(dk_types::specs::Reading::u64_at))]
     pub(crate) fn read_u64(&mut self) -> Result<u64, WireRefused>
         ensures reads { Reads u64_at self.old result self.new }
         ensures bytes { IsBytes self.old.bytes }
@@ -52,7 +52,7 @@ impl<'a> Reader<'a> {
     }
 
     /// The name at the front: a length byte from 1 on, and that many bytes of UTF-8.
-    #[tactic(auto, unfolding(crate::specs::Reading::name_at))]
+    #[tactic(auto, unfolding(dk_types::specs::Reading::name_at))]
     pub(crate) fn read_name(&mut self, alloc: Global) -> Result<Name, WireRefused>
         ensures reads { Reads name_at self.old result self.new }
         ensures bytes { IsBytes self.old.bytes }
@@ -72,7 +72,7 @@ impl<'a> Reader<'a> {
     }
 
     /// The blob at the front, of at most `most` bytes.
-    #[tactic(auto, unfolding(crate::specs::Reading::blob_at))]
+    #[tactic(auto, unfolding(dk_types::specs::Reading::blob_at))]
     pub(crate) fn read_blob(&mut self, alloc: Global, most: u32) -> Result<Blob, WireRefused>
         ensures reads { Reads (blob_at most) self.old result self.new }
         ensures bytes { IsBytes self.old.bytes }
@@ -90,7 +90,7 @@ impl<'a> Reader<'a> {
     }
 
     /// The id at the front, one number of twelve bytes.
-    #[tactic(auto, unfolding(crate::specs::Reading::id_at))]
+    #[tactic(auto, unfolding(dk_types::specs::Reading::id_at))]
     pub(crate) fn read_id(&mut self) -> Result<ObjectId, WireRefused>
         ensures reads { Reads id_at self.old result self.new }
         ensures bytes { IsBytes self.old.bytes }

@@ -39,7 +39,7 @@ impl Writer {
         Blob::from_vec(out)
     }
 
-    #[tactic(auto, unfolding(crate::specs::Fields::u8_spelling))]
+    #[tactic(auto, unfolding(dk_types::specs::Fields::u8_spelling))]
     pub fn put_u8(&mut self, value: u8) -> Result<(), NoMemory>
         ensures ok { OnOk result (self.new ≡ self.old ++ u8_spelling value) }
         ensures err { OnErr result (self.new ≡ self.old) }
@@ -48,7 +48,7 @@ impl Writer {
         Ok(())
     }
 
-    #[tactic(auto, unfolding(crate::specs::Fields::u16_spelling))]
+    #[tactic(auto, unfolding(dk_types::specs::Fields::u16_spelling))]
     pub fn put_u16(&mut self, value: u16) -> Result<(), NoMemory>
         ensures ok { OnOk result (self.new ≡ self.old ++ u16_spelling value) }
         ensures err { OnErr result (self.new ≡ self.old) }
@@ -59,7 +59,7 @@ impl Writer {
         Ok(())
     }
 
-    #[tactic(auto, unfolding(crate::specs::Fields::u32_spelling))]
+    #[tactic(auto, unfolding(dk_types::specs::Fields::u32_spelling))]
     pub fn put_u32(&mut self, value: u32) -> Result<(), NoMemory>
         ensures ok { OnOk result (self.new ≡ self.old ++ u32_spelling value) }
         ensures err { OnErr result (self.new ≡ self.old) }
@@ -71,7 +71,7 @@ impl Writer {
     }
 
     /// Puts the number of a list's items: its low 32 bits, which are all of it below 2^32.
-    #[tactic(auto, unfolding(crate::specs::Fields::u32_spelling))]
+    #[tactic(auto, unfolding(dk_types::specs::Fields::u32_spelling))]
     pub(crate) fn put_count(&mut self, count: u64) -> Result<(), NoMemory>
         ensures ok { OnOk result (self.new ≡ self.old ++ u32_spelling count) }
         ensures err { OnErr result (self.new ≡ self.old) }
@@ -82,7 +82,7 @@ impl Writer {
         Ok(())
     }
 
-    #[tactic(auto, unfolding(crate::specs::Fields::u64_spelling))]
+    #[tactic(auto, unfolding(dk_types::specs::Fields::u64_spelling))]
     pub fn put_u64(&mut self, value: u64) -> Result<(), NoMemory>
         ensures ok { OnOk result (self.new ≡ self.old ++ u64_spelling value) }
         ensures err { OnErr result (self.new ≡ self.old) }
@@ -93,7 +93,7 @@ impl Writer {
         Ok(())
     }
 
-    #[tactic(auto, unfolding(crate::specs::Fields::name_spelling))]
+    #[tactic(auto, unfolding(dk_types::specs::Fields::name_spelling))]
     pub fn put_name(&mut self, value: &Name) -> Result<(), NoMemory>
         ensures ok { OnOk result (self.new ≡ self.old ++ name_spelling value.now) }
         ensures err { OnErr result (self.new ≡ self.old) }
@@ -103,7 +103,7 @@ impl Writer {
     }
 
     /// Puts the blob, whose length is its low 32 bits where it has more bytes.
-    #[tactic(auto, unfolding(crate::specs::Fields::blob_spelling, crate::specs::Fields::u32_spelling))]
+    #[tactic(auto, unfolding(dk_types::specs::Fields::blob_spelling, dk_types::specs::Fields::u32_spelling))]
     pub fn put_blob(&mut self, value: &Blob) -> Result<(), NoMemory>
         ensures ok { OnOk result (self.new ≡ self.old ++ blob_spelling value.now) }
         ensures err { OnErr result (self.new ≡ self.old) }
@@ -114,7 +114,7 @@ impl Writer {
         append_both(&mut self.out, &len[4..], blob)
     }
 
-    #[tactic(auto, unfolding(crate::specs::Fields::id_spelling, crate::specs::Fields::u64_spelling, crate::specs::Fields::u32_spelling))]
+    #[tactic(auto, unfolding(dk_types::specs::Fields::id_spelling, dk_types::specs::Fields::u64_spelling, dk_types::specs::Fields::u32_spelling))]
     pub fn put_id(&mut self, value: ObjectId) -> Result<(), NoMemory>
         ensures ok { OnOk result (self.new ≡ self.old ++ id_spelling value) }
         ensures err { OnErr result (self.new ≡ self.old) }
@@ -127,7 +127,7 @@ impl Writer {
     }
 
     /// Puts the key of a task, which has the form of an id.
-    #[tactic(auto, unfolding(crate::specs::Fields::key_spelling))]
+    #[tactic(auto, unfolding(dk_types::specs::Fields::key_spelling))]
     pub fn put_key(&mut self, value: TaskKey) -> Result<(), NoMemory>
         ensures ok { OnOk result (self.new ≡ self.old ++ key_spelling value) }
         ensures err { OnErr result (self.new ≡ self.old) }

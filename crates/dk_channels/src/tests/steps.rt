@@ -4,7 +4,7 @@ use super::{Who, bytes, name, session};
 use crate::{
     Channel, Delivery, create_channel, get_channel, join, leave, leave_all, members, send,
 };
-use dk_sessions::own_record;
+use dk_refs::own_record;
 use dk_txn::{Mode, Refusal, Txn, View};
 use dk_types::Name;
 use std::alloc::Global;

@@ -1,8 +1,8 @@
 use Rattle.std.proofs.Common.{◌≡◌, sym, ◌∙◌, rules}
-use Rattle.dk_sessions.proofs.Lookups.{find_long, find_stops, find_does}
+use Rattle.dk_refs.proofs.Lookups.{find_long, find_stops, find_does}
 use Rattle.dk_model.specs.Records.{session_name}
 use Rattle.dk_refs.proofs.Tellings.{length_passes, length_never}
-use Rattle.dk_sessions.proofs.Tellings.{under_avoids}
+use Rattle.dk_refs.proofs.SessionTellings.{under_avoids}
 use Rattle.dk_sessions.proofs.records.find.Goals as goal
 
 pub returns-then-is_too_long-clause-does : goal.returns-then-is_too_long-clause-does

@@ -1,9 +1,9 @@
 use Rattle.std.proofs.Common.{refl}
-use Rattle.dk_sessions.proofs.Lookups.{connected_stops, connected_none, connected_halts, connected_tells}
+use Rattle.dk_refs.proofs.Lookups.{connected_stops, connected_none, connected_halts, connected_tells}
 use Rattle.dk_model.specs.Records.{session_name}
 use Rattle.dk_refs.specs.Telling.{kind_under}
 use Rattle.dk_refs.proofs.Tellings.{kind_passes, kind_never}
-use Rattle.dk_sessions.proofs.Tellings.{recorded_avoids, record_kind}
+use Rattle.dk_refs.proofs.SessionTellings.{recorded_avoids, record_kind}
 use Rattle.dk_sessions.proofs.records.is_connected.Goals as goal
 
 pub returns-in_err-recorded-clause-does : goal.returns-in_err-recorded-clause-does

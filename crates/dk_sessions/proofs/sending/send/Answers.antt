@@ -1,10 +1,10 @@
 use Rattle.std.proofs.Common.{◌≡◌, true, false, rules}
-use Rattle.dk_sessions.proofs.Lookups.{send_stops, send_refused, send_does}
+use Rattle.dk_refs.proofs.Lookups.{send_stops, send_refused, send_does}
 use Rattle.dk_types.specs.declared.job.Out.TheVariants as out
 use Rattle.dk_model.specs.Records.{session_name}
 use Rattle.dk_refs.specs.Telling.{kind_under}
 use Rattle.dk_refs.proofs.Tellings.{length_passes, length_never, kind_never_last}
-use Rattle.dk_sessions.proofs.Tellings.{connected_avoids, send_avoids}
+use Rattle.dk_refs.proofs.SessionTellings.{connected_avoids, send_avoids}
 use Rattle.dk_sessions.proofs.sending.send.Goals as goal
 
 pub returns-in_err-connected-clause-does : goal.returns-in_err-connected-clause-does

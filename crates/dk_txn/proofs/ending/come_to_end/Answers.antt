@@ -3,7 +3,7 @@ use Rattle.dk_types.specs.declared.fault.Outcome.TheVariants as outcome
 use Rattle.dk_types.specs.declared.limits.TheConstants.{EFFECTS_MOST_BYTES}
 use Rattle.dk_model.specs.Effects.{effects_length}
 use Rattle.dk_overlay.specs.Asked.{IsOnce}
-use Rattle.dk_txn.proofs.Ending.{tells_done, tells_large, if_ok}
+use Rattle.dk_txn.proofs.RunEnds.{tells_done, tells_large, if_ok}
 use Rattle.dk_txn.proofs.ending.come_to_end.Goals as goal
 
 pub returns-then-is_too_large-clause-told : goal.returns-then-is_too_large-clause-told

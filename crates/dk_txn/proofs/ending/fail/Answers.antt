@@ -1,7 +1,7 @@
 use Rattle.std.proofs.Common.{refl, sym, subst}
 use Rattle.dk_types.specs.declared.fault.Outcome.TheVariants as outcome
 use Rattle.dk_overlay.specs.Asked.{IsOnce}
-use Rattle.dk_txn.proofs.Ending.{tells_failed}
+use Rattle.dk_txn.proofs.RunEnds.{tells_failed}
 use Rattle.dk_txn.proofs.ending.fail.Goals as goal
 
 pub returns-clause-told : goal.returns-clause-told

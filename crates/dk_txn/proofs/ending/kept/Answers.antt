@@ -2,7 +2,7 @@ use Rattle.std.proofs.Common.{◌≡◌, sym, ap, subst, ◌∙◌}
 use Rattle.dk_overlay.specs.Logged.{nothing_done}
 use Rattle.dk_txn.specs.Current.{passing_own}
 use Rattle.dk_txn.specs.Finishes.{IsKept}
-use Rattle.dk_txn.proofs.Ending.{kept_passed, kept_absent, kept_default}
+use Rattle.dk_txn.proofs.RunEnds.{kept_passed, kept_absent, kept_default}
 use Rattle.dk_txn.proofs.ending.kept.Goals as goal
 use Rattle.dk_txn.proofs.ending.kept.Goals.{in-Task+then-was_pending+in_ok-pass_own_task, in-Task+else-was_pending, in_default}
 

@@ -1,9 +1,9 @@
-use Rattle.dk_sessions.proofs.Lookups.{own_stops, own_none, own_halts, own_same, own_other}
+use Rattle.dk_refs.proofs.Lookups.{own_stops, own_none, own_halts, own_same, own_other}
 use Rattle.dk_model.specs.Records.{session_name}
 use Rattle.dk_refs.specs.Telling.{kind_under}
 use Rattle.dk_refs.proofs.Tellings.{kind_passes, kind_never}
-use Rattle.dk_sessions.proofs.Tellings.{recorded_avoids, record_kind}
-use Rattle.dk_sessions.proofs.records.record_if_connected.Goals as goal
+use Rattle.dk_refs.proofs.SessionTellings.{recorded_avoids, record_kind}
+use Rattle.dk_refs.proofs.own_records.record_if_connected.Goals as goal
 
 pub returns-in_err-recorded-clause-does : goal.returns-in_err-recorded-clause-does
 returns-in_err-recorded-clause-does g c = own_stops c.args.session.now c.in_err-recorded.ensures.does c.from_residual.ensures.1

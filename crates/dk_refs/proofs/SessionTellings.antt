@@ -20,7 +20,7 @@ use Rattle.dk_txn.specs.Refusals.{refusal_fault}
 use Rattle.dk_txn.specs.Does.{Does, SameChanges}
 use Rattle.dk_refs.specs.Telling.{TellsKind, TellsKindOf, kind_under}
 use Rattle.dk_refs.proofs.Tellings.{Avoids, answers, refuses, give_avoids, then_avoids, get_as_avoids, found_as_avoids, kind_found}
-use Rattle.dk_sessions.specs.Lookups.{recorded}
+use Rattle.dk_refs.specs.Lookups.{recorded}
 
 pub recorded_avoids : (name : List ℕ) (n : ℕ) → Avoids n (recorded name)
 unfolding recorded

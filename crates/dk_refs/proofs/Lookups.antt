@@ -23,7 +23,7 @@ use Rattle.dk_txn.specs.Does.{Does}
 use Rattle.dk_txn.proofs.Kit.{then_does, give_does, does_as, stops, if_true_does, if_false_does}
 use Rattle.dk_txn.proofs.ObjectCalls.{refused_here}
 use Rattle.dk_refs.proofs.Calls.{answered_here}
-use Rattle.dk_sessions.specs.Lookups.{recorded, is_recorded, IsTooLong}
+use Rattle.dk_refs.specs.Lookups.{recorded, is_recorded, IsTooLong}
 
 pub eq_true : (a b : ℕ) → a ≡ b → nat_eq a b ≡ true
 eq_true a b h = grind (arith, nat_tests)

@@ -1,9 +1,9 @@
-use Rattle.dk_sessions.proofs.Lookups.{under_stops, under_none, under_halts, under_finds}
+use Rattle.dk_refs.proofs.Lookups.{under_stops, under_none, under_halts, under_finds}
 use Rattle.dk_model.specs.Records.{session_name}
 use Rattle.dk_refs.specs.Telling.{kind_under}
 use Rattle.dk_refs.proofs.Tellings.{kind_passes, kind_never}
-use Rattle.dk_sessions.proofs.Tellings.{recorded_avoids, record_kind}
-use Rattle.dk_sessions.proofs.records.session_under.Goals as goal
+use Rattle.dk_refs.proofs.SessionTellings.{recorded_avoids, record_kind}
+use Rattle.dk_refs.proofs.own_records.session_under.Goals as goal
 
 pub returns-in_err-recorded-clause-does : goal.returns-in_err-recorded-clause-does
 returns-in_err-recorded-clause-does g c = under_stops c.args.name.now c.in_err-recorded.ensures.does c.from_residual.ensures.1

@@ -1,5 +1,5 @@
-use Rattle.dk_sessions.proofs.Lookups.{mine_stops, mine_other, mine_found, eq_true, eq_false}
-use Rattle.dk_sessions.proofs.records.own_record.Goals as goal
+use Rattle.dk_refs.proofs.Lookups.{mine_stops, mine_other, mine_found, eq_true, eq_false}
+use Rattle.dk_refs.proofs.own_records.own_record.Goals as goal
 
 pub returns-in_err-found-clause-does : goal.returns-in_err-found-clause-does
 returns-in_err-found-clause-does g c = mine_stops c.args.session.now c.in_err-found.ensures.does c.from_residual.ensures.1

@@ -1,5 +1,5 @@
-use Rattle.dk_sessions.proofs.Lookups.{recorded_long, recorded_short}
-use Rattle.dk_sessions.proofs.recorded.recorded.Goals as goal
+use Rattle.dk_refs.proofs.Lookups.{recorded_long, recorded_short}
+use Rattle.dk_refs.proofs.recorded.recorded.Goals as goal
 
 pub returns-in-None-clause-does : goal.returns-in-None-clause-does
 returns-in-None-clause-does g c = recorded_long c.args.name.now (rw c.in-None.is at c.in_ok-session_name.ensures)

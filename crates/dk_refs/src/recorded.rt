@@ -3,7 +3,7 @@ ghost use Rattle.std.specs.Prelude.{◌≡◌, true, false, IfOk, MatchOption};
 ghost use Rattle.dk_model.specs.Records.{session_name as named, is_name_too_long};
 ghost use Rattle.dk_txn.specs.Does.{Does, SameChanges};
 ghost use Rattle.dk_txn.specs.Refusals.{refusal_fault, TellsLength};
-ghost use Rattle.dk_sessions.specs.Lookups as lookup;
+ghost use Rattle.dk_refs.specs.Lookups as lookup;
 
 use dk_txn::{Refusal, Txn, View};
 use dk_types::limits::NAME_MOST_BYTES;
@@ -18,14 +18,14 @@ pub fn session_name(alloc: Global, name: &Name) -> Result<Option<Name>, NoMemory
 }
 
 /// Whether the platform name of a login name would pass 255 bytes.
-pub(crate) fn is_too_long(name: &Name) -> bool
+pub fn is_too_long(name: &Name) -> bool
     ensures { result ≡ is_name_too_long (named name.now) }
 {
     name.as_slice().len() as u64 + 3 > NAME_MOST_BYTES
 }
 
 /// The refusal of a login name whose platform name would be too long.
-pub(crate) fn too_long(name: &Name) -> Refusal
+pub fn too_long(name: &Name) -> Refusal
     ensures length { TellsLength (named name.now) result }
     ensures told { lookup.IsTooLong result }
 {
@@ -35,7 +35,7 @@ pub(crate) fn too_long(name: &Name) -> Refusal
 }
 
 /// The id of the record of a login name, where one is bound.
-pub(crate) fn recorded<V: View>(
+pub fn recorded<V: View>(
     alloc: Global,
     txn: &mut Txn<'_, V>,
     name: &Name,

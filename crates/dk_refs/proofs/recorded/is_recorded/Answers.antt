@@ -1,5 +1,5 @@
-use Rattle.dk_sessions.proofs.Lookups.{recorded_stops, recorded_tells}
-use Rattle.dk_sessions.proofs.recorded.is_recorded.Goals as goal
+use Rattle.dk_refs.proofs.Lookups.{recorded_stops, recorded_tells}
+use Rattle.dk_refs.proofs.recorded.is_recorded.Goals as goal
 
 pub returns-in_err-id-clause-does : goal.returns-in_err-id-clause-does
 returns-in_err-id-clause-does g c = recorded_stops c.args.name.now c.in_err-id.ensures.does c.from_residual.ensures.1
