@@ -1,2 +1,10 @@
+pub mod Alls
+pub mod Led
+pub mod Meant
+pub mod Opened
+pub mod Entered
+pub mod Handed
+pub mod Ran
+pub mod Phasing
 pub mod PlayOrder
 pub mod SinkPieces

@@ -1,3 +1,4 @@
 pub mod Statuses
 pub mod Reading
+pub mod Plays
 pub mod Headline

@@ -7,6 +7,7 @@
 
 mod input;
 mod output;
+mod play;
 mod program;
 mod session;
 mod status;

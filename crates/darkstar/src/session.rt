@@ -5,8 +5,8 @@ ghost use Rattle.dk_types.specs.declared.limits.TheConstants.{SCRIPT_MOST_BYTES}
 ghost use Rattle.dk_model.specs.Scripts.{AllMayStand};
 ghost use Rattle.darkstar.specs.Headline.{IsToldPlay};
 
+use crate::play::play_script;
 use dk_model::Line;
-use dk_play::play_script;
 use dk_script::transcript_of;
 use dk_types::{Blob, NoMemory};
 use std::alloc::Global;

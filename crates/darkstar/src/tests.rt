@@ -105,6 +105,24 @@ to 2 bob accepted
 done commits 4 tasks 0
 ";
 
+const SECOND: &str = "phase 0
+claim 0 at 0 initialize
+commit 1 run 0 ok
+phase 1
+open 1 alice
+open 2 bob
+claim 3 at 0 login alice
+commit 2 run 3 ok
+claim 4 at 0 login bob
+commit 3 run 4 ok
+claim 5 at 0 message bob
+commit 4 run 5 ok
+to 1 alice accepted
+to 2 bob accepted
+to 2 bob message You are in a plain room.\\x0aAlso in here: alice.\\x0aOn the floor: a shiny sword.\\x0a
+done commits 4 tasks 0
+";
+
 /// A source with no end, which tells nothing of its bytes.
 #[derive(Drop)]
 struct Flood;
@@ -154,21 +172,32 @@ fn many_sends(alloc: Global, sends: usize) -> Result<Vec<u8>, AllocError> {
 }
 
 #[test]
-fn transcripts_are_as_worked(rt: HostRuntime) -> Result<(), Fail> {
+fn scripts_are_answered_as_worked(rt: HostRuntime) -> Result<(), Fail> {
     let rows = [
-        ("", EMPTY),
-        ("login alice\nsend alice look\n", LOOK),
-        ("login alice\nsend alice LooK\nsend alice dance", DANCE),
+        ("", Status::Ok, EMPTY),
+        ("login alice\nsend alice look\n", Status::Ok, LOOK),
+        ("login alice\nsend alice LooK\nsend alice dance", Status::Ok, DANCE),
         (
             "login alice\nsend alice take\nsend alice look\nsend alice take\nsend alice drop\nsend alice drop\n",
+            Status::Ok,
             SWORD,
         ),
-        ("# twice\nlogin alice\n\nlogin alice\n", TWICE),
-        ("login alice\nlogin bob\nsend alice look\n", PAIR),
+        ("# twice\nlogin alice\n\nlogin alice\n", Status::Ok, TWICE),
+        // What waits at a login that is refused is dropped.
+        ("login alice\nlogin alice\nsend alice look\n", Status::Ok, TWICE),
+        ("login alice\nlogin bob\nsend alice look\n", Status::Ok, PAIR),
+        ("login alice\nlogin bob\nsend bob look\n", Status::Ok, SECOND),
+        ("login alice\nsync\n", Status::NotYet, ""),
+        ("login alice\nsend bob look\n", Status::NotYet, ""),
+        ("send bob look\n", Status::NotYet, ""),
+        ("login a b\n", Status::NotYet, ""),
+        ("login alice\nsend alice a\tb\n", Status::NotYet, ""),
+        ("login alice\nsend alice \u{E9}\n", Status::NotYet, ""),
+        ("login alice\nsend alice\n", Status::NotYet, ""),
     ];
-    for (script, text) in rows {
+    for (script, wanted, text) in rows {
         let (status, out) = played(rt.alloc(), script.as_bytes(), 0)?;
-        assert_eq!(rt; status, Status::Ok, "{script:?}");
+        assert_eq!(rt; status, wanted, "{script:?}");
         assert_eq!(rt; out.contents(), text.as_bytes(), "{script:?}");
     }
     Ok(())
@@ -186,25 +215,6 @@ fn other_words_touch_no_stream(rt: HostRuntime) -> Result<(), Fail> {
         assert_eq!(rt; run(alloc, words, &mut input, &mut out), Status::Usage);
         assert_eq!(rt; input.calls(), 0);
         assert_eq!(rt; out.calls(), 0);
-    }
-    Ok(())
-}
-
-#[test]
-fn other_input_is_not_yet_played(rt: HostRuntime) -> Result<(), Fail> {
-    let inputs = [
-        "login alice\nsync\n",
-        "login alice\nsend bob look\n",
-        "send bob look\n",
-        "login a b\n",
-        "login alice\nsend alice a\tb\n",
-        "login alice\nsend alice \u{E9}\n",
-        "login alice\nsend alice\n",
-    ];
-    for input in inputs {
-        let (status, out) = played(rt.alloc(), input.as_bytes(), 0)?;
-        assert_eq!(rt; status, Status::NotYet, "{input:?}");
-        assert_eq!(rt; out.calls(), 0, "{input:?}");
     }
     Ok(())
 }

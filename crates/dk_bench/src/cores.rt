@@ -1,13 +1,13 @@
 //! Jobs served on a core. Each figure is the nanoseconds of all timed jobs together.
 ghost use Rattle.std.specs.Prelude.{IfOk, IfSome};
-ghost use Rattle.dk_serving.specs.Servings.{IsStandingFor};
+ghost use Rattle.dk_workers.specs.Working.{IsStandingFor};
 
 use crate::filler::Filler;
 use crate::stores::nanoseconds;
 use dk_core::Core;
 use dk_demos::Counters;
 use dk_game::Game;
-use dk_serving::{Served, serve_next};
+use dk_workers::{Step, work_once};
 use dk_types::{Durable, Listed, Name};
 use std::alloc::Global;
 use std::time::{Clock, Instant};
@@ -68,8 +68,8 @@ fn serve<G: Game>(alloc: Global, game: &G, core: &mut Core, most: u64) -> Option
 {
     let mut served = 0u64;
     'jobs: for _ in 0..most {
-        match serve_next(alloc, game, core, 0) {
-            Ok(Served::Ran(_)) => served = served.saturating_add(1),
+        match work_once(alloc, game, core, 0) {
+            Ok(Step::Ran(_)) => served = served.saturating_add(1),
             Ok(_) => return Some(served),
             Err(_) => return None,
         }

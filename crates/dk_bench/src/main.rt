@@ -6,7 +6,6 @@ mod channels;
 mod cores;
 mod disk;
 mod filler;
-mod first_path;
 mod stores;
 mod tasks;
 mod txn;
@@ -15,7 +14,6 @@ use channels::{Doing, on_channel};
 use cores::{CoreWork, on_core};
 use disk::{folder_appends, memory_calls};
 use dk_turn_books::{empty_turns_anew, locked_adds, tally_in_threads};
-use first_path::first_path;
 use std::env;
 use std::fs::File;
 use std::process::ExitCode;
@@ -29,8 +27,6 @@ use txn::txn_calls;
 /// What is run.
 #[derive(Clone, Copy)]
 enum Subcommand {
-    /// A play of so many long sends. The transcript's bytes are told.
-    FirstPath,
     /// So many locks and unlocks of a mutex, each with one atomic addition.
     LockedAdds,
     /// So many turns of a step that does nothing.
@@ -54,7 +50,7 @@ enum Subcommand {
 fn main(rt: HostRuntime) -> ExitCode {
     let Some((subcommand, times)) = asked(&rt) else {
         let _ = rt.eprintln(
-            "dk_bench: first-path|locked-adds|empty-turns|tally|STORE-CALL|txn-calls|channel-sends|channel-join|channel-leave|core-tasks|core-counters|core-sessions|folder-appends|memory-calls TIMES",
+            "dk_bench: locked-adds|empty-turns|tally|STORE-CALL|txn-calls|channel-sends|channel-join|channel-leave|core-tasks|core-counters|core-sessions|folder-appends|memory-calls TIMES",
         );
         return ExitCode::from(2);
     };
@@ -77,7 +73,6 @@ fn asked<R: Env + AllocGlobal>(rt: &R) -> Option<(Subcommand, u32)> {
 
 fn named(word: &str) -> Option<Subcommand> {
     match word {
-        "first-path" => Some(Subcommand::FirstPath),
         "locked-adds" => Some(Subcommand::LockedAdds),
         "empty-turns" => Some(Subcommand::EmptyTurns),
         "tally" => Some(Subcommand::Tally),
@@ -97,7 +92,6 @@ fn run<R: AllocGlobal + Threads + Wait + Sync + Clock + Files<File = File> + Clo
     times: u32,
 ) -> Option<u64> {
     match subcommand {
-        Subcommand::FirstPath => first_path(rt.alloc(), times).map(|bytes| bytes as u64),
         Subcommand::LockedAdds => Some(locked_adds(rt, times as u64)),
         Subcommand::EmptyTurns => empty_turns_anew(rt, rt.alloc(), times as u64),
         Subcommand::Tally => tally_in_threads(rt, rt.alloc(), times as u64),

@@ -5,7 +5,7 @@ use Rattle.dk_types.specs.declared.number.RunNo.{RunNo}
 use Rattle.dk_types.specs.declared.durable.Durable.{Durable}
 use Rattle.dk_types.specs.declared.limits.TheConstants.{NUMBERS_END}
 use Rattle.dk_types.specs.Names.{bytes_cmp}
-use Rattle.dk_model.specs.Keys.{id_cmp, key_cmp}
+use Rattle.dk_types.specs.Keys.{id_cmp, key_cmp}
 use Rattle.dk_model.specs.DurableWorlds.{DurableWorld}
 use Rattle.dk_model.specs.Effects.{with_set, task_of}
 use Rattle.dk_model.specs.Events.{Meaning}
@@ -13,7 +13,7 @@ use Rattle.dk_model.specs.Runs.{give}
 use Rattle.dk_model.specs.Validity.{IsValid, next_of}
 use Rattle.dk_model.proofs.Acts.{lawful_rules, lawful_done}
 use Rattle.dk_model.proofs.Maps.{not_both}
-use Rattle.dk_durable.specs.Listings.{world_of}
+use Rattle.dk_core.specs.Listings.{world_of}
 use Rattle.dk_core.specs.declared.world.Core.{Core}
 use Rattle.dk_core.specs.Cores.{StandsFor, IsStanding}
 

@@ -1,5 +1,6 @@
 -- A commit leads to the world that the definitions say.
 use Rattle.std.proofs.Common.{◌≡◌, ℕ, ◌+◌, false, ◌&&◌, not, List, [], ◌∷◌, ◌++◌, Option, Some, None, refl, sym, ap, subst, ◌∙◌, arith}
+use Rattle.std.proofs.lemmas.List.{append-nil}
 use Rattle.std.specs.List.{AllByRecursion}
 use Rattle.std.specs.Option.{option_map}
 use Rattle.std.specs.FinMap.{get}
@@ -33,10 +34,10 @@ use Rattle.dk_tasks.proofs.Durable.{get-durable}
 use Rattle.dk_txn.specs.declared.finished.Finished.{Finished}
 use Rattle.dk_txn.specs.Finishes.{told}
 use Rattle.dk_connections.specs.Linked.{Shown, all_of, IsSwept, KeepsMarksBut}
-use Rattle.dk_durable.specs.StampedWorlds.{Stamped, Room, with_room, durable_of, seen_now}
-use Rattle.dk_durable.specs.Changes.{Stands}
-use Rattle.dk_durable.specs.Commits.{CommitsSteps, ComesTo, claimed_at}
-use Rattle.dk_durable.proofs.LawfulSteps.{steps_from}
+use Rattle.dk_core.specs.StampedWorlds.{Stamped, Room, with_room, durable_of, seen_now}
+use Rattle.dk_core.specs.Changes.{Stands}
+use Rattle.dk_core.specs.Commits.{CommitsSteps, ComesTo, claimed_at}
+use Rattle.dk_core.proofs.LawfulSteps.{steps_from}
 use Rattle.dk_core.specs.declared.world.Core.{Core}
 use Rattle.dk_core.specs.declared.claimed.Claimed.{Claimed}
 use Rattle.dk_core.specs.Claiming.{Claiming, without_run}
@@ -107,7 +108,7 @@ module _ (old : Core) (claimed : Claimed) (f : Finished) (seq : ℕ) (mid : Stam
       → seq ≡ old.world.commits + 1 → CommitsSteps old.world mid claimed.run (told f) → claims ≡ without_run claimed.run old.claims → IsTaskFreed claimed.job (with_run_ended old mid claims) freed
       → all_of shown.connections ≡ without_done (delivered claimed.job messages (all_of freed.connections.connections)) → KeepsMarksBut claimed.job freed.connections.connections shown.connections → IsSwept shown.connections
       → Commits old (record freed { connections = shown }) claimed f seq
-  commits held stand sent number steps ended t connected marks swept rules d budget events lawful s honest =
+  commits held stand sent number steps ended t connected marks swept rules d budget events lawful honest s =
       let w = world_of old in
       let claim : Claim = record { pass = claimed.pass; job = claimed.job; at = claimed.at } in
       let sound = sound_of rules lawful d budget events old s in
@@ -161,8 +162,9 @@ seen_with_room room w (ask.Task key) = refl
 -- so a core with more room stands for the same history
 pub stays_with : (old : Core) (world : Stamped) → world ≡ with_room world.room old.world → Stays old (record old { world = world })
 stays_with old world is rules d budget events s =
-    subst (λ v. StandsFor rules d budget events (record old { world = v })) (sym is)
-    record { valid = s.valid; within = s.within; leads = s.leads; stamps = λ item. seen_with_room world.room old.world item ∙ s.stamps item; tracked = s.tracked }
+    subst (λ v. StandsFor rules d budget (events ++ []) (record old { world = v })) (sym is)
+    (subst (λ es. StandsFor rules d budget es (record old { world = with_room world.room old.world })) (sym (append-nil events))
+    record { valid = s.valid; within = s.within; leads = s.leads; stamps = λ item. seen_with_room world.room old.world item ∙ s.stamps item; tracked = s.tracked })
 
 -- and the reads that stood stand
 pub stand_with : (old world : Stamped) (reads : List (Item × Read)) → world ≡ with_room world.room old → AllByRecursion (Stands old) reads → AllByRecursion (Stands world) reads
@@ -176,4 +178,4 @@ stood_with old world (r ∷ reads) is h = (h.0 ∙ ap (λ v. seen_now v r.0) is 
 
 -- it stands for some history still
 pub standing_still : (old new : Core) → IsStanding old → Stays old new → IsStanding new
-standing_still old new s stays = record { rules = s.rules; opened = s.opened; budget = s.budget; events = s.events; lawful = s.lawful; stands = stays s.rules s.opened s.budget s.events s.stands }
+standing_still old new s stays = record { rules = s.rules; opened = s.opened; budget = s.budget; events = s.events ++ []; lawful = s.lawful; stands = stays s.rules s.opened s.budget s.events s.stands }

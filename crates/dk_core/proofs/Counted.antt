@@ -3,7 +3,7 @@ use Rattle.std.proofs.Common.{◌≡◌, ℕ, ◌+◌, ◌-◌, ◌<◌, ◌≤�
 use Rattle.std.specs.FinMap.{get, insert, remove, empty, len, contains_key, get-empty, len-empty, len-insert, len-remove, len-entries, entries, find, get-entries}
 use Rattle.dk_types.specs.declared.number.RunNo.{RunNo}
 use Rattle.dk_types.specs.declared.limits.TheConstants.{NUMBERS_END}
-use Rattle.dk_model.specs.Keys.{run_cmp}
+use Rattle.dk_types.specs.Keys.{run_cmp}
 use Rattle.dk_model.specs.Worlds.{Claim}
 use Rattle.dk_model.specs.Events.{has_left, lowered, raised}
 use Rattle.dk_model.specs.Openings.{budget_of}

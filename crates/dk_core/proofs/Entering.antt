@@ -27,7 +27,7 @@ use Rattle.dk_connections.proofs.Kept.{some_in}
 use Rattle.dk_connections.proofs.Marks.{keeps_same, keeps_change, keeps_left, marks_then}
 use Rattle.dk_core.specs.declared.world.Core.{Core}
 use Rattle.dk_core.specs.Claiming.{Claiming}
-use Rattle.dk_core.specs.Cores.{world_of, StandsFor, Enters, IsStanding}
+use Rattle.dk_core.specs.Cores.{world_of, StandsFor, Adds, IsStanding}
 use Rattle.dk_core.specs.Answers.{Posted, Hands}
 use Rattle.dk_core.proofs.Standing.{below_of, entered_still}
 use Rattle.dk_core.proofs.Tracked.{tracked_connect, tracked_kept}
@@ -39,7 +39,7 @@ is_new c s =
     some_in c.connections.connections (record { 0 = c.claims.next }) ∙ ap is_some none
 
 -- an event that changes nothing
-pub stays_so : (old : Core) (e : Event) → IsWithinLimits e → ((rules : Meaning) → Happens rules (world_of old) e (world_of old)) → ((rules : Meaning) → step_by rules (world_of old) e ≡ None) → Enters old old e
+pub stays_so : (old : Core) (e : Event) → IsWithinLimits e → ((rules : Meaning) → Happens rules (world_of old) e (world_of old)) → ((rules : Meaning) → step_by rules (world_of old) e ≡ None) → Adds old old (e ∷ [])
 stays_so old e within happens none rules d budget events lawful s = entered_still rules lawful d budget events old s old e within (happens rules) s.tracked (none rules) refl (λ _. refl)
 
 -- the core with other connections
@@ -53,7 +53,7 @@ pub connects : (old : Core) (name : List ℕ) (pass : ℕ) (shown : Shown) (clai
     → claims ≡ record old.claims { next = old.claims.next + 1 }
     → shown.connections ≡ insert old.connections.connections (record { 0 = old.claims.next }) (unclaimed (new_connection name old.claims.next))
     → all_of shown.connections ≡ insert (all_of old.connections.connections) (record { 0 = old.claims.next }) (new_connection name old.claims.next)
-    → IsSwept shown.connections → Enters old (connecting old shown claims) (event.Connect pass name (connected.Number (record { 0 = old.claims.next })))
+    → IsSwept shown.connections → Adds old (connecting old shown claims) (event.Connect pass name (connected.Number (record { 0 = old.claims.next })) ∷ [])
 connects old name pass shown claims is few drawn is_linked is_world swept rules d budget events lawful s =
     subst (λ n. StandsFor rules d budget (events ++ event.Connect pass name (connected.Number (record { 0 = old.claims.next })) ∷ []) (connecting old shown n)) (sym drawn)
     (entered_still rules lawful d budget events old s (connecting old shown (record old.claims { next = old.claims.next + 1 })) (event.Connect pass name (connected.Number (record { 0 = old.claims.next }))) is
@@ -70,9 +70,9 @@ posts old conn input shown (Ok taken) is answer is_linked is_world swept same = 
     (tracked_kept (world_of old) old.connections.connections shown.connections old.world.tasks s.tracked
     (subst (KeepsMarks old.connections.connections) (sym is_linked) (keeps_change old.connections.connections conn (linked (put_last (waits.Input input))) (λ _. refl))) swept old.moment (all_of shown.connections)) refl refl (λ _. refl)
 posts old conn input shown (Err post_refused.Closed) is answer is_linked is_world swept same = λ pass.
-    subst (λ x. Enters old (with_connections old x) (event.Post pass conn input posted.Closed)) (sym same) (stays_so old (event.Post pass conn input posted.Closed) is (λ rules. (answer, refl)) (λ rules. refl))
+    subst (λ x. Adds old (with_connections old x) (event.Post pass conn input posted.Closed ∷ [])) (sym same) (stays_so old (event.Post pass conn input posted.Closed) is (λ rules. (answer, refl)) (λ rules. refl))
 posts old conn input shown (Err (post_refused.QueueFull waiting)) is answer is_linked is_world swept same = λ pass.
-    subst (λ x. Enters old (with_connections old x) (event.Post pass conn input (posted.QueueFull waiting))) (sym same)
+    subst (λ x. Adds old (with_connections old x) (event.Post pass conn input (posted.QueueFull waiting) ∷ [])) (sym same)
     (stays_so old (event.Post pass conn input (posted.QueueFull waiting)) is (λ rules. (answer.0, answer.1, answer.2, refl)) (λ rules. refl))
 posts old conn input shown (Err post_refused.NoMemory) is answer is_linked is_world swept same = (ap (with_connections old) same, answer.2)
 
@@ -100,7 +100,7 @@ hands_short old s conn most (Ok handed) outs =
     subst (All HasShortBody) (sym outs) (All-take HasShortBody most _ waiting)
 hands_short old s conn most (Err refused) outs = tt
 
-pub ticks : (old : Core) (given pass moment : ℕ) → moment ≡ max old.moment (min given MOMENT_MOST_MS) → Enters old (record old { moment = moment }) (event.Tick pass given)
+pub ticks : (old : Core) (given pass moment : ℕ) → moment ≡ max old.moment (min given MOMENT_MOST_MS) → Adds old (record old { moment = moment }) (event.Tick pass given ∷ [])
 ticks old given pass moment is rules d budget events lawful s =
     let all = old.connections.connections in
     entered_still rules lawful d budget events old s (record old { moment = moment }) (event.Tick pass given) tt

@@ -11,10 +11,10 @@ use Rattle.dk_model.specs.Openings.{opening}
 use Rattle.dk_laws.proofs.OneWorld.{events_lead, parted}
 use Rattle.dk_core.specs.declared.world.Core.{Core}
 use Rattle.dk_core.specs.declared.claimed.Claimed.{Claimed}
-use Rattle.dk_core.specs.Cores.{world_of, StandsFor, Enters, IsStanding, IsGranted}
+use Rattle.dk_core.specs.Cores.{world_of, StandsFor, Adds, IsStanding, IsGranted}
 
 -- it stands for some history still
-pub standing_then : (old new : Core) (e : Event) → IsStanding old → Enters old new e → IsStanding new
+pub standing_then : (old new : Core) (e : Event) → IsStanding old → Adds old new (e ∷ []) → IsStanding new
 standing_then old new e s enters = record {
   rules = s.rules;
   opened = s.opened;
@@ -33,7 +33,7 @@ happened rules d budget events old new e s n =
     subst (λ w. Happens rules w e (world_of new)) (sym at) (subst (Happens rules p.at e) (sym p.second.2) p.second.1)
 
 -- what is claimed stays so where a claim is beyond the budget
-pub spent_keeps : (old new : Core) (pass granted : ℕ) (claimed : Claimed) → IsStanding old → Enters old new (event.Claim pass (reply.Spent granted)) → IsGranted old claimed → IsGranted new claimed
+pub spent_keeps : (old new : Core) (pass granted : ℕ) (claimed : Claimed) → IsStanding old → Adds old new (event.Claim pass (reply.Spent granted) ∷ []) → IsGranted old claimed → IsGranted new claimed
 spent_keeps old new pass granted claimed s enters held =
     let h = happened s.rules s.opened s.budget s.events old new (event.Claim pass (reply.Spent granted)) s.stands (enters s.rules s.opened s.budget s.events s.lawful s.stands) in
     ap (λ (w : World). get w.claims claimed.run) h.3 ∙ held

@@ -13,7 +13,7 @@ use Rattle.dk_types.specs.declared.event.ClaimReply.TheVariants as reply
 use Rattle.dk_types.specs.declared.limits.TheConstants.{NUMBERS_END}
 use Rattle.dk_model.specs.declared.waiting.Waiting.{Waiting}
 use Rattle.dk_model.specs.declared.waiting.Waiting.TheVariants as waits
-use Rattle.dk_model.specs.Keys.{key_cmp}
+use Rattle.dk_types.specs.Keys.{key_cmp}
 use Rattle.dk_model.specs.DurableWorlds.{DurableWorld}
 use Rattle.dk_model.specs.Worlds.{Claim}
 use Rattle.dk_model.specs.Deliveries.{conn_of, for_conn, without_done}
@@ -35,7 +35,7 @@ use Rattle.dk_core.specs.declared.choice.Choice.TheVariants as choose
 use Rattle.dk_core.specs.declared.world.Core.{Core}
 use Rattle.dk_core.specs.declared.claimed.Claimed.{Claimed}
 use Rattle.dk_core.specs.Claiming.{Claiming, with_grant, without_grant}
-use Rattle.dk_core.specs.Cores.{world_of, IsTracked, StandsFor, Enters, IsGranted}
+use Rattle.dk_core.specs.Cores.{world_of, IsTracked, StandsFor, Adds, IsGranted}
 use Rattle.dk_core.specs.Picking.{job_of, AreMarks, IsThere, IsPick}
 use Rattle.dk_core.specs.Marking.{is_task, conn_in, tasks_marked, tasks_freed, IsMarked, IsFreed}
 use Rattle.dk_core.proofs.Choosing.{job_there}
@@ -45,7 +45,7 @@ use Rattle.dk_core.proofs.Tracked.{InputClaimed, TaskClaimed, TaskFreed, TaskAlo
 use Rattle.dk_core.proofs.Marked.{conn_there, input_marked, input_freed, task_marked, task_freed}
 
 -- nothing is granted
-pub claims_none : (old : Core) (pass : ℕ) → IsPick old None → Enters old old (event.Claim pass reply.Nothing)
+pub claims_none : (old : Core) (pass : ℕ) → IsPick old None → Adds old old (event.Claim pass reply.Nothing ∷ [])
 claims_none old pass none rules d budget events lawful s =
     entered_still rules lawful d budget events old s old (event.Claim pass reply.Nothing) tt (nothing_runnable (world_of old) (none s.tracked), refl) s.tracked refl refl (λ _. refl)
 
@@ -53,11 +53,11 @@ module _ (old : Core) (pass : ℕ) (x : Choice) (is : IsPick old (Some x)) (ther
   runs : AreMarks old → picks.runnable (world_of old) ≡ [] → ⊥
   runs marks = let j = job_there old x there in picked_runnable (world_of old) j.job (is marks ∙ j.is)
 
-  pub claims_spent : (granted : ℕ) → has_left old.claims.budget ≡ false → granted ≡ granted_of old.claims.budget → Enters old old (event.Claim pass (reply.Spent granted))
+  pub claims_spent : (granted : ℕ) → has_left old.claims.budget ≡ false → granted ≡ granted_of old.claims.budget → Adds old old (event.Claim pass (reply.Spent granted) ∷ [])
   claims_spent granted spent all rules d budget events lawful s =
       entered_still rules lawful d budget events old s old (event.Claim pass (reply.Spent granted)) tt (runs s.tracked, spent, all, refl) s.tracked refl refl (λ _. refl)
 
-  pub claims_exhausted : (next : ℕ) → has_left old.claims.budget ≡ true → NUMBERS_END ≤ old.claims.next → next ≡ old.claims.next → Enters old old (event.Claim pass (reply.Exhausted next))
+  pub claims_exhausted : (next : ℕ) → has_left old.claims.budget ≡ true → NUMBERS_END ≤ old.claims.next → next ≡ old.claims.next → Adds old old (event.Claim pass (reply.Exhausted next) ∷ [])
   claims_exhausted next left end at rules d budget events lawful s =
       entered_still rules lawful d budget events old s old (event.Claim pass (reply.Exhausted next)) tt (runs s.tracked, left, end, at, refl) s.tracked refl refl (λ _. refl)
 
@@ -121,7 +121,7 @@ with_claims c claims = record c { claims = claims }
 
 pub claims_granted : (old new : Core) (pass : ℕ) (x : Choice) (j : Job) (claims : Claiming) → IsPick old (Some x) → IsThere old x → (old.world.commits ≡ 0 → x ≡ choose.First)
     → job_of old (Some x) ≡ Some j → has_left old.claims.budget ≡ true → old.claims.next < NUMBERS_END → claims ≡ with_grant (record { pass = pass; job = j; at = old.moment }) old.claims
-    → IsMarked x old.claims.next (with_claims old claims) new → Enters old new (event.Claim pass (reply.Granted (record { 0 = old.claims.next }) old.moment j))
+    → IsMarked x old.claims.next (with_claims old claims) new → Adds old new (event.Claim pass (reply.Granted (record { 0 = old.claims.next }) old.moment j) ∷ [])
 claims_granted old new pass x j claims is there first what left few granted m rules d budget events lawful s =
     let k = chosen_job old x j what in
     let w = world_of old in
@@ -187,7 +187,7 @@ freed_tasks (job.Channel conn name channel body) tasks = λ key t e. (t, e, not_
 freed_tasks (job.Disconnect conn name graceful) tasks = λ key t e. (t, e, not_false t.claimed)
 
 pub releases : (old new : Core) (claimed : Claimed) (claims : Claiming) → IsGranted old claimed → claims ≡ without_grant claimed.run old.claims → IsFreed claimed.job (with_claims old claims) new
-    → Enters old new (event.Release claimed.pass claimed.run)
+    → Adds old new (event.Release claimed.pass claimed.run ∷ [])
 releases old new claimed claims held gone f rules d budget events lawful s =
     let w = world_of old in
     let all = old.connections.connections in

@@ -1,3 +1,17 @@
+pub mod MapFacts
+pub mod Keys
+pub mod Walked
+pub mod Reading
+pub mod OpenedWorlds
+pub mod Stamped
+pub mod Forgotten
+pub mod SetClaimed
+pub mod ReadsStand
+pub mod LawfulSteps
+pub mod AfterCommit
+pub mod Firsts
+pub mod Records
+pub mod Walks
 pub mod Having
 pub mod Tracked
 pub mod Marked

@@ -8,7 +8,7 @@ use Rattle.dk_types.specs.declared.number.ConnNo.{ConnNo}
 use Rattle.dk_types.specs.declared.number.TaskKey.{TaskKey}
 use Rattle.dk_types.specs.declared.job.Job.{Job}
 use Rattle.dk_types.specs.declared.job.Job.TheVariants as job
-use Rattle.dk_model.specs.Keys.{key_cmp, conn_cmp}
+use Rattle.dk_types.specs.Keys.{key_cmp, conn_cmp}
 use Rattle.dk_model.specs.Deliveries.{conn_of}
 use Rattle.dk_model.specs.Picks.{is_of}
 use Rattle.dk_model.proofs.Maps.{keys_total, exact_keys, some_is}
@@ -16,7 +16,7 @@ use Rattle.dk_tasks.specs.Tasks.{Kept, with_claim, changed_at}
 use Rattle.dk_connections.specs.Linked.{Linked, change, change_some, released, with_turn, KeepsMarksBut}
 use Rattle.dk_connections.proofs.Changes.{get-change}
 use Rattle.dk_connections.proofs.Found.{tied, conn_tied, conn_is}
-use Rattle.dk_durable.proofs.MapFacts.{get-Changed}
+use Rattle.dk_core.proofs.MapFacts.{get-Changed}
 use Rattle.dk_core.proofs.Tracked.{InputClaimed, TaskClaimed, TaskFreed}
 
 -- what a job's test for connections says, by the connection that the job is of

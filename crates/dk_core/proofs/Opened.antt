@@ -7,7 +7,7 @@ use Rattle.dk_types.specs.declared.item.Item.{Item}
 use Rattle.dk_types.specs.declared.item.Read.{Read}
 use Rattle.dk_types.specs.declared.job.Job.{Job}
 use Rattle.dk_types.specs.declared.event.Event.{Event}
-use Rattle.dk_model.specs.Keys.{run_cmp}
+use Rattle.dk_types.specs.Keys.{run_cmp}
 use Rattle.dk_model.specs.DurableWorlds.{DurableWorld, answer}
 use Rattle.dk_model.specs.Validity.{IsValid, next_of}
 use Rattle.dk_model.specs.Worlds.{World}
@@ -19,7 +19,7 @@ use Rattle.dk_laws.proofs.OneWorld.{events_lead}
 use Rattle.dk_laws.proofs.OpenClaims.{TheClaims}
 use Rattle.dk_tasks.specs.Tasks.{Kept}
 use Rattle.dk_connections.specs.Linked.{Linked, all_of, IsSwept}
-use Rattle.dk_durable.specs.StampedWorlds.{durable_of, read_now, HasStamps}
+use Rattle.dk_core.specs.StampedWorlds.{durable_of, read_now, HasStamps}
 use Rattle.dk_core.specs.declared.world.Core.{Core}
 use Rattle.dk_core.specs.Claiming.{Claiming}
 use Rattle.dk_core.specs.Cores.{world_of, StandsFor}

@@ -14,7 +14,7 @@ use Rattle.dk_laws.proofs.Sound.{IsSound}
 use Rattle.dk_laws.proofs.SoundConnections.{all_append}
 use Rattle.dk_laws.proofs.SoundHistories.{history_sound}
 use Rattle.dk_laws.proofs.Stamps.{stamp_from-append}
-use Rattle.dk_durable.specs.StampedWorlds.{durable_of, seen_now, HasStamps}
+use Rattle.dk_core.specs.StampedWorlds.{durable_of, seen_now, HasStamps}
 use Rattle.dk_core.specs.declared.world.Core.{Core}
 use Rattle.dk_core.specs.Cores.{world_of, IsTracked, StandsFor}
 

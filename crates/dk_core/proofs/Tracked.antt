@@ -6,7 +6,7 @@ use Rattle.dk_types.specs.declared.number.ConnNo.{ConnNo}
 use Rattle.dk_types.specs.declared.number.TaskKey.{TaskKey}
 use Rattle.dk_types.specs.declared.job.Job.{Job}
 use Rattle.dk_types.specs.declared.job.Job.TheVariants as job
-use Rattle.dk_model.specs.Keys.{key_cmp, conn_cmp}
+use Rattle.dk_types.specs.Keys.{key_cmp, conn_cmp}
 use Rattle.dk_model.specs.DurableWorlds.{DurableWorld}
 use Rattle.dk_model.specs.Worlds.{World, Claim, new_connection}
 use Rattle.dk_model.specs.Picks.{is_of, is_task_of, is_claimed}

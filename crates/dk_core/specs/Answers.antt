@@ -22,8 +22,8 @@ use Rattle.dk_txn.specs.Finishes.{told}
 use Rattle.dk_connections.specs.declared.answers.PostRefused.{PostRefused}
 use Rattle.dk_connections.specs.declared.answers.PostRefused.TheVariants as post_refused
 use Rattle.dk_connections.specs.declared.answers.Handed.{Handed}
-use Rattle.dk_durable.specs.Changes.{Stands, IsFirstChanged}
-use Rattle.dk_durable.specs.Rooms.{HasRoom}
+use Rattle.dk_core.specs.Changes.{Stands, IsFirstChanged}
+use Rattle.dk_core.specs.Rooms.{HasRoom}
 use Rattle.dk_core.specs.declared.world.Core.{Core}
 use Rattle.dk_core.specs.declared.claimed.Claimed.{Claimed}
 use Rattle.dk_core.specs.declared.answers.ConnectRefused.{ConnectRefused}
@@ -33,32 +33,32 @@ use Rattle.dk_core.specs.declared.answers.ClaimRefused.TheVariants as claim_refu
 use Rattle.dk_core.specs.declared.answers.PrepareRefused.{PrepareRefused}
 use Rattle.dk_core.specs.declared.answers.PrepareRefused.TheVariants as prepare_refused
 use Rattle.dk_core.specs.declared.prepared.Prepared.{Prepared}
-use Rattle.dk_core.specs.Cores.{StandsFor, Enters, Stays, IsGranted}
+use Rattle.dk_core.specs.Cores.{Extends, Adds, Stays, IsGranted}
 
 -- a Connect of this name, whatever pass it is of; after want of memory the core is as it was
 abbrev pub Connected : Core → Core → List ℕ → Result ConnNo ConnectRefused → Type 0
-Connected old new name (Ok conn) = (pass : ℕ) → Enters old new (event.Connect pass name (connected.Number conn))
-Connected old new name (Err (connect_refused.Exhausted next)) = (pass : ℕ) → Enters old new (event.Connect pass name (connected.Exhausted next))
+Connected old new name (Ok conn) = (pass : ℕ) → Adds old new (event.Connect pass name (connected.Number conn) ∷ [])
+Connected old new name (Err (connect_refused.Exhausted next)) = (pass : ℕ) → Adds old new (event.Connect pass name (connected.Exhausted next) ∷ [])
 Connected old new name (Err connect_refused.NoMemory) = new ≡ old
 
 -- a Post of this input; want of memory is no answer to a Disconnect
 abbrev pub Posted : Core → Core → ConnNo → Input → Result (Unit {0}) PostRefused → Type 0
-Posted old new conn input (Ok taken) = (pass : ℕ) → Enters old new (event.Post pass conn input posted.Taken)
-Posted old new conn input (Err post_refused.Closed) = (pass : ℕ) → Enters old new (event.Post pass conn input posted.Closed)
-Posted old new conn input (Err (post_refused.QueueFull waiting)) = (pass : ℕ) → Enters old new (event.Post pass conn input (posted.QueueFull waiting))
+Posted old new conn input (Ok taken) = (pass : ℕ) → Adds old new (event.Post pass conn input posted.Taken ∷ [])
+Posted old new conn input (Err post_refused.Closed) = (pass : ℕ) → Adds old new (event.Post pass conn input posted.Closed ∷ [])
+Posted old new conn input (Err (post_refused.QueueFull waiting)) = (pass : ℕ) → Adds old new (event.Post pass conn input (posted.QueueFull waiting) ∷ [])
 Posted old new conn input (Err post_refused.NoMemory) = (new ≡ old) × (is_disconnect (waits.Input input) ≡ false)
 
 -- a Claim by this pass; what is granted is claimed
 abbrev pub Claims : Core → Core → ℕ → Result (Option Claimed) ClaimRefused → Type 0
-Claims old new pass (Ok (Some c)) = Enters old new (event.Claim pass (reply.Granted c.run c.at c.job)) × IsGranted new c × (c.pass ≡ pass)
-Claims old new pass (Ok None) = Enters old new (event.Claim pass reply.Nothing)
-Claims old new pass (Err (claim_refused.Spent granted)) = Enters old new (event.Claim pass (reply.Spent granted))
-Claims old new pass (Err (claim_refused.Exhausted next)) = Enters old new (event.Claim pass (reply.Exhausted next))
+Claims old new pass (Ok (Some c)) = Adds old new (event.Claim pass (reply.Granted c.run c.at c.job) ∷ []) × IsGranted new c × (c.pass ≡ pass)
+Claims old new pass (Ok None) = Adds old new (event.Claim pass reply.Nothing ∷ [])
+Claims old new pass (Err (claim_refused.Spent granted)) = Adds old new (event.Claim pass (reply.Spent granted) ∷ [])
+Claims old new pass (Err (claim_refused.Exhausted next)) = Adds old new (event.Claim pass (reply.Exhausted next) ∷ [])
 Claims old new pass (Err claim_refused.NoMemory) = new ≡ old
 
 -- a Hand of at most this many messages
 abbrev pub Hands : Core → Core → ConnNo → ℕ → Result Handed NoMemory → Type 0
-Hands old new conn most (Ok handed) = (pass : ℕ) → Enters old new (event.Hand pass conn most handed.outs handed.end)
+Hands old new conn most (Ok handed) = (pass : ℕ) → Adds old new (event.Hand pass conn most handed.outs handed.end ∷ [])
 Hands old new conn most (Err refused) = new ≡ old
 
 -- the reads of the run stand, and there is room for its effects and its messages
@@ -90,9 +90,9 @@ Prepares old new claimed f (Err refused) = TellsRefused old f refused
 -- an honest run is committed: the event is its Commit
 abbrev pub Commits : Core → Core → Claimed → Finished → ℕ → Type 0
 Commits old new claimed f seq =
-    (rules : Meaning) (d : DurableWorld) (budget : Option ℕ) (events : List Event) → AreLawful rules → StandsFor rules d budget events old
+    (rules : Meaning) (d : DurableWorld) (budget : Option ℕ) (events : List Event) → AreLawful rules
     → IsHonest rules (opening d budget) events claimed.job claimed.run claimed.at f.reads.items (told f)
-    → StandsFor rules d budget (events ++ event.Commit claimed.pass claimed.run seq f.outcome ∷ []) new
+    → Extends rules d budget events old new (event.Commit claimed.pass claimed.run seq f.outcome ∷ [])
 
 -- both in one: where it is refused the claim is handed back, and stands
 abbrev pub CommitsOrTells : Core → Core → Claimed → Finished → Result ℕ (Claimed × PrepareRefused) → Type 0

@@ -5,7 +5,7 @@ use Rattle.std.specs.FinMap.{FinMap, code, get, insert, remove, len}
 use Rattle.dk_types.specs.declared.number.RunNo.{RunNo}
 use Rattle.dk_types.specs.declared.job.Job.{Job}
 use Rattle.dk_types.specs.declared.limits.TheConstants.{NUMBERS_END}
-use Rattle.dk_model.specs.Keys.{run_cmp}
+use Rattle.dk_types.specs.Keys.{run_cmp}
 use Rattle.dk_model.specs.Worlds.{Claim, Budget}
 use Rattle.dk_model.specs.Events.{lowered, raised}
 

@@ -7,7 +7,7 @@ use Rattle.dk_types.specs.declared.number.ConnNo.{ConnNo}
 use Rattle.dk_types.specs.declared.number.TaskKey.{TaskKey}
 use Rattle.dk_types.specs.declared.job.Job.TheVariants as job
 use Rattle.dk_types.specs.declared.event.Event.{Event}
-use Rattle.dk_model.specs.Keys.{key_cmp, conn_cmp}
+use Rattle.dk_types.specs.Keys.{key_cmp, conn_cmp}
 use Rattle.dk_model.specs.DurableWorlds.{DurableWorld}
 use Rattle.dk_model.specs.Validity.{IsValid}
 use Rattle.dk_model.specs.Worlds.{World, Claim}
@@ -19,7 +19,7 @@ use Rattle.dk_model.specs.Sights.{stamp}
 use Rattle.dk_model.specs.Lawful.{AreLawful, IsWithinLimits}
 use Rattle.dk_tasks.specs.Tasks.{Kept}
 use Rattle.dk_connections.specs.Linked.{Linked, all_of, IsSwept}
-use Rattle.dk_durable.specs.StampedWorlds.{durable_of, HasStamps}
+use Rattle.dk_core.specs.StampedWorlds.{durable_of, HasStamps}
 use Rattle.dk_core.specs.declared.world.Core.{Core}
 use Rattle.dk_core.specs.declared.claimed.Claimed.{Claimed}
 
@@ -55,13 +55,21 @@ pub record StandsFor (rules : Meaning) (d : DurableWorld) (budget : Option ℕ) 
   pub stamps : HasStamps (stamp rules (opening d budget) events) c.world
   pub tracked : IsTracked (world_of c) c.connections.connections c.world.tasks
 
--- a core that stood for a history stands for it with this event at its end
-abbrev pub Enters : Core → Core → Event → Type 0
-Enters old new e = (rules : Meaning) (d : DurableWorld) (budget : Option ℕ) (events : List Event) → AreLawful rules → StandsFor rules d budget events old → StandsFor rules d budget (events ++ e ∷ []) new
+-- the history is extended by these events: a core that stood for it stands for it with them at its end
+abbrev pub Extends : Meaning → DurableWorld → Option ℕ → List Event → Core → Core → List Event → Type 0
+Extends rules d budget events old new more = StandsFor rules d budget events old → StandsFor rules d budget (events ++ more) new
 
--- a core that stood for a history stands for it still
+-- whatever history of these rules it stood for
+abbrev pub AddsBy : Meaning → Core → Core → List Event → Type 0
+AddsBy rules old new more = (d : DurableWorld) (budget : Option ℕ) (events : List Event) → Extends rules d budget events old new more
+
+-- whatever history of lawful rules
+abbrev pub Adds : Core → Core → List Event → Type 0
+Adds old new more = (rules : Meaning) (d : DurableWorld) (budget : Option ℕ) (events : List Event) → AreLawful rules → Extends rules d budget events old new more
+
+-- whatever history; no event is added
 abbrev pub Stays : Core → Core → Type 0
-Stays old new = (rules : Meaning) (d : DurableWorld) (budget : Option ℕ) (events : List Event) → StandsFor rules d budget events old → StandsFor rules d budget events new
+Stays old new = (rules : Meaning) → AddsBy rules old new []
 
 -- the core stands for some history of lawful rules
 pub record IsStanding (c : Core) : Type 0 where

@@ -1,3 +1,10 @@
+pub mod StampedWorlds
+pub mod Rooms
+pub mod Publishing
+pub mod Commits
+pub mod Changes
+pub mod Listings
+pub mod Firsts
 pub mod Claiming
 pub mod Cores
 pub mod Marking

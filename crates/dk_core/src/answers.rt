@@ -1,6 +1,6 @@
 //! Why a call was refused.
 
-use dk_durable::Changed;
+use crate::durable::Changed;
 use dk_types::NoMemory;
 
 /// Why a connection was not made. The first cause in this order is told.

@@ -75,7 +75,7 @@ impl Model for Claims {
     ghost use Rattle.dk_types.specs.contracts.job.Job as jobs;
     ghost use Rattle.dk_map.specs.AsMap.{map_of};
     ghost use Rattle.dk_map.specs.Entries.{IsOrdered};
-    ghost use Rattle.dk_model.specs.Keys.{run_cmp};
+    ghost use Rattle.dk_types.specs.Keys.{run_cmp};
     ghost use Rattle.dk_core.specs.Claiming.{Claiming, claiming_code, budget_in, IsCounted};
 
     ghost Value = { Claiming };

@@ -1,6 +1,6 @@
 // Commits.
 ghost use Rattle.std.specs.Prelude.{◌≡◌, ◌+◌, IfOk};
-ghost use Rattle.dk_durable.specs.StampedWorlds.{with_room};
+ghost use Rattle.dk_core.specs.StampedWorlds.{with_room};
 ghost use Rattle.dk_core.specs.Answers.{Commits, CommitsOrTells, IsPrepared, IsReady, Prepares, Readies};
 ghost use Rattle.dk_core.specs.Cores.{IsGranted, IsStanding, Stays};
 
@@ -78,11 +78,11 @@ impl Core {
         ensures commits { Commits self.old self.new claimed finished result }
     {
         let Claimed { run, job, .. } = claimed;
-        let committed = self.world.commit(finished, run);
+        let seq = self.world.commit(finished, run);
         self.claims.end(run);
         self.free_task(&job);
         self.connections.deliver(&job, deliveries);
-        committed.seq
+        seq
     }
 
     /// Commits a finished run where all its reads stand, and tells the number of the commit. Refused, the claim is handed

@@ -1,9 +1,9 @@
 // Connect, Post, Hand and Tick.
-ghost use Rattle.std.specs.Prelude.{◌≡◌, ℕ, All, IfOk};
+ghost use Rattle.std.specs.Prelude.{◌≡◌, ℕ, ◌∷◌, [], All, IfOk};
 ghost use Rattle.dk_types.specs.declared.event.Event.TheVariants as event;
 ghost use Rattle.dk_model.specs.Lawful.{HasShortBody, IsInput};
 ghost use Rattle.dk_core.specs.Answers.{Connected, Posted, Hands};
-ghost use Rattle.dk_core.specs.Cores.{Enters, IsStanding};
+ghost use Rattle.dk_core.specs.Cores.{Adds, IsStanding};
 
 use crate::answers::ConnectRefused;
 use crate::world::Core;
@@ -47,7 +47,7 @@ impl Core {
 
     /// Time goes on to a moment, in ms, and never back. It takes no memory.
     pub fn tick(&mut self, moment: u64)
-        ensures { (pass : ℕ) → Enters self.old self.new (event.Tick pass moment) }
+        ensures { (pass : ℕ) → Adds self.old self.new (event.Tick pass moment ∷ []) }
     {
         self.moment = self.moment.max(moment.min(MOMENT_MOST_MS));
     }

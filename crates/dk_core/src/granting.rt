@@ -1,8 +1,8 @@
 // Claim and Release.
-ghost use Rattle.std.specs.Prelude.{◌≡◌, Some, IfOk, IfSome};
+ghost use Rattle.std.specs.Prelude.{◌≡◌, ◌∷◌, [], Some, IfOk, IfSome};
 ghost use Rattle.dk_types.specs.declared.event.Event.TheVariants as event;
 ghost use Rattle.dk_core.specs.Answers.{Claims};
-ghost use Rattle.dk_core.specs.Cores.{Enters, IsGranted};
+ghost use Rattle.dk_core.specs.Cores.{Adds, IsGranted};
 ghost use Rattle.dk_core.specs.Picking.{job_of, IsDueTask, IsFirstRun, IsPick, IsReadyInput, IsThere};
 ghost use Rattle.dk_core.specs.Marking.{IsMarked, IsFreed, IsTaskFreed};
 ghost use Rattle.dk_core.specs.declared.choice.Choice.TheVariants as choose;
@@ -48,7 +48,7 @@ impl Core {
     /// Gives a claim back: its job can be run again where it still waits. It takes no memory.
     pub fn release(&mut self, claimed: Claimed)
         requires granted { IsGranted self.old claimed }
-        ensures { Enters self.old self.new (event.Release claimed.pass claimed.run) }
+        ensures { Adds self.old self.new (event.Release claimed.pass claimed.run ∷ []) }
     {
         self.claims.release(claimed.run);
         self.unmark(&claimed.job);

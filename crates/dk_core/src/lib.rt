@@ -9,7 +9,7 @@
 pub use answers::{ClaimRefused, ConnectRefused, PrepareRefused};
 pub use claimed::Claimed;
 pub use dk_connections::{Handed, PostRefused};
-pub use dk_durable::Changed;
+pub use durable::{Changed, WorldLook};
 pub use prepared::Prepared;
 pub use world::Core;
 
@@ -18,9 +18,9 @@ mod choice;
 pub mod claimed;
 mod claims;
 mod commits;
+pub mod durable;
 mod events;
 mod granting;
+pub mod opening;
 pub mod prepared;
-#[cfg(test)]
-mod tests;
 pub mod world;

@@ -8,14 +8,14 @@ ghost use Rattle.dk_model.specs.Openings.{opening};
 ghost use Rattle.dk_model.specs.Sights.{IsReadAt};
 ghost use Rattle.dk_model.specs.Validity.{IsValid, next_of};
 ghost use Rattle.dk_types.specs.declared.limits.TheConstants.{NUMBERS_END};
-ghost use Rattle.dk_durable.specs.Listings.{world_of as world_in, listed};
-ghost use Rattle.dk_durable.specs.StampedWorlds.{durable_of, read_now};
+ghost use Rattle.dk_core.specs.Listings.{world_of as world_in, listed};
+ghost use Rattle.dk_core.specs.StampedWorlds.{durable_of, read_now};
 ghost use Rattle.dk_core.specs.Cores.{world_of, StandsFor};
 
 use crate::claims::Claims;
+use crate::durable::{StampedWorld, WorldLook};
+use crate::opening::open_connections;
 use dk_connections::Connections;
-use dk_durable::{StampedWorld, WorldLook};
-use dk_opening::open_connections;
 use dk_types::{Durable, Item, NoMemory, Read, RunNo};
 use std::alloc::Global;
 

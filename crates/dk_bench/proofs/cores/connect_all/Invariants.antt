@@ -1,4 +1,4 @@
-use Rattle.dk_serving.specs.Servings.{IsStandingFor}
+use Rattle.dk_workers.specs.Working.{IsStandingFor}
 use Rattle.dk_bench.proofs.cores.connect_all.Given as goal
 
 abbrev pub invariant-sessions : goal.invariant-sessions

@@ -1,4 +1,4 @@
-use Rattle.dk_serving.proofs.Honest.{entered}
+use Rattle.dk_workers.proofs.Honest.{entered}
 use Rattle.dk_bench.proofs.cores.occurrences.Goals as goal
 
 pub serve-requires : goal.serve-requires

@@ -1,4 +1,4 @@
-use Rattle.dk_serving.specs.Servings.{IsStandingFor}
+use Rattle.dk_workers.specs.Working.{IsStandingFor}
 use Rattle.dk_bench.proofs.cores.occurrences.Given as goal
 
 abbrev pub invariant-moments : goal.invariant-moments

@@ -1,4 +1,4 @@
-use Rattle.dk_serving.proofs.Honest.{standing_then}
+use Rattle.dk_workers.proofs.Honest.{standing_then}
 use Rattle.dk_bench.proofs.cores.serve.Goals as goal
 
 pub jobs-preserved : goal.jobs-preserved

@@ -1,4 +1,4 @@
-use Rattle.dk_serving.specs.Servings.{IsStandingFor}
+use Rattle.dk_workers.specs.Working.{IsStandingFor}
 use Rattle.dk_bench.proofs.cores.serve.Given as goal
 
 abbrev pub invariant-jobs : goal.invariant-jobs

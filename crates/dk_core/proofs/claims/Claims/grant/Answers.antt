@@ -2,7 +2,7 @@ use Rattle.std.proofs.Common.{◌≡◌, ◌+◌, ◌<◌, true, refl, sym, subs
 use Rattle.dk_map.specs.Entries.{put}
 use Rattle.dk_map.proofs.Seen.{put_seen}
 use Rattle.dk_types.specs.declared.limits.TheConstants.{NUMBERS_END}
-use Rattle.dk_model.specs.Keys.{run_cmp}
+use Rattle.dk_types.specs.Keys.{run_cmp}
 use Rattle.dk_model.specs.Events.{has_left}
 use Rattle.dk_model.proofs.Maps.{runs_total}
 use Rattle.dk_core.specs.Claiming.{with_grant, IsCounted}

@@ -2,7 +2,7 @@ use Rattle.std.proofs.Common.{sym, subst, ap, ◌∙◌}
 use Rattle.dk_map.specs.AsMap.{map_of}
 use Rattle.dk_map.specs.Entries.{IsOrdered}
 use Rattle.dk_map.proofs.Maps.{map_of-empty}
-use Rattle.dk_model.specs.Keys.{run_cmp}
+use Rattle.dk_types.specs.Keys.{run_cmp}
 use Rattle.dk_core.proofs.Counted.{counted_none, budget_begins}
 use Rattle.dk_core.proofs.claims.Claims.new.Goals as goal
 

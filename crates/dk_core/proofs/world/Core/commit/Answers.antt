@@ -1,4 +1,6 @@
-use Rattle.std.proofs.Common.{◌+◌, ap, ◌∙◌}
+use Rattle.std.proofs.Common.{◌+◌, ap, subst, ◌∙◌}
+use Rattle.std.proofs.lemmas.List.{append-nil}
+use Rattle.dk_core.specs.Cores.{StandsFor}
 use Rattle.dk_core.proofs.Committed.{standing_still, stood_with}
 use Rattle.dk_core.proofs.world.Core.commit.Goals as goal
 
@@ -10,5 +12,6 @@ returns-in-Ok c =
     let same = ap (λ n. n.world) c.make_ready.ensures.same in (
       c.enter.ensures.number ∙ ap (λ w. w.commits + 1) same,
       stood_with c.args.self.now.world c.make_ready.new.self.world c.args.finished.reads.items same c.in-Ok.ensures.ready.stand,
-      λ rules d budget events lawful s honest. c.enter.ensures.commits rules d budget events lawful (c.make_ready.ensures.stays rules d budget events s) honest,
+      λ rules d budget events lawful honest s.
+          c.enter.ensures.commits rules d budget events lawful honest (subst (λ es. StandsFor rules d budget es c.make_ready.new.self) (append-nil events) (c.make_ready.ensures.stays rules d budget events s)),
     )

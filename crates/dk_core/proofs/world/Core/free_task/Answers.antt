@@ -1,7 +1,7 @@
 use Rattle.std.proofs.Common.{false, refl, sym}
 use Rattle.dk_model.proofs.Maps.{keys_total, exact_keys}
 use Rattle.dk_tasks.specs.Tasks.{with_claim}
-use Rattle.dk_durable.proofs.MapFacts.{Changed-absent}
+use Rattle.dk_core.proofs.MapFacts.{Changed-absent}
 use Rattle.dk_core.proofs.Choosing.{gone}
 use Rattle.dk_core.proofs.world.Core.free_task.Goals as goal
 

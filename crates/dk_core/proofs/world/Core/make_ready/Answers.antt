@@ -1,5 +1,5 @@
 use Rattle.std.proofs.Common.{None, subst, ◌∙◌}
-use Rattle.dk_durable.specs.Changes.{TellsChanged}
+use Rattle.dk_core.specs.Changes.{TellsChanged}
 use Rattle.dk_core.proofs.Committed.{stays_with, stand_with}
 use Rattle.dk_core.proofs.world.Core.make_ready.Goals as goal
 

@@ -1,5 +1,0 @@
-use Rattle.dk_core.proofs.Followed.{standing_then}
-use Rattle.dk_core.proofs.tests.claim.Goals as goal
-
-pub returns-in-Ok-Some-clause-standing : goal.returns-in-Ok-Some-clause-standing
-returns-in-Ok-Some-clause-standing c = standing_then _ _ _ c.requires (rw c.in-Ok-Some.field-0-is at c.in-Ok-Some.ensures).0

@@ -1,8 +1,0 @@
-use Rattle.std.proofs.Common.{take}
-use Rattle.std.specs.List.{AllByRecursion}
-use Rattle.dk_durable.specs.Changes.{Stands}
-use Rattle.dk_durable.proofs.world.StampedWorld.first_changed.Given as goal
-
--- those before this place stand
-abbrev pub invariant-loop-item : goal.invariant-loop-item
-invariant-loop-item l = AllByRecursion (Stands l.self) (take l.item-index l.reads)
