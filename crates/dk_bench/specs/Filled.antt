@@ -8,7 +8,7 @@ use Rattle.dk_model.specs.Lawful.{IsJob, AreLawful}
 use Rattle.dk_model.proofs.Acts.{Anything, IsLawful, lawful_rules, lawful_then, lawful_done}
 use Rattle.dk_model.proofs.Operations.{lawful_create, lawful_schedule, lawful_schedule_periodic}
 use Rattle.dk_model.proofs.Bytes.{bytes_nil}
-use Rattle.dk_demos.specs.Lawful.{lawful_make_from, lawful_raise}
+use Rattle.dk_demos.specs.CountersLawful.{lawful_make_from, lawful_raise}
 use Rattle.dk_bench.specs.Filling.{plan, begin, fill, put_off, enter, filler_rules}
 
 lawful_plan : {Needs : Type 0} → IsLawful Needs Anything plan

@@ -5,7 +5,7 @@ use Rattle.dk_types.specs.declared.job.Job.{Job}
 use Rattle.dk_types.specs.declared.job.Job.TheVariants as job
 use Rattle.dk_types.specs.declared.limits.TheConstants.{DELAY_MOST_MS}
 use Rattle.dk_model.specs.Runs.{Act, give, and_then, create, schedule, schedule_periodic}
-use Rattle.dk_demos.specs.Rules.{make_from, raise}
+use Rattle.dk_demos.specs.CountersRules.{make_from, raise}
 
 -- a task that raises the counter 7 each millisecond
 abbrev pub plan : Act (Unit {0})

@@ -2,7 +2,7 @@
 ghost use Rattle.std.specs.Prelude.{◌≡◌, []};
 ghost use Rattle.dk_txn.specs.Does.{Does};
 ghost use Rattle.dk_game.specs.Halted.{halt_fault};
-ghost use Rattle.dk_demos.specs.Rules as counting;
+ghost use Rattle.dk_demos.specs.CountersRules as counting;
 ghost use Rattle.dk_bench.specs.Filling as rules;
 
 use dk_demos::{make_all, raise};

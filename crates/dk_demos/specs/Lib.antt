@@ -1,4 +1,15 @@
 pub mod Counting
 pub mod CounterLaws
-pub mod Rules
-pub mod Lawful
+pub mod Raising
+pub mod RaisingLawful
+pub mod CountersRules
+pub mod CountersLawful
+pub mod TimerRules
+pub mod TimerLawful
+pub mod Commands
+pub mod ChannelsRules
+pub mod ChannelsLawful
+pub mod Guests
+pub mod GuestLaws
+pub mod GreeterRules
+pub mod GreeterLawful

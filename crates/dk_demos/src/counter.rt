@@ -1,7 +1,13 @@
-//! What the game keeps of a counter.
+//! Counters, as games keep them and raise them.
+ghost use Rattle.std.specs.Prelude.{◌≡◌};
+ghost use Rattle.dk_txn.specs.Does.{Does};
+ghost use Rattle.dk_game.specs.Halted.{halt_fault};
+ghost use Rattle.dk_demos.specs.Raising as rules;
 
-use dk_refs::{Managed, decode_as};
-use dk_types::{Blob, NoMemory};
+use dk_game::Halt;
+use dk_refs::{Managed, ManagedRef, decode_as};
+use dk_txn::{Txn, View};
+use dk_types::{Blob, Name, NoMemory};
 use dk_wire::{Form, PayloadRefused, Reader, Writer, encode};
 use std::alloc::Global;
 
@@ -68,7 +74,6 @@ impl Managed for Counter {
 }
 
 impl Counter {
-    ghost use Rattle.std.specs.Prelude.{◌≡◌};
     ghost use Rattle.dk_demos.specs.Counting.{raised};
 
     /// The counter raised by one. At the greatest number it stays.
@@ -79,4 +84,28 @@ impl Counter {
             count: self.count.saturating_add(1),
         }
     }
+}
+
+/// A counter at 0, under a name.
+pub fn make_under<V: View>(alloc: Global, txn: &mut Txn<'_, V>, name: &Name) -> Result<(), Halt>
+    ensures { Does V.gave halt_fault txn.old txn.new (rules.make_under name.now) result }
+{
+    let counter = ManagedRef::create(alloc, txn, &Counter { count: 0 })?;
+    txn.bind(name, counter.id())?;
+    Ok(())
+}
+
+/// Raises the counter under a name by one, and answers it as it is then.
+pub fn raise_under<V: View>(
+    alloc: Global,
+    txn: &mut Txn<'_, V>,
+    name: &Name,
+) -> Result<Counter, Halt>
+    ensures { Does V.gave halt_fault txn.old txn.new (rules.raise_under name.now) result }
+{
+    let place = ManagedRef::<Counter>::of(txn.bound(name)?);
+    let counter = place.get_for_update(alloc, txn)?;
+    let more = counter.raised();
+    place.save(alloc, txn, &more)?;
+    Ok(more)
 }

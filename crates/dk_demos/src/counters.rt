@@ -2,12 +2,11 @@
 ghost use Rattle.std.specs.Prelude.{◌≡◌, ◌<◌, ◌≤◌, ◌∷◌, [], IfOk};
 ghost use Rattle.dk_txn.specs.Does.{Does};
 ghost use Rattle.dk_game.specs.Halted.{halt_fault};
-ghost use Rattle.dk_demos.specs.Rules as rules;
+ghost use Rattle.dk_demos.specs.CountersRules as rules;
 
-use crate::counter::Counter;
+use crate::counter::{make_under, raise_under};
 use dk_game::{Game, Halt};
 use dk_model::Rules;
-use dk_refs::ManagedRef;
 use dk_txn::{Txn, View};
 use dk_types::{Blob, GameId, Job, Name, NameRefused, NoMemory};
 use std::alloc::Global;
@@ -56,9 +55,7 @@ fn make<V: View>(alloc: Global, txn: &mut Txn<'_, V>, number: u8) -> Result<(), 
     ensures { Does V.sights halt_fault txn.old txn.new (rules.make number) result }
 {
     let name = counter_name(alloc, number)?;
-    let counter = ManagedRef::create(alloc, txn, &Counter { count: 0 })?;
-    txn.bind(&name, counter.id())?;
-    Ok(())
+    make_under(alloc, txn, &name)
 }
 
 /// The sixteen counters at 0, under their names.
@@ -108,9 +105,7 @@ fn raise_at<V: View>(alloc: Global, txn: &mut Txn<'_, V>, number: u8) -> Result<
     ensures { Does V.sights halt_fault txn.old txn.new (rules.raise_at number) result }
 {
     let name = counter_name(alloc, number)?;
-    let place = ManagedRef::<Counter>::of(txn.bound(&name)?);
-    let counter = place.get_for_update(alloc, txn)?;
-    place.save(alloc, txn, &counter.raised())?;
+    raise_under(alloc, txn, &name)?;
     Ok(())
 }
 
@@ -135,8 +130,8 @@ pub fn raise<V: View>(alloc: Global, txn: &mut Txn<'_, V>, arg: &Blob) -> Result
 }
 
 impl Rules for Counters {
-    ghost use Rattle.dk_demos.specs.Rules.{counters_rules};
-    ghost use Rattle.dk_demos.specs.Lawful.{counters_lawful};
+    ghost use Rattle.dk_demos.specs.CountersRules.{counters_rules};
+    ghost use Rattle.dk_demos.specs.CountersLawful.{counters_lawful};
 
     ghost rules = { λ game job. counters_rules game.seed game.tasks job };
 

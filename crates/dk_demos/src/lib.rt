@@ -1,13 +1,22 @@
 //! Small games that show the server at work.
 //!
-//! `Counters` raises sixteen counters by tasks, and `stress` and the benchmarks run it. What a game means stands in
-//! `specs/`; its code does that in a transaction.
+//! `Counters` raises sixteen counters by tasks, `Timer` one counter by a periodic task, `Channels` lets clients talk on two
+//! channels, and `Greeter`, the game of `docs/WRITING-A-GAME.md`, knows its guests again. What a game means stands in `specs/`;
+//! its code does that in a transaction.
 #![tactic(auto)]
 
+pub use channels::Channels;
+pub use commands::Command;
 pub use counter::Counter;
 pub use counters::{Counters, make_all, raise};
+pub use greeter::Greeter;
+pub use guest::Guest;
+pub use timer::Timer;
 
+pub mod channels;
+pub mod commands;
 pub mod counter;
 pub mod counters;
-#[cfg(test)]
-mod tests;
+pub mod greeter;
+pub mod guest;
+pub mod timer;

@@ -1,6 +1,6 @@
 use Rattle.std.proofs.Common.{arith, sym, subst}
 use Rattle.dk_types.specs.Names.{IsName}
-use Rattle.dk_demos.specs.Lawful.{name_of_counter}
+use Rattle.dk_demos.specs.CountersLawful.{name_of_counter}
 use Rattle.dk_demos.proofs.counters.counter_name.Goals as goal
 
 pub unreachable-requires-in-Err-NotUtf8 : goal.unreachable-requires-in-Err-NotUtf8

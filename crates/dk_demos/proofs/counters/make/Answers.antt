@@ -1,15 +1,6 @@
-use Rattle.dk_txn.proofs.Kit.{then_does, then_last, halts, halts_last}
-use Rattle.dk_demos.specs.Rules.{make}
+use Rattle.dk_demos.specs.CountersRules.{make}
 use Rattle.dk_demos.proofs.counters.make.Goals as goal
-
-pub returns-in_err-counter : goal.returns-in_err-counter
-unfolding make
-returns-in_err-counter g c = halts _ c.in_err-counter.ensures.does c.from_residual-in_err-counter.ensures.1
-
-pub returns-in_err-bind : goal.returns-in_err-bind
-unfolding make
-returns-in_err-bind g c = then_does _ c.in_ok-counter.ensures.does (halts_last (rw (c.in_ok-name.ensures, c.id.ensures) at c.in_err-bind.ensures.does) c.from_residual-in_err-bind.ensures.1)
 
 pub returns : goal.returns
 unfolding make
-returns g c = then_does _ c.in_ok-counter.ensures.does (then_last (rw (c.in_ok-name.ensures, c.id.ensures) at c.in_ok-bind.ensures.does))
+returns g c = rw c.in_ok-name.ensures at c.make_under.ensures

@@ -1,6 +1,6 @@
 use Rattle.std.proofs.Common.{◌-◌}
 use Rattle.dk_txn.specs.Does.{Leads}
-use Rattle.dk_demos.specs.Rules.{make_from}
+use Rattle.dk_demos.specs.CountersRules.{make_from}
 use Rattle.dk_demos.proofs.counters.make_all.Given as goal
 
 -- all counters from the start are the rest of them from here

@@ -1,5 +1,5 @@
 use Rattle.dk_txn.proofs.Kit.{then_does, halts, give_does}
-use Rattle.dk_demos.specs.Rules.{plan}
+use Rattle.dk_demos.specs.CountersRules.{plan}
 use Rattle.dk_demos.proofs.counters.plan.Goals as goal
 
 pub returns-in_err-schedule : goal.returns-in_err-schedule

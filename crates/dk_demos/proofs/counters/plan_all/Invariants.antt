@@ -1,6 +1,6 @@
 use Rattle.std.proofs.Common.{◌-◌}
 use Rattle.dk_txn.specs.Does.{Leads}
-use Rattle.dk_demos.specs.Rules.{plan_from}
+use Rattle.dk_demos.specs.CountersRules.{plan_from}
 use Rattle.dk_demos.proofs.counters.plan_all.Given as goal
 
 -- all tasks from the start are the rest of them from here

@@ -1,4 +1,4 @@
-use Rattle.std.proofs.Common.{◌≡◌, ℕ, Option, Some, None, List, [], ◌∷◌, refl, subst}
+use Rattle.std.proofs.Common.{◌≡◌, ℕ, Some, None, List, [], ◌∷◌, refl, subst}
 use Rattle.std.specs.List.{slice_get}
 use Rattle.dk_txn.proofs.Kit.{give_does}
 use Rattle.dk_demos.proofs.counters.raise.Goals as goal

@@ -1,4 +1,0 @@
-pub mod Guests
-pub mod GuestLaws
-pub mod Rules
-pub mod Lawful
