@@ -15,6 +15,7 @@ use Rattle.dk_overlay.proofs.Tests.{Some_injective}
 use Rattle.dk_game.specs.declared.halt.Halt.TheVariants as halt
 use Rattle.dk_game.specs.Halted.{halt_fault}
 use Rattle.dk_demos.specs.GreeterRules.{guest_name, greet, known}
+use Rattle.dk_txn.specs.Sights.{Sights}
 
 -- a guest is known by what its name is bound to
 pub known_as : (conn : ConnNo) (name : List ℕ) (s : Run) → known conn name s ≡ and_then (binding (guest_name name)) (greet conn name) s

@@ -7,6 +7,7 @@ use Rattle.dk_overlay.specs.Logged.{Logged}
 use Rattle.dk_txn.specs.declared.txn.Txn.{Txn}
 use Rattle.dk_txn.specs.Does.{Leads}
 use Rattle.dk_demos.specs.CountersRules.{make, make_from, plan, plan_from}
+use Rattle.dk_txn.specs.Sights.{Sights}
 
 module _ {S : Type 0} {sights : Sights S} {a b : Txn S Logged} {whole : Act (Unit {0})} where
   pub make_turn : (all number : ℕ) → number < all → Leads sights a b whole (make_from number (all - number)) → Leads sights a b whole (and_then (make number) (λ _. make_from (number + 1) (all - (number + 1))))

@@ -34,7 +34,7 @@ fn bar(alloc: Global) -> Result<Channel, NoMemory>
 }
 
 fn begin<V: View>(alloc: Global, txn: &mut Txn<'_, V>) -> Result<(), Halt>
-    ensures { Does V.gave halt_fault txn.old txn.new rules.begin result }
+    ensures { Does V.sights halt_fault txn.old txn.new rules.begin result }
 {
     let foo = foo(alloc)?;
     let bar = bar(alloc)?;
@@ -49,7 +49,7 @@ fn login<V: View>(
     conn: ConnNo,
     name: &Name,
 ) -> Result<(), Halt>
-    ensures { Does V.gave halt_fault txn.old txn.new (rules.login (of_session conn name.now)) result }
+    ensures { Does V.sights halt_fault txn.old txn.new (rules.login (of_session conn name.now)) result }
 {
     let session = session_of(conn, name)?;
     let foo = foo(alloc)?;
@@ -69,7 +69,7 @@ fn heard(alloc: Global, body: &Blob) -> Result<Blob, NoMemory>
 }
 
 fn hear<V: View>(alloc: Global, txn: &mut Txn<'_, V>, name: &Name, body: &Blob) -> Result<(), Halt>
-    ensures { Does V.gave halt_fault txn.old txn.new (rules.hear name.now body.now) result }
+    ensures { Does V.sights halt_fault txn.old txn.new (rules.hear name.now body.now) result }
 {
     let copy = name.clone()?;
     let text = heard(alloc, body)?;

@@ -90,7 +90,7 @@ fn tell_members<V: View>(
     channel: &Channel,
     conn: ConnNo,
 ) -> Result<(), Halt>
-    ensures { Does V.gave halt_fault txn.old txn.new (rules.tell_members channel.now.name conn) result }
+    ensures { Does V.sights halt_fault txn.old txn.new (rules.tell_members channel.now.name conn) result }
 {
     let all = members(alloc, txn, channel)?;
     let body = names_body(alloc, all.as_slice())?;
@@ -105,7 +105,7 @@ fn obey_at<V: View>(
     channel: &Channel,
     session: &Session,
 ) -> Result<(), Halt>
-    ensures { Does V.gave halt_fault txn.old txn.new (rules.obey_at command channel.now.name session.now) result }
+    ensures { Does V.sights halt_fault txn.old txn.new (rules.obey_at command channel.now.name session.now) result }
 {
     match command {
         Command::Join => Ok(join(alloc, txn, channel, session)?),
@@ -122,7 +122,7 @@ fn obey<V: View>(
     name: &Name,
     session: &Session,
 ) -> Result<(), Halt>
-    ensures { Does V.gave halt_fault txn.old txn.new (rules.obey command name.now session.now) result }
+    ensures { Does V.sights halt_fault txn.old txn.new (rules.obey command name.now session.now) result }
 {
     let channel = get_channel(alloc, txn, name)?;
     obey_at(alloc, txn, command, &channel, session)
@@ -135,7 +135,7 @@ fn obey_bytes<V: View>(
     bytes: &[u8],
     session: &Session,
 ) -> Result<(), Halt>
-    ensures { Does V.gave halt_fault txn.old txn.new (rules.obey_bytes command bytes.now session.now) result }
+    ensures { Does V.sights halt_fault txn.old txn.new (rules.obey_bytes command bytes.now session.now) result }
 {
     match name_of(alloc, bytes)? {
         None => Err(NO_NAME),
@@ -159,7 +159,7 @@ pub fn message<V: View>(
     name: &Name,
     body: &Blob,
 ) -> Result<(), Halt>
-    ensures { Does V.gave halt_fault txn.old txn.new (rules.message (of_session conn name.now) body.now) result }
+    ensures { Does V.sights halt_fault txn.old txn.new (rules.message (of_session conn name.now) body.now) result }
 {
     let session = session_of(conn, name)?;
     match Command::of(body.as_slice()) {

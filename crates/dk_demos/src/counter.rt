@@ -88,7 +88,7 @@ impl Counter {
 
 /// A counter at 0, under a name.
 pub fn make_under<V: View>(alloc: Global, txn: &mut Txn<'_, V>, name: &Name) -> Result<(), Halt>
-    ensures { Does V.gave halt_fault txn.old txn.new (rules.make_under name.now) result }
+    ensures { Does V.sights halt_fault txn.old txn.new (rules.make_under name.now) result }
 {
     let counter = ManagedRef::create(alloc, txn, &Counter { count: 0 })?;
     txn.bind(name, counter.id())?;
@@ -101,7 +101,7 @@ pub fn raise_under<V: View>(
     txn: &mut Txn<'_, V>,
     name: &Name,
 ) -> Result<Counter, Halt>
-    ensures { Does V.gave halt_fault txn.old txn.new (rules.raise_under name.now) result }
+    ensures { Does V.sights halt_fault txn.old txn.new (rules.raise_under name.now) result }
 {
     let place = ManagedRef::<Counter>::of(txn.bound(name)?);
     let counter = place.get_for_update(alloc, txn)?;

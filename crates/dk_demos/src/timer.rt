@@ -38,7 +38,7 @@ fn no_arg(alloc: Global) -> Blob
 }
 
 fn begin<V: View>(alloc: Global, txn: &mut Txn<'_, V>) -> Result<(), Halt>
-    ensures { Does V.gave halt_fault txn.old txn.new rules.begin result }
+    ensures { Does V.sights halt_fault txn.old txn.new rules.begin result }
 {
     let name = count_name(alloc)?;
     make_under(alloc, txn, &name)?;
@@ -47,7 +47,7 @@ fn begin<V: View>(alloc: Global, txn: &mut Txn<'_, V>) -> Result<(), Halt>
 }
 
 fn tick<V: View>(alloc: Global, txn: &mut Txn<'_, V>, key: TaskKey) -> Result<(), Halt>
-    ensures { Does V.gave halt_fault txn.old txn.new (rules.tick key) result }
+    ensures { Does V.sights halt_fault txn.old txn.new (rules.tick key) result }
 {
     let name = count_name(alloc)?;
     let counter = raise_under(alloc, txn, &name)?;
