@@ -1,0 +1,52 @@
+//! All whole frames at the front of bytes.
+ghost use Rattle.std.specs.Prelude.{◌≡◌, IfOk, map};
+ghost use Rattle.dk_frame.specs.Meanings.{stage_of};
+ghost use Rattle.dk_frame.specs.Fronts.{IsRead};
+
+use crate::frame::{ClientFrame, FrameFault};
+use crate::front::Front;
+use crate::stage::Stage;
+use dk_types::NoMemory;
+use std::alloc::Global;
+
+/// The whole frames at the front of bytes, and where they end.
+#[derive(Drop)]
+pub(crate) struct Frames {
+    pub(crate) frames: Vec<ClientFrame>,
+    pub(crate) taken: usize,
+    pub(crate) stage: Stage,
+    /// What is wrong with the next frame, if something is.
+    pub(crate) fault: Option<FrameFault>,
+}
+
+impl Frames {
+    /// All whole frames at the front of these bytes, where `start` says what may come.
+    pub(crate) fn of(alloc: Global, start: Stage, bytes: &[u8]) -> Result<Frames, NoMemory>
+        ensures { IfOk result (IsRead (stage_of start) bytes.now) }
+    {
+        let mut frames = Vec::new(alloc);
+        let mut taken = 0;
+        let mut stage = start;
+        let mut fault = None;
+        while stage != Stage::LoggedOut {
+            match Front::of(alloc, stage, &bytes[taken..])? {
+                Front::Whole { frame, taken: more } => {
+                    stage = Stage::behind(&frame);
+                    frames.push(frame)?;
+                    taken += more;
+                }
+                Front::Partial => break,
+                Front::Bad(why) => {
+                    fault = Some(why);
+                    break;
+                }
+            }
+        }
+        Ok(Frames {
+            frames,
+            taken,
+            stage,
+            fault,
+        })
+    }
+}
