@@ -9,8 +9,8 @@ use Rattle.dk_frame.specs.Meanings.{frame_of}
 -- this one is a frame, and has this opcode and these fields
 pub record Has (opcode : ℕ) (fields : List ℕ) (f : Frame) : Type 0 where
   pub is_frame : IsFrame f
-  pub opcode : opcode_of f ≡ opcode
-  pub fields : fields_of f ≡ fields
+  pub opcode_is : opcode_of f ≡ opcode
+  pub fields_are : fields_of f ≡ fields
 
 abbrev pub IsFrameOf : ℕ → List ℕ → ClientFrame → Type 0
 IsFrameOf opcode fields frame = Has opcode fields (frame_of frame)

@@ -11,7 +11,7 @@ pub record IsWhole (stage : Stage) (bytes : List ℕ) (f : Frame) (taken : ℕ) 
   pub may_come : MayCome stage (opcode_of f)
   pub is_frame : IsFrame f
   pub parts : bytes ≡ frame_spelling f ++ drop taken bytes
-  pub taken : taken ≡ length (frame_spelling f)
+  pub takes : taken ≡ length (frame_spelling f)
 
 -- what was told of the front of these bytes holds
 abbrev pub IsFront : Stage → List ℕ → Front → Type 0
@@ -22,9 +22,9 @@ IsFront stage bytes (Bad why) = IsBad stage bytes (fault_of why)
 -- the frames at the front of these bytes take so many of them
 pub record AreTaken (start : Stage) (bytes : List ℕ) (frames : List Frame) (taken : ℕ) (stage : Stage) : Type 0 where
   pub in_turn : AreInTurn start frames
-  pub stage : stage ≡ stage_after start frames
+  pub comes_to : stage ≡ stage_after start frames
   pub parts : bytes ≡ stream_of frames ++ drop taken bytes
-  pub taken : taken ≡ length (stream_of frames)
+  pub takes : taken ≡ length (stream_of frames)
   pub within : taken ≤ length bytes
 
 -- no whole frame follows: the stream is over, or less than a frame follows

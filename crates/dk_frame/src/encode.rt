@@ -1,9 +1,10 @@
 //! The server's messages as bytes.
-ghost use Rattle.std.specs.Prelude.{◌≡◌, ◌+◌, ◌^◌, ◌<◌, [], ◌∷◌, ◌++◌, IfOk};
-ghost use Rattle.dk_wire.specs.Fields.{u32_spelling};
-ghost use Rattle.dk_model.specs.Frames.{out_spelling, IsOut};
+ghost use Rattle.std.specs.Prelude.{◌≡◌, ◌+◌, ◌^◌, ◌<◌, ◌≤◌, [], ◌∷◌, ◌++◌, length, IfOk};
+ghost use Rattle.dk_types.specs.Names.{IsName};
+ghost use Rattle.dk_wire.specs.Fields.{u32_spelling, name_spelling};
+ghost use Rattle.dk_model.specs.Frames.{spelled, out_spelling, IsOut, body_most};
 
-use dk_types::{Blob, NoMemory, Out};
+use dk_types::{Blob, Name, NoMemory, Out};
 use dk_wire::Writer;
 use dk_wire::lengths::name_bytes;
 use std::alloc::Global;
@@ -16,26 +17,39 @@ const CHANNEL: u8 = 0x84;
 const CLOSE: u8 = 0x85;
 
 /// The frame of a message.
-#[tactic(auto, unfolding(dk_model::specs::Frames::spelled))]
 pub fn encode_out(alloc: Global, out: &Out) -> Result<Blob, NoMemory>
     requires { IsOut out.now }
     ensures { IfOk result (λ frame. frame ≡ out_spelling out.now) }
 {
     match out {
-        Out::Accepted => Ok(begun(alloc, ACCEPTED, 0)?.finish()),
-        Out::Refused => Ok(begun(alloc, REFUSED, 0)?.finish()),
-        Out::Message(body) => {
-            let body = body.as_slice();
-            ended(begun(alloc, MESSAGE, body.len() as u64)?, body)
-        }
-        Out::Channel { channel, body } => {
-            let body = body.as_slice();
-            let mut writer = begun(alloc, CHANNEL, name_bytes(channel) + body.len() as u64)?;
-            writer.put_name(channel)?;
-            ended(writer, body)
-        }
-        Out::Close => Ok(begun(alloc, CLOSE, 0)?.finish()),
+        Out::Accepted => body_frame(alloc, ACCEPTED, &[]),
+        Out::Refused => body_frame(alloc, REFUSED, &[]),
+        Out::Message(body) => body_frame(alloc, MESSAGE, body.as_slice()),
+        Out::Channel { channel, body } => channel_frame(alloc, channel, body.as_slice()),
+        Out::Close => body_frame(alloc, CLOSE, &[]),
     }
+}
+
+/// A frame whose fields are these bytes.
+#[tactic(auto, unfolding(dk_model::specs::Frames::spelled))]
+fn body_frame(alloc: Global, opcode: u8, body: &[u8]) -> Result<Blob, NoMemory>
+    requires { length body.now ≤ body_most }
+    ensures { IfOk result (λ frame. frame ≡ spelled opcode body.now) }
+{
+    ended(begun(alloc, opcode, body.len() as u64)?, body)
+}
+
+/// A frame of a channel's message.
+#[tactic(auto, using(crate::proofs::Lengths::name_spelling_most), unfolding(dk_model::specs::Frames::spelled))]
+fn channel_frame(alloc: Global, channel: &Name, body: &[u8]) -> Result<Blob, NoMemory>
+    requires name { IsName channel.now }
+    requires most { length body.now ≤ body_most }
+    ensures { IfOk result (λ frame. frame ≡ spelled CHANNEL (name_spelling channel.now ++ body.now)) }
+{
+    let fields = name_bytes(channel) + body.len() as u64;
+    let mut writer = begun(alloc, CHANNEL, fields)?;
+    writer.put_name(channel)?;
+    ended(writer, body)
 }
 
 /// The length and the opcode of a frame whose fields have so many bytes.

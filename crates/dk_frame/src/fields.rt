@@ -34,13 +34,17 @@ pub(crate) fn frame_of(
     }
 }
 
+#[tactic(auto, using(crate::proofs::FieldLemmas::no_login))]
 fn login(alloc: Global, fields: &[u8]) -> Result<Option<ClientFrame>, NoMemory>
     ensures { IfOk result (λ found. MatchOption found (HasNoFrame 1 fields.now) (IsFrameOf 1 fields.now)) }
 {
-    match name_of(alloc, fields)? {
-        Some((name, [])) => Ok(Some(ClientFrame::Login(name))),
-        _ => Ok(None),
+    let Some((name, behind)) = name_of(alloc, fields)? else {
+        return Ok(None);
+    };
+    if !behind.is_empty() {
+        return Ok(None);
     }
+    Ok(Some(ClientFrame::Login(name)))
 }
 
 fn message(alloc: Global, fields: &[u8]) -> Result<Option<ClientFrame>, NoMemory>
@@ -52,6 +56,7 @@ fn message(alloc: Global, fields: &[u8]) -> Result<Option<ClientFrame>, NoMemory
     Ok(Some(ClientFrame::Message(Blob::copy_of(alloc, fields)?)))
 }
 
+#[tactic(auto, using(crate::proofs::FieldLemmas::no_channel))]
 fn channel(alloc: Global, fields: &[u8]) -> Result<Option<ClientFrame>, NoMemory>
     ensures { IfOk result (λ found. MatchOption found (HasNoFrame 3 fields.now) (IsFrameOf 3 fields.now)) }
 {

@@ -1,4 +1,5 @@
 //! A client's frames, and what may be wrong with one.
+ghost use Rattle.std.specs.Prelude.{◌≡◌};
 
 use dk_types::{Blob, Name, NoMemory};
 

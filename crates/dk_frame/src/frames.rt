@@ -27,26 +27,18 @@ impl Frames {
         let mut frames = Vec::new(alloc);
         let mut taken = 0;
         let mut stage = start;
-        let mut fault = None;
-        while stage != Stage::LoggedOut {
-            match Front::of(alloc, stage, &bytes[taken..])? {
+        'frames: while stage != Stage::LoggedOut {
+            let (_, rest) = bytes.split_at(taken);
+            match Front::of(alloc, stage, rest)? {
                 Front::Whole { frame, taken: more } => {
                     stage = Stage::behind(&frame);
                     frames.push(frame)?;
                     taken += more;
                 }
-                Front::Partial => break,
-                Front::Bad(why) => {
-                    fault = Some(why);
-                    break;
-                }
+                Front::Partial => return Ok(Frames { frames, taken, stage, fault: None }),
+                Front::Bad(why) => return Ok(Frames { frames, taken, stage, fault: Some(why) }),
             }
         }
-        Ok(Frames {
-            frames,
-            taken,
-            stage,
-            fault,
-        })
+        Ok(Frames { frames, taken, stage, fault: None })
     }
 }

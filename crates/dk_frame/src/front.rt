@@ -60,7 +60,10 @@ fn length_of(bytes: &[u8]) -> Option<(u32, &[u8])>
 {
     let mut reader = Reader::new(bytes);
     match reader.take_u32() {
-        Ok(len) => Some((len, &bytes[LENGTH_BYTES..])),
+        Ok(len) => {
+            let (_, behind) = bytes.split_at(LENGTH_BYTES);
+            Some((len, behind))
+        }
         Err(_) => None,
     }
 }
