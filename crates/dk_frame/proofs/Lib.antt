@@ -4,3 +4,6 @@ pub mod Opened
 pub mod FieldLemmas
 pub mod FrontLemmas
 pub mod Turns
+pub mod GoingOn
+pub mod Standing
+pub mod Fed

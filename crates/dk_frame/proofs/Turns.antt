@@ -1,9 +1,9 @@
 -- Frames one behind another.
-use Rattle.std.proofs.Common.{◌≡◌, ℕ, ◌+◌, ◌≤◌, List, [], ◌∷◌, ◌++◌, length, drop, refl, sym, ap, subst, ◌∙◌, append_assoc, length-append, arith}
+use Rattle.std.proofs.Common.{◌≡◌, ℕ, ◌+◌, ◌≤◌, List, [], ◌∷◌, ◌++◌, length, drop, Option, Some, None, refl, sym, ap, subst, ◌∙◌, append_assoc, length-append, arith}
 use Rattle.std.proofs.lemmas.List.{drop_at, append-nil}
 use Rattle.std.proofs.lemmas.List.Concat.{flat_map-append}
-use Rattle.dk_model.specs.Frames.{Frame, Stage, AtLogin, InSession, LoggedOut, IsFrame, MayCome, AreInTurn, IsPartial, stage_behind, stage_after, stream_of, opcode_of, frame_spelling}
-use Rattle.dk_frame.specs.Fronts.{IsWhole, AreTaken, Halts}
+use Rattle.dk_model.specs.Frames.{Frame, Stage, AtLogin, InSession, LoggedOut, IsFrame, MayCome, AreInTurn, IsPartial, IsBad, Fault, stage_behind, stage_after, stream_of, opcode_of, frame_spelling}
+use Rattle.dk_frame.specs.Fronts.{IsWhole, AreTaken, Stops}
 
 -- frames in turn, and then others from where these left off
 pub AreInTurn-append : (stage : Stage) (frames later : List Frame) → AreInTurn stage frames → AreInTurn (stage_after stage frames) later → AreInTurn stage (frames ++ later)
@@ -47,7 +47,13 @@ taken_more start stage bytes frames taken more f are whole =
     }
 
 -- less than a frame stops it
-pub partial_halts : (stage : Stage) (bytes : List ℕ) → IsPartial stage bytes → Halts stage bytes
-partial_halts AtLogin bytes is = is
-partial_halts InSession bytes is = is
-partial_halts LoggedOut bytes is = tt
+pub partial_stops : (stage : Stage) (bytes : List ℕ) → (stage ≡ LoggedOut → ⊥) → IsPartial stage bytes → Stops stage bytes None
+partial_stops AtLogin bytes running is = is
+partial_stops InSession bytes running is = is
+partial_stops LoggedOut bytes running is = absurd (running refl)
+
+-- a bad frame stops it
+pub bad_stops : (stage : Stage) (bytes : List ℕ) (fault : Fault) → (stage ≡ LoggedOut → ⊥) → IsBad stage bytes fault → Stops stage bytes (Some fault)
+bad_stops AtLogin bytes fault running is = is
+bad_stops InSession bytes fault running is = is
+bad_stops LoggedOut bytes fault running is = absurd (running refl)

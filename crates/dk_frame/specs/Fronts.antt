@@ -1,8 +1,11 @@
 -- What stands at the front of bytes.
-use Rattle.std.specs.Prelude.{◌≡◌, ℕ, ◌+◌, ◌≤◌, List, ◌++◌, length, drop, map, Option, Some, None, option_map}
+use Rattle.std.specs.Prelude.{◌≡◌, ℕ, ◌≤◌, List, [], ◌++◌, length, drop, map, Option, Some, None, option_map}
 use Rattle.dk_model.specs.Frames.{Frame, Stage, AtLogin, InSession, LoggedOut, Fault, IsFrame, MayCome, AreInTurn, IsPartial, IsBad, opcode_of, fields_of, frame_spelling, stage_after, stream_of}
 use Rattle.dk_frame.specs.declared.front.Front.{Front}
 use Rattle.dk_frame.specs.declared.front.Front.TheVariants.{Whole, Partial, Bad}
+use Rattle.dk_frame.specs.declared.frame.FrameFault.{FrameFault}
+use Rattle.dk_frame.specs.declared.frame.FrameRefused.{FrameRefused}
+use Rattle.dk_frame.specs.declared.frame.FrameRefused.TheVariants.{BadFrame}
 use Rattle.dk_frame.specs.Meanings.{frame_of, fault_of, stage_of}
 use Rattle.dk_frame.specs.declared.frames.Frames.{Frames}
 
@@ -27,18 +30,22 @@ pub record AreTaken (start : Stage) (bytes : List ℕ) (frames : List Frame) (ta
   pub takes : taken ≡ length (stream_of frames)
   pub within : taken ≤ length bytes
 
--- no whole frame follows: the stream is over, or less than a frame follows
-abbrev pub Halts : Stage → List ℕ → Type 0
-Halts AtLogin bytes = IsPartial AtLogin bytes
-Halts InSession bytes = IsPartial InSession bytes
-Halts LoggedOut bytes = Unit {0}
-
--- the same, or this bad frame follows
+-- no whole frame follows: less than a frame does, or this bad frame, or the stream is over
 abbrev pub Stops : Stage → List ℕ → Option Fault → Type 0
-Stops stage bytes None = Halts stage bytes
-Stops stage bytes (Some fault) = IsBad stage bytes fault
+Stops AtLogin bytes None = IsPartial AtLogin bytes
+Stops AtLogin bytes (Some fault) = IsBad AtLogin bytes fault
+Stops InSession bytes None = IsPartial InSession bytes
+Stops InSession bytes (Some fault) = IsBad InSession bytes fault
+Stops LoggedOut bytes fault = fault ≡ None
 
 -- all whole frames at the front of these bytes, and what stops them
 pub record IsRead (start : Stage) (bytes : List ℕ) (read : Frames) : Type 0 where
   pub taken : AreTaken start bytes (map frame_of read.frames.items) read.taken (stage_of read.stage)
   pub stops : Stops (stage_of read.stage) (drop read.taken bytes) (option_map fault_of read.fault)
+
+-- no frame was read, and the bad frame that follows, at this place, is told
+pub record IsToldOf (read : Frames) (at : ℕ) (refused : FrameRefused) : Type 0 where
+  pub why : FrameFault
+  pub is : refused ≡ BadFrame at why
+  pub fault : read.fault ≡ Some why
+  pub none : read.frames.items ≡ []

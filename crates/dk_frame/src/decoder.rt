@@ -72,7 +72,7 @@ impl Decoder {
         ensures told { IfOk result (λ frames. frames.items ≡ [] → self.new.fault ≡ None) }
         ensures refused { IfErr result (Refuses self.old piece.now self.new) }
         // After a fault every call gives the same one.
-        ensures again { (why : FrameFault) → self.old.fault ≡ Some (fault_of why) → result ≡ Err (BadFrame self.old.at why) }
+        ensures again { (why : FrameFault) → self.old.fault ≡ Some (fault_of why) → result ≡ Err (FrameRefused.BadFrame self.old.at why) }
     {
         if let Some(why) = self.fault {
             self.fed += piece.len() as u64;
@@ -82,17 +82,9 @@ impl Decoder {
             self.fed += piece.len() as u64;
             return Ok(Vec::new(self.alloc));
         }
-        let Frames {
-            frames,
-            taken,
-            stage,
-            fault,
-        } = self.read(piece)?;
-        self.pass(taken, stage, fault);
-        match fault {
-            Some(why) if frames.is_empty() => Err(FrameRefused::BadFrame { at: self.at, why }),
-            _ => Ok(frames),
-        }
+        let read = self.read(piece)?;
+        self.pass(read.taken, read.stage, read.fault);
+        read.answer(self.at)
     }
 
     /// Refuses where the stream ends within a frame.

@@ -1,9 +1,9 @@
 //! All whole frames at the front of bytes.
-ghost use Rattle.std.specs.Prelude.{◌≡◌, IfOk, map};
+ghost use Rattle.std.specs.Prelude.{◌≡◌, [], IfOk, IfErr, None};
 ghost use Rattle.dk_frame.specs.Meanings.{stage_of};
-ghost use Rattle.dk_frame.specs.Fronts.{IsRead};
+ghost use Rattle.dk_frame.specs.Fronts.{IsRead, IsToldOf};
 
-use crate::frame::{ClientFrame, FrameFault};
+use crate::frame::{ClientFrame, FrameFault, FrameRefused};
 use crate::front::Front;
 use crate::stage::Stage;
 use dk_types::NoMemory;
@@ -40,5 +40,16 @@ impl Frames {
             }
         }
         Ok(Frames { frames, taken, stage, fault: None })
+    }
+    /// The frames or, where there are none, the fault that follows, of a frame at this place.
+    pub(crate) fn answer(self, at: u64) -> Result<Vec<ClientFrame>, FrameRefused>
+        ensures frames { IfOk result (λ frames. frames.items ≡ self.frames.items) }
+        ensures told { IfOk result (λ frames. frames.items ≡ [] → self.fault ≡ None) }
+        ensures refused { IfErr result (IsToldOf self at) }
+    {
+        match self.fault {
+            Some(why) if self.frames.is_empty() => Err(FrameRefused::BadFrame { at, why }),
+            _ => Ok(self.frames),
+        }
     }
 }
