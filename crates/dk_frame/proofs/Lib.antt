@@ -7,3 +7,5 @@ pub mod Turns
 pub mod GoingOn
 pub mod Standing
 pub mod Fed
+pub mod Apart
+pub mod HeldFew
