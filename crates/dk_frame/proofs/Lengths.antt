@@ -9,6 +9,10 @@ use Rattle.dk_model.specs.Frames.{spelled}
 pub name_spelling_most : (name : List ℕ) → IsName name → length (name_spelling name) ≤ 256
 name_spelling_most name is = omega (arith, length-name name, is.most)
 
+-- a name's spelling and what stands behind it
+pub length_of_named : (name body : List ℕ) → length (name_spelling name ++ body) ≡ 1 + length name + length body
+length_of_named name body = omega (arith, length-append (name_spelling name) body, length-name name)
+
 -- a frame's bytes are four of a length, an opcode and its fields
 pub length-spelled : (opcode : ℕ) (fields : List ℕ) → length (spelled opcode fields) ≡ 5 + length fields
 unfolding spelled

@@ -1,12 +1,10 @@
 //! The server's messages as bytes.
 ghost use Rattle.std.specs.Prelude.{◌≡◌, ◌+◌, ◌^◌, ◌<◌, ◌≤◌, [], ◌∷◌, ◌++◌, length, IfOk};
-ghost use Rattle.dk_types.specs.Names.{IsName};
 ghost use Rattle.dk_wire.specs.Fields.{u32_spelling, name_spelling};
-ghost use Rattle.dk_model.specs.Frames.{spelled, out_spelling, IsOut, body_most};
+ghost use Rattle.dk_model.specs.Frames.{spelled, out_spelling, HasBodyWithin, body_most, length_most};
 
 use dk_types::{Blob, Name, NoMemory, Out};
 use dk_wire::Writer;
-use dk_wire::lengths::name_bytes;
 use std::alloc::Global;
 
 // The opcodes of the server's frames.
@@ -18,7 +16,7 @@ const CLOSE: u8 = 0x85;
 
 /// The frame of a message.
 pub fn encode_out(alloc: Global, out: &Out) -> Result<Blob, NoMemory>
-    requires { IsOut out.now }
+    requires { HasBodyWithin out.now }
     ensures { IfOk result (λ frame. frame ≡ out_spelling out.now) }
 {
     match out {
@@ -40,16 +38,24 @@ fn body_frame(alloc: Global, opcode: u8, body: &[u8]) -> Result<Blob, NoMemory>
 }
 
 /// A frame of a channel's message.
-#[tactic(auto, using(crate::proofs::Lengths::name_spelling_most), unfolding(dk_model::specs::Frames::spelled))]
+#[tactic(auto, unfolding(dk_model::specs::Frames::spelled))]
 fn channel_frame(alloc: Global, channel: &Name, body: &[u8]) -> Result<Blob, NoMemory>
-    requires name { IsName channel.now }
-    requires most { length body.now ≤ body_most }
+    requires { length body.now ≤ body_most }
     ensures { IfOk result (λ frame. frame ≡ spelled CHANNEL (name_spelling channel.now ++ body.now)) }
 {
-    let fields = name_bytes(channel) + body.len() as u64;
-    let mut writer = begun(alloc, CHANNEL, fields)?;
+    let mut writer = begun(alloc, CHANNEL, channel_fields(channel, body))?;
     writer.put_name(channel)?;
     ended(writer, body)
+}
+
+/// How many bytes a channel's name and a body have.
+#[tactic(auto, using(crate::proofs::Lengths::length_of_named))]
+fn channel_fields(channel: &Name, body: &[u8]) -> u64
+    requires { length body.now ≤ body_most }
+    ensures bytes { result ≡ length (name_spelling channel.now ++ body.now) }
+    ensures most { result < length_most }
+{
+    1 + channel.as_slice().len() as u64 + body.len() as u64
 }
 
 /// The length and the opcode of a frame whose fields have so many bytes.

@@ -68,7 +68,15 @@ out_fields out.Close = []
 abbrev pub out_spelling : Out → List ℕ
 out_spelling o = spelled (out_opcode o) (out_fields o)
 
--- messages whose names are names and whose bodies are within their limit
+-- its body is within the limit
+abbrev pub HasBodyWithin : Out → Type 0
+HasBodyWithin out.Accepted = Unit {0}
+HasBodyWithin out.Refused = Unit {0}
+HasBodyWithin (out.Message body) = length body ≤ body_most
+HasBodyWithin (out.Channel channel body) = length body ≤ body_most
+HasBodyWithin out.Close = Unit {0}
+
+-- a message as a program holds one: the name of its channel is a name
 abbrev pub IsOut : Out → Type 0
 IsOut out.Accepted = Unit {0}
 IsOut out.Refused = Unit {0}
