@@ -24,3 +24,4 @@ pub mod Lines
 pub mod Orders
 pub mod Phases
 pub mod Transcripts
+pub mod Frames

@@ -1,0 +1,11 @@
+pub mod Lengths
+pub mod Numbers
+pub mod Opened
+pub mod FieldLemmas
+pub mod FrontLemmas
+pub mod Turns
+pub mod GoingOn
+pub mod Standing
+pub mod Fed
+pub mod Apart
+pub mod HeldFew

@@ -1,0 +1,5 @@
+pub mod Meanings
+pub mod Fields
+pub mod Fronts
+pub mod Decoding
+pub mod FrameLaws

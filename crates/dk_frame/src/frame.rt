@@ -1,0 +1,50 @@
+//! A client's frames, and what may be wrong with one.
+ghost use Rattle.std.specs.Prelude.{◌≡◌};
+
+use dk_types::{Blob, Name, NoMemory};
+
+/// A whole frame of a client.
+#[derive(Clone, Debug, Drop, PartialEq, Eq)]
+pub enum ClientFrame {
+    /// The client logs in under this name.
+    Login(Name),
+    Message(Blob),
+    /// A message on a channel.
+    Channel { channel: Name, body: Blob },
+    Logout,
+}
+
+/// What is wrong with a frame.
+#[derive(Clone, Copy, Debug, PartialEq, Eq)]
+pub enum FrameFault {
+    /// Its length is 0 or above the greatest.
+    Length,
+    /// Its opcode is none of a client's, or may not come where it stands.
+    Opcode,
+    /// Its fields are those of no frame.
+    Field,
+}
+
+/// Why a decoder gave no frames.
+#[derive(Clone, Copy, Debug, PartialEq, Eq)]
+pub enum FrameRefused {
+    /// The frame whose first byte stands at `at` is bad.
+    BadFrame { at: u64, why: FrameFault },
+    NoMemory,
+}
+
+impl From<NoMemory> for FrameRefused {
+    ghost use Rattle.dk_frame.specs.declared.frame.FrameRefused.TheVariants as refused;
+
+    ghost from_gives = { λ _ e. e ≡ refused.NoMemory };
+
+    fn from(_: NoMemory) -> FrameRefused {
+        FrameRefused::NoMemory
+    }
+}
+
+/// The stream ends within the frame whose first byte stands at `at`.
+#[derive(Clone, Copy, Debug, PartialEq, Eq)]
+pub struct Truncated {
+    pub at: u64,
+}

@@ -1,0 +1,55 @@
+//! All whole frames at the front of bytes.
+ghost use Rattle.std.specs.Prelude.{◌≡◌, [], IfOk, IfErr, None};
+ghost use Rattle.dk_frame.specs.Meanings.{stage_of};
+ghost use Rattle.dk_frame.specs.Fronts.{IsRead, IsToldOf};
+
+use crate::frame::{ClientFrame, FrameFault, FrameRefused};
+use crate::front::Front;
+use crate::stage::Stage;
+use dk_types::NoMemory;
+use std::alloc::Global;
+
+/// The whole frames at the front of bytes, and where they end.
+#[derive(Drop)]
+pub(crate) struct Frames {
+    pub(crate) frames: Vec<ClientFrame>,
+    pub(crate) taken: usize,
+    pub(crate) stage: Stage,
+    /// What is wrong with the next frame, if something is.
+    pub(crate) fault: Option<FrameFault>,
+}
+
+impl Frames {
+    /// All whole frames at the front of these bytes, where `start` says what may come.
+    pub(crate) fn of(alloc: Global, start: Stage, bytes: &[u8]) -> Result<Frames, NoMemory>
+        ensures { IfOk result (IsRead (stage_of start) bytes.now) }
+    {
+        let mut frames = Vec::new(alloc);
+        let mut taken = 0;
+        let mut stage = start;
+        'frames: while stage != Stage::LoggedOut {
+            let (_, rest) = bytes.split_at(taken);
+            match Front::of(alloc, stage, rest)? {
+                Front::Whole { frame, taken: more } => {
+                    stage = Stage::behind(&frame);
+                    frames.push(frame)?;
+                    taken += more;
+                }
+                Front::Partial => return Ok(Frames { frames, taken, stage, fault: None }),
+                Front::Bad(why) => return Ok(Frames { frames, taken, stage, fault: Some(why) }),
+            }
+        }
+        Ok(Frames { frames, taken, stage, fault: None })
+    }
+    /// The frames or, where there are none, the fault that follows, of a frame at this place.
+    pub(crate) fn answer(self, at: u64) -> Result<Vec<ClientFrame>, FrameRefused>
+        ensures frames { IfOk result (λ frames. frames.items ≡ self.frames.items) }
+        ensures told { IfOk result (λ frames. frames.items ≡ [] → self.fault ≡ None) }
+        ensures refused { IfErr result (IsToldOf self at) }
+    {
+        match self.fault {
+            Some(why) if self.frames.is_empty() => Err(FrameRefused::BadFrame { at, why }),
+            _ => Ok(self.frames),
+        }
+    }
+}
