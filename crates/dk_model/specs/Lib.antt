@@ -24,3 +24,7 @@ pub mod Lines
 pub mod Orders
 pub mod Phases
 pub mod Transcripts
+pub mod Entries
+pub mod Images
+pub mod Stores
+pub mod Recovered
