@@ -25,3 +25,7 @@ pub mod Orders
 pub mod Phases
 pub mod Transcripts
 pub mod Frames
+pub mod Entries
+pub mod Images
+pub mod Stores
+pub mod Recovered
