@@ -5,7 +5,7 @@ use Rattle.dk_types.specs.declared.object.Object.{Object}
 use Rattle.dk_types.specs.declared.durable.Pending.{Pending}
 use Rattle.dk_types.specs.declared.durable.Effects.{Effects}
 use Rattle.dk_types.specs.declared.durable.Entry.{Entry}
-use Rattle.dk_wire.specs.Lists.{AreChained, IsList}
+use Rattle.dk_types.specs.Lists.{AreChained, IsList}
 use Rattle.dk_model.specs.Entries.{IsObjectItem, IsPendingItem, AreEffects, IsEntry, AreEntries}
 
 chained_more : {A : Type 0} (Fits Other : Option A → A → Type 0) → ((before : Option A) (x : A) → Fits before x → Other before x) → (before : Option A) (xs : List A) → AreChained Fits before xs → AreChained Other before xs

@@ -4,11 +4,11 @@ use Rattle.std.proofs.lemmas.Bool.{ltb-true}
 use Rattle.dk_types.specs.declared.durable.Effects.{Effects}
 use Rattle.dk_types.specs.declared.durable.Entry.{Entry}
 use Rattle.dk_types.specs.declared.limits.TheConstants.{NUMBERS_END}
-use Rattle.dk_wire.specs.Fields.{IsU64}
-use Rattle.dk_wire.specs.Exact.{IsExact}
-use Rattle.dk_wire.proofs.Composing.{then_exact, last_exact, checked_exact}
-use Rattle.dk_wire.proofs.NextLaws.{next_u64_exact}
-use Rattle.dk_wire.proofs.ListLaws.{list_exact}
+use Rattle.dk_types.specs.Fields.{IsU64}
+use Rattle.dk_types.specs.Exact.{IsExact}
+use Rattle.dk_types.proofs.Composing.{then_exact, last_exact, checked_exact}
+use Rattle.dk_types.proofs.NextLaws.{next_u64_exact}
+use Rattle.dk_types.proofs.ListLaws.{list_exact}
 use Rattle.dk_model.specs.Entries.{AreEffects, effects_spelling, effects_at, is_seq, is_run, IsEntry, entry_spelling, entry_at, is_some_entry, AreEntries, entries_spelling, entries_at}
 use Rattle.dk_entry.specs.ItemLaws.{object_exact, id_item_exact, binding_exact, name_item_exact}
 use Rattle.dk_entry.specs.TaskLaws.{pending_exact, key_item_exact, moved_exact}

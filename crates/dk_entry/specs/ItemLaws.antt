@@ -3,10 +3,10 @@ use Rattle.std.proofs.Common.{ℕ, ◌<◌, ◌^◌, ◌==◌, true, false, cond
 use Rattle.dk_types.specs.Names.{bytes_cmp}
 use Rattle.dk_types.specs.declared.number.ObjectId.{ObjectId}
 use Rattle.dk_types.specs.declared.object.Object.{Object}
-use Rattle.dk_wire.specs.Fields.{name_spelling, id_spelling}
-use Rattle.dk_wire.specs.Exact.{IsExact}
-use Rattle.dk_wire.proofs.Composing.{then_exact, last_exact, checked_exact}
-use Rattle.dk_wire.proofs.NextLaws.{next_u16_exact, next_name_exact, next_blob_exact, next_id_exact}
+use Rattle.dk_types.specs.Fields.{name_spelling, id_spelling}
+use Rattle.dk_types.specs.Exact.{IsExact}
+use Rattle.dk_types.proofs.Composing.{then_exact, last_exact, checked_exact}
+use Rattle.dk_types.proofs.NextLaws.{next_u16_exact, next_name_exact, next_blob_exact, next_id_exact}
 use Rattle.dk_model.specs.Keys.{id_cmp}
 use Rattle.dk_model.specs.Entries.{blob_most, is_above_last, IsObjectItem, object_spelling, object_at, IsIdItem, id_item_at, IsBinding, binding_spelling, binding_at, IsNameItem, name_item_at}
 

@@ -4,10 +4,10 @@ use Rattle.std.proofs.lemmas.Bool.{leb-true}
 use Rattle.dk_types.specs.declared.number.TaskKey.{TaskKey}
 use Rattle.dk_types.specs.declared.durable.Pending.{Pending}
 use Rattle.dk_types.specs.declared.limits.TheConstants.{MOMENT_MOST_MS, DELAY_MOST_MS, PERIOD_MOST_MS}
-use Rattle.dk_wire.specs.Fields.{IsU64, key_spelling}
-use Rattle.dk_wire.specs.Exact.{IsExact}
-use Rattle.dk_wire.proofs.Composing.{then_exact, last_exact, checked_exact}
-use Rattle.dk_wire.proofs.NextLaws.{next_u16_exact, next_u64_exact, next_blob_exact, next_key_exact}
+use Rattle.dk_types.specs.Fields.{IsU64, key_spelling}
+use Rattle.dk_types.specs.Exact.{IsExact}
+use Rattle.dk_types.proofs.Composing.{then_exact, last_exact, checked_exact}
+use Rattle.dk_types.proofs.NextLaws.{next_u16_exact, next_u64_exact, next_blob_exact, next_key_exact}
 use Rattle.dk_model.specs.Keys.{key_cmp}
 use Rattle.dk_model.specs.Entries.{blob_most, is_above_last, is_due, is_period, IsPendingItem, pending_spelling, pending_at, IsKeyItem, key_item_at, IsMovedItem, moved_spelling, moved_at_place}
 use Rattle.dk_entry.specs.ItemLaws.{blob_small}

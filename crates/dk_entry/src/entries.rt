@@ -1,6 +1,7 @@
 //! Commit entries, and the payloads that hold them.
 ghost use Rattle.std.specs.Prelude.{◌≡◌, ◌⊎◌, ℕ, List, IfOk};
-ghost use Rattle.dk_wire.specs.Payload.{Gives, Decodes, next_u64, checked};
+ghost use Rattle.dk_wire.specs.Payload.{Gives, Decodes};
+ghost use Rattle.dk_types.specs.Payload.{next_u64, checked};
 ghost use Rattle.dk_model.specs.Entries.{IsFormat, AreEntries, entries_spelling, entries_at, is_seq, is_run, is_some_entry};
 
 use crate::effects::EffectsForm;

@@ -4,7 +4,8 @@ ghost use Rattle.std.specs.Option.{option_copied};
 ghost use Rattle.dk_types.specs.Names.{bytes_cmp};
 ghost use Rattle.dk_types.specs.declared.number.ObjectId.{ObjectId as Id};
 ghost use Rattle.dk_types.specs.declared.object.Object.{Object as Value};
-ghost use Rattle.dk_wire.specs.Payload.{Gives, next_id, next_name, checked};
+ghost use Rattle.dk_wire.specs.Payload.{Gives};
+ghost use Rattle.dk_types.specs.Payload.{next_id, next_name, checked};
 ghost use Rattle.dk_model.specs.Keys.{id_cmp};
 ghost use Rattle.dk_model.specs.Entries.{is_above_last};
 
@@ -68,7 +69,7 @@ fn is_object_above(before: Option<&(ObjectId, Object)>, id: &ObjectId) -> bool
 pub struct NextIdForm;
 
 impl Form<ObjectId> for NextIdForm {
-    ghost use Rattle.dk_wire.specs.Fields.{id_spelling};
+    ghost use Rattle.dk_types.specs.Fields.{id_spelling};
     ghost use Rattle.dk_model.specs.Entries.{IsIdItem, id_item_at};
     ghost use Rattle.dk_entry.specs.ItemLaws.{id_item_exact};
 
@@ -159,7 +160,7 @@ fn is_binding_above(before: Option<&(Name, ObjectId)>, name: &Name) -> bool
 pub struct NextNameForm;
 
 impl Form<Name> for NextNameForm {
-    ghost use Rattle.dk_wire.specs.Fields.{name_spelling};
+    ghost use Rattle.dk_types.specs.Fields.{name_spelling};
     ghost use Rattle.dk_model.specs.Entries.{IsNameItem, name_item_at};
     ghost use Rattle.dk_entry.specs.ItemLaws.{name_item_exact};
 

@@ -1,7 +1,7 @@
 //! Laws of the payloads. Each is the contract of a function that does nothing.
 ghost use Rattle.std.specs.Prelude.{ℕ, List};
 ghost use Rattle.dk_types.specs.declared.durable.Entry.{Entry};
-ghost use Rattle.dk_wire.specs.Exact.{IsPrefixFree};
+ghost use Rattle.dk_types.specs.Exact.{IsPrefixFree};
 ghost use Rattle.dk_model.specs.Entries.{AreEntries, entries_spelling};
 
 /// Entries have one payload in a format, and no payload begins another of its format.

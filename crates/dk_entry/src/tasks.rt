@@ -3,7 +3,8 @@ ghost use Rattle.std.specs.Prelude.{◌≡◌, ℕ};
 ghost use Rattle.std.specs.Option.{option_copied};
 ghost use Rattle.dk_types.specs.declared.number.TaskKey.{TaskKey as Key};
 ghost use Rattle.dk_types.specs.declared.durable.Pending.{Pending as Task};
-ghost use Rattle.dk_wire.specs.Payload.{Gives, next_u64, checked};
+ghost use Rattle.dk_wire.specs.Payload.{Gives};
+ghost use Rattle.dk_types.specs.Payload.{next_u64, checked};
 ghost use Rattle.dk_model.specs.Keys.{key_cmp};
 ghost use Rattle.dk_model.specs.Entries.{is_above_last, is_due, is_period};
 
@@ -104,7 +105,7 @@ fn next_period(reader: &mut Reader<'_>) -> Result<u64, PayloadRefused>
 pub struct NextKeyForm;
 
 impl Form<TaskKey> for NextKeyForm {
-    ghost use Rattle.dk_wire.specs.Fields.{key_spelling};
+    ghost use Rattle.dk_types.specs.Fields.{key_spelling};
     ghost use Rattle.dk_model.specs.Entries.{IsKeyItem, key_item_at};
     ghost use Rattle.dk_entry.specs.TaskLaws.{key_item_exact};
 

@@ -3,11 +3,11 @@ use Rattle.std.proofs.Common.{◌≡◌, ℕ, ◌+◌, ◌<◌, ◌≤◌, true,
 use Rattle.std.specs.Int.{w32, from_be_bytes}
 use Rattle.std.proofs.lemmas.Bool.{cases_lt, le-ltb}
 use Rattle.std.proofs.lemmas.List.{drop_at}
-use Rattle.dk_wire.specs.declared.refused.WireRefused.{WireRefused}
-use Rattle.dk_wire.specs.declared.refused.WireRefused.TheVariants.{Short, Extra, BadTag, TooLong, NoMemory}
-use Rattle.dk_wire.specs.Rest.{Rest, Takes, moved}
-use Rattle.dk_wire.specs.Fields.{IsU32, u32_spelling}
-use Rattle.dk_wire.specs.Reading.{Refuses, u32_at}
+use Rattle.dk_types.specs.declared.refused.WireRefused.{WireRefused}
+use Rattle.dk_types.specs.declared.refused.WireRefused.TheVariants.{Short, Extra, BadTag, TooLong, NoMemory}
+use Rattle.dk_types.specs.Rest.{Rest, Takes, moved}
+use Rattle.dk_types.specs.Fields.{IsU32, u32_spelling}
+use Rattle.dk_types.specs.Reading.{Refuses, u32_at}
 use Rattle.dk_wire.proofs.LengthLaws.{length-u32}
 use Rattle.dk_model.specs.Frames.{States}
 

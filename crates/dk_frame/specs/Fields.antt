@@ -1,7 +1,7 @@
 -- Which frame has these fields.
 use Rattle.std.specs.Prelude.{◌≡◌, ℕ, List, ◌++◌}
 use Rattle.dk_types.specs.Names.{IsName}
-use Rattle.dk_wire.specs.Fields.{name_spelling}
+use Rattle.dk_types.specs.Fields.{name_spelling}
 use Rattle.dk_model.specs.Frames.{Frame, IsFrame, opcode_of, fields_of}
 use Rattle.dk_frame.specs.declared.frame.ClientFrame.{ClientFrame}
 use Rattle.dk_frame.specs.Meanings.{frame_of}

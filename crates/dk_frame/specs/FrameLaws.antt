@@ -1,6 +1,6 @@
 -- What follows from the definition of frames.
 use Rattle.std.specs.Prelude.{◌≡◌, ℕ, List, ◌++◌}
-use Rattle.dk_wire.specs.Exact.{IsPrefixFree}
+use Rattle.dk_types.specs.Exact.{IsPrefixFree}
 use Rattle.dk_model.specs.Frames.{Frame, IsFrame, frame_spelling, IsOut, out_spelling, Following, Bad, Fault, IsStream}
 
 abbrev pub OneSpelling : Type 0

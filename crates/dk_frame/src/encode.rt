@@ -1,6 +1,6 @@
 //! The server's messages as bytes.
 ghost use Rattle.std.specs.Prelude.{◌≡◌, ◌+◌, ◌^◌, ◌<◌, ◌≤◌, [], ◌∷◌, ◌++◌, length, IfOk};
-ghost use Rattle.dk_wire.specs.Fields.{u32_spelling, name_spelling};
+ghost use Rattle.dk_types.specs.Fields.{u32_spelling, name_spelling};
 ghost use Rattle.dk_model.specs.Frames.{spelled, out_spelling, HasBodyWithin, body_most, length_most};
 
 use dk_types::{Blob, Name, NoMemory, Out};
@@ -59,7 +59,7 @@ fn channel_fields(channel: &Name, body: &[u8]) -> u64
 }
 
 /// The length and the opcode of a frame whose fields have so many bytes.
-#[tactic(auto, unfolding(dk_wire::specs::Fields::u8_spelling))]
+#[tactic(auto, unfolding(dk_types::specs::Fields::u8_spelling))]
 fn begun(alloc: Global, opcode: u8, fields: u64) -> Result<Writer, NoMemory>
     requires { fields + 1 < 2 ^ 32 }
     ensures { IfOk result (λ writer. writer ≡ u32_spelling (1 + fields) ++ opcode ∷ []) }

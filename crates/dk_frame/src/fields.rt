@@ -1,7 +1,7 @@
 //! The fields of a frame.
 ghost use Rattle.std.specs.Prelude.{◌≡◌, ◌<◌, ◌≤◌, ◌++◌, ℕ, List, IfOk, IfSome, IfNone, MatchOption, length};
 ghost use Rattle.dk_types.specs.Names.{IsName};
-ghost use Rattle.dk_wire.specs.Fields.{name_spelling};
+ghost use Rattle.dk_types.specs.Fields.{name_spelling};
 ghost use Rattle.dk_model.specs.Frames.{Frame};
 ghost use Rattle.dk_frame.specs.Fields.{IsFrameOf, HasNoFrame, BeginsWithNoName};
 

@@ -12,11 +12,11 @@ use Rattle.dk_types.specs.declared.durable.Pending.{Pending}
 use Rattle.dk_types.specs.declared.durable.Effects.{Effects}
 use Rattle.dk_types.specs.declared.durable.Entry.{Entry}
 use Rattle.dk_types.specs.declared.limits.TheConstants.{NUMBERS_END, MOMENT_MOST_MS, DELAY_MOST_MS, PERIOD_MOST_MS}
-use Rattle.dk_wire.specs.Rest.{Rest}
-use Rattle.dk_wire.specs.Fields.{IsU16, IsU64, IsBlob, IsId, IsKey, u16_spelling, u64_spelling, name_spelling, blob_spelling, id_spelling, key_spelling}
-use Rattle.dk_wire.specs.Reading.{◌>>=◌}
-use Rattle.dk_wire.specs.Payload.{next_u16, next_u64, next_name, next_blob, next_id, next_key, checked}
-use Rattle.dk_wire.specs.Lists.{IsList, list_spelling, list_at}
+use Rattle.dk_types.specs.Rest.{Rest}
+use Rattle.dk_types.specs.Fields.{IsU16, IsU64, IsBlob, IsId, IsKey, u16_spelling, u64_spelling, name_spelling, blob_spelling, id_spelling, key_spelling}
+use Rattle.dk_types.specs.Reading.{◌>>=◌}
+use Rattle.dk_types.specs.Payload.{next_u16, next_u64, next_name, next_blob, next_id, next_key, checked}
+use Rattle.dk_types.specs.Lists.{IsList, list_spelling, list_at}
 use Rattle.dk_model.specs.Keys.{id_cmp, key_cmp}
 
 -- the formats of a store: the first is read, the second is read and written

@@ -7,7 +7,7 @@ use Rattle.std.specs.List.{flat_map}
 use Rattle.dk_types.specs.Names.{IsName}
 use Rattle.dk_types.specs.declared.job.Out.{Out}
 use Rattle.dk_types.specs.declared.job.Out.TheVariants as out
-use Rattle.dk_wire.specs.Fields.{IsU32, u32_spelling, name_spelling}
+use Rattle.dk_types.specs.Fields.{IsU32, u32_spelling, name_spelling}
 
 -- the most bytes of a body
 abbrev pub body_most : ℕ

@@ -4,11 +4,11 @@ use Rattle.std.specs.FinMap.{entries}
 use Rattle.dk_types.specs.declared.number.RunNo.{RunNo}
 use Rattle.dk_types.specs.declared.durable.Durable.{Durable}
 use Rattle.dk_types.specs.declared.limits.TheConstants.{NUMBERS_END}
-use Rattle.dk_wire.specs.Rest.{Rest}
-use Rattle.dk_wire.specs.Fields.{IsU64, u64_spelling}
-use Rattle.dk_wire.specs.Reading.{◌>>=◌}
-use Rattle.dk_wire.specs.Payload.{next_u64, checked}
-use Rattle.dk_wire.specs.Lists.{IsList, list_spelling, list_at}
+use Rattle.dk_types.specs.Rest.{Rest}
+use Rattle.dk_types.specs.Fields.{IsU64, u64_spelling}
+use Rattle.dk_types.specs.Reading.{◌>>=◌}
+use Rattle.dk_types.specs.Payload.{next_u64, checked}
+use Rattle.dk_types.specs.Lists.{IsList, list_spelling, list_at}
 use Rattle.dk_model.specs.DurableWorlds.{DurableWorld}
 use Rattle.dk_model.specs.Validity.{next_of}
 use Rattle.dk_model.specs.Effects.{pending_of}

@@ -3,7 +3,7 @@ use Rattle.std.specs.Prelude.{◌≡◌, ◌≢◌, ◌⊎◌, ℕ, ◌+◌, ◌
 use Rattle.dk_types.specs.declared.side.Side.{Side}
 use Rattle.dk_types.specs.declared.side.Side.TheVariants.{Zero, One}
 use Rattle.dk_types.specs.declared.durable.Entry.{Entry}
-use Rattle.dk_wire.specs.Fields.{blob_spelling}
+use Rattle.dk_types.specs.Fields.{blob_spelling}
 use Rattle.dk_model.specs.DurableWorlds.{DurableWorld, empty_world}
 use Rattle.dk_model.specs.Validity.{IsValid}
 use Rattle.dk_model.specs.Effects.{effects, after}

@@ -7,7 +7,7 @@ use Rattle.dk_types.specs.GameIds.{IsGameId}
 use Rattle.dk_types.specs.declared.side.Side.{Side}
 use Rattle.dk_types.specs.declared.side.Side.TheVariants.{Zero, One}
 use Rattle.dk_types.specs.declared.limits.TheConstants.{NUMBERS_END, GAME_ID_MOST_BYTES}
-use Rattle.dk_wire.specs.Fields.{blob_spelling, u16_spelling, u64_spelling}
+use Rattle.dk_types.specs.Fields.{blob_spelling, u16_spelling, u64_spelling}
 use Rattle.dk_model.specs.Entries.{IsFormat}
 
 -- whose store it is, how often it was written anew, and the format of its payloads

@@ -30,6 +30,8 @@ impl<T> Model for ManagedRef<T> {
 }
 
 impl<T> Clone for ManagedRef<T> {
+    ghost is_clone = { λ old new. new ≡ old };
+
     fn clone(&self) -> Result<ManagedRef<T>, AllocError> {
         Ok(ManagedRef::of(self.id))
     }

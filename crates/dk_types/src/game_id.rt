@@ -31,6 +31,8 @@ impl Model for GameId {
 }
 
 impl Clone for GameId {
+    ghost is_clone = { λ old new. new ≡ old };
+
     fn clone(&self) -> Result<GameId, AllocError> {
         Ok(*self)
     }

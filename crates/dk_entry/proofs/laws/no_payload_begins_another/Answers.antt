@@ -1,4 +1,4 @@
-use Rattle.dk_wire.proofs.ExactLaws.{prefix_free}
+use Rattle.dk_types.proofs.ExactLaws.{prefix_free}
 use Rattle.dk_model.specs.Entries.{AreEntries, entries_spelling, entries_at}
 use Rattle.dk_entry.specs.EntryLaws.{entries_exact}
 use Rattle.dk_entry.proofs.laws.no_payload_begins_another.Goals as goal
