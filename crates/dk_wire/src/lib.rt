@@ -14,7 +14,6 @@ pub use writer::Writer;
 
 pub mod form;
 pub mod laws;
-pub mod lengths;
 pub mod payload;
 pub mod reader;
 mod reading;
