@@ -1,5 +1,5 @@
 -- What each call answers, and the event that it is.
-use Rattle.std.specs.Prelude.{◌≡◌, ℕ, false, ◌+◌, ◌++◌, ◌∷◌, [], Option, None, Some, List, Result, Ok, Err}
+use Rattle.std.specs.Prelude.{◌≡◌, ℕ, false, ◌+◌, ◌∷◌, [], Option, None, Some, List, Result, Ok, Err}
 use Rattle.std.specs.List.{AllByRecursion}
 use Rattle.dk_types.specs.declared.number.ConnNo.{ConnNo}
 use Rattle.dk_types.specs.declared.job.Input.{Input}

@@ -1,5 +1,5 @@
 -- The world that a core is, and the histories that it stands for.
-use Rattle.std.specs.Prelude.{◌≡◌, ℕ, ◌<◌, true, Option, Some, List, [], ◌∷◌, ◌++◌}
+use Rattle.std.specs.Prelude.{◌≡◌, ℕ, ◌<◌, true, Option, Some, List, [], ◌++◌}
 use Rattle.std.specs.List.{AllByRecursion}
 use Rattle.std.specs.FinMap.{FinMap, get}
 use Rattle.dk_types.specs.declared.number.RunNo.{RunNo}

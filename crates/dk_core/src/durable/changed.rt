@@ -145,17 +145,26 @@ impl StampedWorld {
         }
     }
 
+    /// An item, what a read saw of it, and what is seen of it now.
+    fn changed(&self, item: &Item, found: &Seen) -> Result<Changed, NoMemory>
+        ensures item { IfOk result (λ changed. changed.item ≡ item.now) }
+        ensures found { IfOk result (λ changed. changed.found ≡ found.now) }
+        ensures now { IfOk result (λ changed. changed.now ≡ seen_now self.now item.now) }
+    {
+        Ok(Changed {
+            item: item.clone()?,
+            found: found.clone()?,
+            now: self.seen(item)?,
+        })
+    }
+
     /// The first of these reads, in their order, that saw something else than is seen now. Only the answer takes memory.
     pub fn first_changed(&self, reads: &[(Item, Read)]) -> Result<Option<Changed>, NoMemory>
         ensures { IfOk result (TellsChanged self.now reads.now) }
     {
         for (item, read) in reads {
             if !self.stands(item, &read.seen) {
-                return Ok(Some(Changed {
-                    item: item.clone()?,
-                    found: read.seen.clone()?,
-                    now: self.seen(item)?,
-                }));
+                return Ok(Some(self.changed(item, &read.seen)?));
             }
         }
         Ok(None)

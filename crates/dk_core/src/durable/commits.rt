@@ -42,7 +42,9 @@ impl StampedWorld {
         ensures steps { CommitsSteps self.old self.new run (told finished) }
     {
         let FinishedParts {
-            effects, touched, ..
+            effects,
+            touched,
+            ..
         } = finished.into_parts();
         self.publish(effects, &touched, run)
     }

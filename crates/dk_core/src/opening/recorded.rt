@@ -31,7 +31,7 @@ fn login_of(alloc: Global, name: &Name) -> Result<Option<Name>, NoMemory>
 
 /// The session's record that the bytes are, where they are one.
 fn decode_record(alloc: Global, bytes: &Blob) -> Result<Option<SessionRecord>, NoMemory>
-    ensures { IfOk result (λ record. record ≡ session_of bytes.now) }
+    ensures { IfOk result (λ found. found ≡ session_of bytes.now) }
 {
     match decode::<SessionRecord, SessionForm>(alloc, bytes.as_slice()) {
         Ok(record) => Ok(Some(record)),

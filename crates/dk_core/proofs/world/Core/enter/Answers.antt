@@ -1,4 +1,4 @@
-use Rattle.std.proofs.Common.{◌+◌, arith}
+use Rattle.std.proofs.Common.{arith}
 use Rattle.dk_core.proofs.Committed.{commits}
 use Rattle.dk_core.proofs.Numbered.{few_commits}
 use Rattle.dk_core.proofs.world.Core.enter.Goals as goal
