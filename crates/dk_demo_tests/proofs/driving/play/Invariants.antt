@@ -1,0 +1,6 @@
+use Rattle.dk_serving.specs.Servings.{IsStandingFor}
+use Rattle.dk_demo_tests.proofs.driving.play.Given as goal
+
+-- the core stands for a history of the game's rules
+abbrev pub invariant-loop-step : goal.invariant-loop-step
+invariant-loop-step g l = IsStandingFor (g.G.Rules.rules l.game) l.core
