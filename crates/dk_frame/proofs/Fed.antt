@@ -1,10 +1,9 @@
 -- What a call answers of the frames that it read.
-use Rattle.std.proofs.Common.{◌≡◌, ℕ, ◌+◌, List, [], ◌++◌, length, map, drop, Option, Some, None, option_map, Result, Ok, Err, IfOk, IfErr, refl, sym, ap, subst, ◌∙◌}
+use Rattle.std.proofs.Common.{◌≡◌, ℕ, List, ◌++◌, map, None, option_map, Result, Ok, Err, IfOk, IfErr, sym, ap, subst, ◌∙◌}
 use Rattle.std.proofs.lemmas.List.{append-nil}
-use Rattle.dk_model.specs.Frames.{Frame, LoggedOut, Following, Bad}
+use Rattle.dk_model.specs.Frames.{Frame, LoggedOut, Bad}
 use Rattle.dk_frame.specs.declared.frame.ClientFrame.{ClientFrame}
 use Rattle.dk_frame.specs.declared.frame.FrameRefused.{FrameRefused}
-use Rattle.dk_frame.specs.declared.frame.FrameRefused.TheVariants.{BadFrame}
 use Rattle.dk_frame.specs.declared.frames.Frames.{Frames}
 use Rattle.dk_frame.specs.Meanings.{frame_of, fault_of, stage_of}
 use Rattle.dk_frame.specs.Fronts.{IsRead, IsToldOf}
@@ -32,8 +31,11 @@ gives_answer items_of (Err e) items old piece new gives same = tt
 -- and where the fault is
 pub refuses_answer : {V : Type 0} (result : Result V FrameRefused) (read : Frames) (old : Decoding) (piece : List ℕ) (new : Decoding) (at : ℕ) → Gives old piece new (map frame_of read.frames.items) → new.at ≡ at → new.fault ≡ option_map fault_of read.fault → IfErr result (IsToldOf read at) → IfErr result (Refuses old piece new)
 refuses_answer (Ok frames) read old piece new at gives place faults told = tt
-refuses_answer (Err e) read old piece new at gives place faults told = subst (Refuses old piece new) (sym told.is) (bad, λ stream given s.
-    subst (λ (frames : List Frame). StandsFor new (stream ++ piece) frames) (append-nil given) (subst (λ (items : List ClientFrame). StandsFor new (stream ++ piece) (given ++ map frame_of items)) told.none (gives stream given s)))
+refuses_answer (Err e) read old piece new at gives place faults told = subst (Refuses old piece new) (sym told.is) (
+  bad,
+  λ stream given s.
+      subst (λ (frames : List Frame). StandsFor new (stream ++ piece) frames) (append-nil given) (subst (λ (items : List ClientFrame). StandsFor new (stream ++ piece) (given ++ map frame_of items)) told.none (gives stream given s)),
+)
   where
     bad : following new ≡ Bad at (fault_of told.why)
     bad = ap (following_at new.at new.held) (faults ∙ ap (option_map fault_of) told.fault) ∙ ap (λ (n : ℕ). Bad n (fault_of told.why)) place

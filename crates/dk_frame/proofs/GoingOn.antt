@@ -1,8 +1,8 @@
 -- Bytes that go on.
-use Rattle.std.proofs.Common.{◌≡◌, ℕ, ◌+◌, ◌≤◌, ◌<◌, List, [], ◌∷◌, ◌++◌, length, take, drop, refl, sym, ap, subst, ◌∙◌, append_assoc, length-append, arith}
+use Rattle.std.proofs.Common.{◌≡◌, ℕ, ◌+◌, ◌≤◌, List, ◌∷◌, ◌++◌, length, take, drop, refl, sym, ap, ◌∙◌, append_assoc, length-append, arith}
 use Rattle.std.proofs.lemmas.List.{take_at, take-append-le, take-append-drop}
-use Rattle.dk_types.specs.Fields.{u32_spelling}
-use Rattle.dk_model.specs.Frames.{Frame, Stage, AtLogin, InSession, LoggedOut, Fault, BadLength, BadOpcode, BadField, Following, Bad, IsFrame, IsBad, Follows, MayCome, States, Begins, opcode_of, fields_of, frame_spelling, spelled}
+use Rattle.dk_wire.specs.Fields.{u32_spelling}
+use Rattle.dk_model.specs.Frames.{Frame, Stage, AtLogin, InSession, LoggedOut, Fault, BadLength, BadOpcode, BadField, Bad, IsBad, Follows, States, Begins, opcode_of, fields_of, frame_spelling}
 use Rattle.dk_frame.proofs.Opened.{spelled_parts, opened_whole}
 
 -- a length that bytes state, they state also where more follows
@@ -29,11 +29,18 @@ pub bad_more : (stage : Stage) (bytes more : List ℕ) (fault : Fault) → IsBad
 bad_more stage bytes more BadLength (len, behind, states, wrong) = (len, behind ++ more, States-more bytes more behind len states, wrong)
 bad_more stage bytes more BadOpcode (len, opcode, fields, begins, not) = (len, opcode, fields ++ more, Begins-more bytes more (opcode ∷ fields) len begins, not)
 bad_more stage bytes more BadField (len, opcode, fields, begins, may, long, none) =
-    let longer = Begins-more bytes more (opcode ∷ fields) len begins in
-    (len, opcode, fields ++ more, longer, may, omega (arith, length-append fields more), λ f behind is e.
-      let o = opened_whole f (bytes ++ more) behind (fields ++ more) len opcode is e longer.states in
-      let short : length (fields_of f) ≤ length fields = omega (arith, o.0) in
-      none f (drop (length (fields_of f)) fields) is (respelled f bytes fields (drop (length (fields_of f)) fields) len opcode begins.states o.0 o.1 (front_of fields more (fields_of f) behind o.2 short)))
+    let longer = Begins-more bytes more (opcode ∷ fields) len begins in (
+      len,
+      opcode,
+      fields ++ more,
+      longer,
+      may,
+      omega (arith, length-append fields more),
+      λ f behind is e.
+          let o = opened_whole f (bytes ++ more) behind (fields ++ more) len opcode is e longer.states in
+          let short : length (fields_of f) ≤ length fields = omega (arith, o.0) in
+          none f (drop (length (fields_of f)) fields) is (respelled f bytes fields (drop (length (fields_of f)) fields) len opcode begins.states o.0 o.1 (front_of fields more (fields_of f) behind o.2 short)),
+    )
 
 -- so what follows the frames stays the bad frame
 pub faults_go_on : (stage : Stage) (at : ℕ) (bytes more : List ℕ) (place : ℕ) (fault : Fault) → Follows stage at bytes (Bad place fault) → Follows stage at (bytes ++ more) (Bad place fault)

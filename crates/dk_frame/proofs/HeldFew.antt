@@ -1,6 +1,6 @@
 -- What is held is less than a frame.
-use Rattle.std.proofs.Common.{◌≡◌, ℕ, ◌+◌, ◌<◌, List, [], ◌∷◌, length, Option, Some, None, sym, ap, subst, arith}
-use Rattle.dk_model.specs.Frames.{Frame, Stage, AtLogin, InSession, LoggedOut, Fault, Follows, length_most, stage_after, stream_of}
+use Rattle.std.proofs.Common.{ℕ, ◌+◌, ◌<◌, List, [], ◌∷◌, length, Option, Some, None, sym, ap, subst, arith}
+use Rattle.dk_model.specs.Frames.{Frame, Stage, AtLogin, InSession, LoggedOut, Fault, Follows, length_most, stream_of}
 use Rattle.dk_frame.specs.Decoding.{Decoding, StandsFor, following_at, kept}
 use Rattle.dk_frame.proofs.Apart.{partial_most}
 

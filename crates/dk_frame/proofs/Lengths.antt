@@ -1,5 +1,5 @@
 -- How long spellings are.
-use Rattle.std.proofs.Common.{◌≡◌, ℕ, ◌+◌, ◌<◌, ◌≤◌, List, ◌∷◌, ◌++◌, length, length-append, arith}
+use Rattle.std.proofs.Common.{◌≡◌, ℕ, ◌+◌, ◌≤◌, List, ◌∷◌, ◌++◌, length, length-append, arith}
 use Rattle.dk_types.specs.Names.{IsName}
 use Rattle.dk_types.specs.Fields.{u32_spelling, name_spelling}
 use Rattle.dk_wire.proofs.LengthLaws.{length-u32, length-name}

@@ -1,6 +1,5 @@
 -- What the bytes say that begin with a frame.
-use Rattle.std.proofs.Common.{◌≡◌, ℕ, suc, ◌+◌, ◌-◌, ◌^◌, ◌<◌, ◌≤◌, List, [], ◌∷◌, ◌++◌, length, take, drop, refl, sym, ap, ◌∙◌, append_assoc, length-append, arith}
-use Rattle.std.proofs.lemmas.List.{take_at, drop_at, take-append-drop, length-take}
+use Rattle.std.proofs.Common.{◌≡◌, ℕ, ◌+◌, ◌^◌, ◌<◌, ◌≤◌, List, ◌∷◌, ◌++◌, length, sym, ◌∙◌, append_assoc, length-append, arith}
 use Rattle.dk_types.specs.Names.{IsName}
 use Rattle.dk_types.specs.Exact.{IsPrefixFree}
 use Rattle.dk_types.specs.Fields.{IsU32, u32_spelling, name_spelling}
@@ -8,7 +7,7 @@ use Rattle.dk_types.specs.Reading.{u32_at, name_at}
 use Rattle.dk_types.proofs.ExactLaws.{prefix_free}
 use Rattle.dk_types.proofs.FieldLaws.{u32_exact, name_exact}
 use Rattle.dk_model.specs.Frames.{Frame, Login, Message, Channel, Logout, IsFrame, opcode_of, fields_of, frame_spelling, spelled, States}
-use Rattle.dk_frame.proofs.Lengths.{name_spelling_most, length-spelled}
+use Rattle.dk_frame.proofs.Lengths.{name_spelling_most}
 
 -- no number's spelling begins another
 pub numbers_apart : IsPrefixFree IsU32 u32_spelling

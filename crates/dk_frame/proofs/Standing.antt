@@ -1,6 +1,6 @@
 -- What a decoder stands for, piece after piece.
-use Rattle.std.proofs.Common.{◌≡◌, ℕ, ◌+◌, ◌≤◌, ◌<◌, List, [], ◌∷◌, ◌++◌, length, drop, Option, Some, None, refl, sym, ap, subst, ◌∙◌, append_assoc, length-append, arith}
-use Rattle.dk_model.specs.Frames.{Frame, Stage, AtLogin, InSession, LoggedOut, Fault, Following, Nothing, Bad, IsStream, Follows, AreInTurn, stage_after, stream_of}
+use Rattle.std.proofs.Common.{◌≡◌, ℕ, ◌+◌, List, [], ◌∷◌, ◌++◌, length, drop, Option, Some, None, refl, sym, ap, subst, ◌∙◌, append_assoc, length-append, arith}
+use Rattle.dk_model.specs.Frames.{Frame, Stage, AtLogin, InSession, LoggedOut, Fault, Following, Bad, Follows, AreInTurn, stage_after, stream_of}
 use Rattle.dk_frame.specs.Fronts.{AreTaken, Stops}
 use Rattle.dk_frame.specs.Decoding.{Decoding, StandsFor, following, following_at, kept, passed}
 use Rattle.dk_frame.proofs.Turns.{AreInTurn-append, stage_after-append, stream_of-append}
@@ -46,6 +46,7 @@ stands_still d stream piece given fault bad s = record {
   where
     told : following d ≡ Bad d.at fault
     told = ap (following_at d.at d.held) bad
+
     nothing : (rest : List ℕ) → kept d.stage d.fault rest ≡ []
     nothing rest = ap (λ (f : Option Fault). kept d.stage f rest) bad
 
@@ -67,6 +68,7 @@ stands_over d stream piece given fine over s = record {
   where
     end : LoggedOut ≡ stage_after AtLogin given
     end = sym over ∙ s.stage
+
     nothing : (rest : List ℕ) → kept d.stage d.fault rest ≡ []
     nothing rest = ap (λ (f : Option Fault). kept d.stage f rest) fine ∙ ap (λ (stage : Stage). kept stage None rest) over
 
@@ -94,17 +96,22 @@ stands_on d stream piece given frames taken stage fault fine running are stops s
   where
     rest : List ℕ
     rest = drop taken (d.held ++ piece)
+
     all : stream_of (given ++ frames) ≡ stream_of given ++ stream_of frames
     all = stream_of-append given frames
+
     held_is : d.held ≡ s.is.rest
     held_is = s.held ∙ kept_all d.stage d.fault s.is.rest fine running
+
     parted : stream ++ piece ≡ stream_of (given ++ frames) ++ rest
     parted =
         ap (λ (b : List ℕ). b ++ piece) s.is.whole ∙ append_assoc (stream_of given) s.is.rest piece
         ∙ ap (λ (b : List ℕ). stream_of given ++ (b ++ piece)) (sym held_is) ∙ ap (λ (b : List ℕ). stream_of given ++ b) are.parts
         ∙ sym (append_assoc (stream_of given) (stream_of frames) rest) ∙ ap (λ (b : List ℕ). b ++ rest) (sym all)
+
     place : d.at + taken ≡ length (stream_of (given ++ frames))
     place = omega (arith, s.at, are.takes, length-append (stream_of given) (stream_of frames), ap (λ (b : List ℕ). length b) all)
+
     ends : stage ≡ stage_after AtLogin (given ++ frames)
     ends = are.comes_to ∙ ap (λ (x : Stage). stage_after x frames) s.stage ∙ sym (stage_after-append AtLogin given frames)
 

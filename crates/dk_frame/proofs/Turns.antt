@@ -1,8 +1,8 @@
 -- Frames one behind another.
-use Rattle.std.proofs.Common.{◌≡◌, ℕ, ◌+◌, ◌≤◌, List, [], ◌∷◌, ◌++◌, length, drop, Option, Some, None, refl, sym, ap, subst, ◌∙◌, append_assoc, length-append, arith}
+use Rattle.std.proofs.Common.{◌≡◌, ℕ, ◌+◌, List, [], ◌∷◌, ◌++◌, length, drop, Some, None, refl, sym, ap, subst, ◌∙◌, append_assoc, length-append, arith}
 use Rattle.std.proofs.lemmas.List.{drop_at, append-nil}
 use Rattle.std.proofs.lemmas.List.Concat.{flat_map-append}
-use Rattle.dk_model.specs.Frames.{Frame, Stage, AtLogin, InSession, LoggedOut, IsFrame, MayCome, AreInTurn, IsPartial, IsBad, Fault, stage_behind, stage_after, stream_of, opcode_of, frame_spelling}
+use Rattle.dk_model.specs.Frames.{Frame, Stage, AtLogin, InSession, LoggedOut, MayCome, AreInTurn, IsPartial, IsBad, Fault, stage_behind, stage_after, stream_of, opcode_of, frame_spelling}
 use Rattle.dk_frame.specs.Fronts.{IsWhole, AreTaken, Stops}
 
 -- frames in turn, and then others from where these left off
@@ -34,7 +34,7 @@ taken_more start stage bytes frames taken more f are whole =
     let own = frame_spelling f in
     let all : stream_of (frames ++ f ∷ []) ≡ stream_of frames ++ own = stream_of-append frames (f ∷ []) ∙ ap (λ (b : List ℕ). stream_of frames ++ b) (stream_of-one f) in
     let parted : bytes ≡ stream_of (frames ++ f ∷ []) ++ tail =
-        are.parts ∙ ap (λ (b : List ℕ). stream_of frames ++ b) whole.parts ∙ sym (append_assoc (stream_of frames) own tail) ∙ ap (λ (b : List ℕ). b ++ tail) (sym all) in
+    are.parts ∙ ap (λ (b : List ℕ). stream_of frames ++ b) whole.parts ∙ sym (append_assoc (stream_of frames) own tail) ∙ ap (λ (b : List ℕ). b ++ tail) (sym all) in
     let size : length (stream_of (frames ++ f ∷ [])) ≡ taken + more = ap (λ (b : List ℕ). length b) all ∙ omega (arith, length-append (stream_of frames) own, are.takes, whole.takes) in
     let cut : drop (taken + more) bytes ≡ tail = ap (drop (taken + more)) parted ∙ drop_at (stream_of (frames ++ f ∷ [])) tail (taken + more) size in
     let may : MayCome (stage_after start frames) (opcode_of f) = subst (λ (s : Stage). MayCome s (opcode_of f)) are.comes_to whole.may_come in

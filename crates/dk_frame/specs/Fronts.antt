@@ -1,6 +1,6 @@
 -- What stands at the front of bytes.
 use Rattle.std.specs.Prelude.{◌≡◌, ℕ, ◌≤◌, List, [], ◌++◌, length, drop, map, Option, Some, None, option_map}
-use Rattle.dk_model.specs.Frames.{Frame, Stage, AtLogin, InSession, LoggedOut, Fault, IsFrame, MayCome, AreInTurn, IsPartial, IsBad, opcode_of, fields_of, frame_spelling, stage_after, stream_of}
+use Rattle.dk_model.specs.Frames.{Frame, Stage, AtLogin, InSession, LoggedOut, Fault, IsFrame, MayCome, AreInTurn, IsPartial, IsBad, opcode_of, frame_spelling, stage_after, stream_of}
 use Rattle.dk_frame.specs.declared.front.Front.{Front}
 use Rattle.dk_frame.specs.declared.front.Front.TheVariants.{Whole, Partial, Bad}
 use Rattle.dk_frame.specs.declared.frame.FrameFault.{FrameFault}

@@ -9,9 +9,13 @@ use std::alloc::Global;
 
 // The opcodes of the server's frames.
 const ACCEPTED: u8 = 0x81;
+
 const REFUSED: u8 = 0x82;
+
 const MESSAGE: u8 = 0x83;
+
 const CHANNEL: u8 = 0x84;
+
 const CLOSE: u8 = 0x85;
 
 /// The frame of a message.

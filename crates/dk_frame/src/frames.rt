@@ -35,11 +35,26 @@ impl Frames {
                     frames.push(frame)?;
                     taken += more;
                 }
-                Front::Partial => return Ok(Frames { frames, taken, stage, fault: None }),
-                Front::Bad(why) => return Ok(Frames { frames, taken, stage, fault: Some(why) }),
+                Front::Partial => return Ok(Frames {
+                    frames,
+                    taken,
+                    stage,
+                    fault: None,
+                }),
+                Front::Bad(why) => return Ok(Frames {
+                    frames,
+                    taken,
+                    stage,
+                    fault: Some(why),
+                }),
             }
         }
-        Ok(Frames { frames, taken, stage, fault: None })
+        Ok(Frames {
+            frames,
+            taken,
+            stage,
+            fault: None,
+        })
     }
     /// The frames or, where there are none, the fault that follows, of a frame at this place.
     pub(crate) fn answer(self, at: u64) -> Result<Vec<ClientFrame>, FrameRefused>

@@ -7,8 +7,11 @@ use crate::frame::ClientFrame;
 
 /// The opcodes of a client's frames.
 pub(crate) const LOGIN: u8 = 1;
+
 pub(crate) const MESSAGE: u8 = 2;
+
 pub(crate) const CHANNEL: u8 = 3;
+
 pub(crate) const LOGOUT: u8 = 4;
 
 /// How far a client's stream has come.

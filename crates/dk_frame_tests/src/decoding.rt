@@ -149,8 +149,8 @@ fn a_body_has_its_limit(rt: HostRuntime) -> Result<(), Fail> {
     for (head, body, frames, next, least) in [
         (b"\x00\x10\x00\x01\x02".as_slice(), most, "login alice;message 1048576;", Next::Nothing, 4_096),
         (b"\x00\x10\x00\x02\x02".as_slice(), most + 1, "login alice;", field, 1),
-        (b"\x00\x10\x00\x04\x03\x01a".as_slice(), most, "login alice;channel a 1048576;", Next::Nothing, 1_000),
-        (b"\x00\x10\x00\x05\x03\x01a".as_slice(), most + 1, "login alice;", field, 65_536),
+        (b"\x00\x10\x00\x03\x03\x01a".as_slice(), most, "login alice;channel a 1048576;", Next::Nothing, 1_000),
+        (b"\x00\x10\x00\x04\x03\x01a".as_slice(), most + 1, "login alice;", field, 65_536),
         (b"\x00\x10\x00\x01\x02".as_slice(), most - 1, "login alice;", Next::Begun { at: 11 }, 4_097),
     ] {
         let stream = with_body(alloc, head, body)?;

@@ -1,8 +1,8 @@
-use Rattle.std.proofs.Common.{◌≡◌, ℕ, ◌+◌, List, ◌++◌, length, map, Option, Some, None, option_map, rules, sym, ap, subst, ◌∙◌}
+use Rattle.std.proofs.Common.{◌≡◌, List, ◌++◌, length, map, Some, None, option_map, sym, ap, subst, ◌∙◌}
 use Rattle.std.proofs.Common.{arith}
 use Rattle.std.proofs.lemmas.List.{append-nil}
 use Rattle.std.proofs.lemmas.Grind.{common_steps}
-use Rattle.dk_model.specs.Frames.{Frame, Stage, LoggedOut}
+use Rattle.dk_model.specs.Frames.{Frame, LoggedOut}
 use Rattle.dk_frame.specs.declared.frame.ClientFrame.{ClientFrame}
 use Rattle.dk_frame.specs.Meanings.{frame_of, fault_of, stage_of}
 use Rattle.dk_frame.specs.Decoding.{Decoding, StandsFor, following_at, passed}
@@ -14,9 +14,11 @@ pub returns-in-Some-clause-refused : goal.returns-in-Some-clause-refused
 returns-in-Some-clause-refused c =
     let here = c.self.inside in
     let old : Decoding = record { fed = here.fed; at = here.at; stage = stage_of here.stage; held = here.held.items; fault = option_map fault_of here.fault } in
-    let bad : old.fault ≡ Some (fault_of c.in-Some.why) = ap (option_map fault_of) c.in-Some.is in
-    (ap (following_at here.at here.held.items) bad, λ stream given s.
-      stands_still old stream c.args.piece.now given (fault_of c.in-Some.why) bad (subst (λ (d : Decoding). StandsFor d stream given) (sym c.self.view_is) s))
+    let bad : old.fault ≡ Some (fault_of c.in-Some.why) = ap (option_map fault_of) c.in-Some.is in (
+      ap (following_at here.at here.held.items) bad,
+      λ stream given s.
+          stands_still old stream c.args.piece.now given (fault_of c.in-Some.why) bad (subst (λ (d : Decoding). StandsFor d stream given) (sym c.self.view_is) s),
+    )
 
 gives : (c : goal.After-answer) → Gives c.args.self.now c.args.piece.now c.pass.new.self (map frame_of c.in_ok-read.read.frames.items)
 gives c =

@@ -1,6 +1,6 @@
 use Rattle.std.proofs.Common.{◌≡◌, ◌+◌, ◌≤◌, List, ℕ, [], ◌∷◌, ◌++◌, length, map, sym, ap, subst, ◌∙◌, arith}
 use Rattle.std.proofs.lemmas.List.{map-append}
-use Rattle.dk_model.specs.Frames.{Frame, Stage, stage_behind, opcode_of, fields_of, frame_spelling}
+use Rattle.dk_model.specs.Frames.{Frame, Stage, stage_behind, opcode_of, fields_of}
 use Rattle.dk_frame.specs.Meanings.{frame_of, stage_of}
 use Rattle.dk_frame.specs.Fronts.{IsWhole, AreTaken}
 use Rattle.dk_frame.proofs.Lengths.{length-spelled}

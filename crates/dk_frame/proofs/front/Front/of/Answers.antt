@@ -1,4 +1,4 @@
-use Rattle.std.proofs.Common.{◌∷◌, ◌≡◌, List, ℕ, ◌+◌, ◌≤◌, length, rules, subst, arith}
+use Rattle.std.proofs.Common.{◌∷◌, ◌+◌, ◌≤◌, length, rules, subst, arith}
 use Rattle.dk_model.specs.Frames.{States, Begins, MayCome}
 use Rattle.dk_frame.specs.Meanings.{stage_of, frame_of}
 use Rattle.dk_frame.proofs.FrontLemmas.{whole_front, bad_field}
