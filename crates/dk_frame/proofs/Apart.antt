@@ -3,7 +3,7 @@ use Rattle.std.proofs.Common.{◌≡◌, ℕ, ◌+◌, ◌^◌, ◌≤◌, ◌<�
 use Rattle.std.proofs.lemmas.List.{append-nil}
 use Rattle.dk_types.specs.declared.job.Out.{Out}
 use Rattle.dk_types.specs.declared.job.Out.TheVariants as out
-use Rattle.dk_wire.specs.Fields.{u32_spelling, name_spelling}
+use Rattle.dk_types.specs.Fields.{u32_spelling, name_spelling}
 use Rattle.dk_wire.proofs.LengthLaws.{length-u32}
 use Rattle.dk_model.specs.Frames.{Frame, Login, Message, Channel, Logout, Stage, AtLogin, InSession, LoggedOut, Fault, BadLength, BadOpcode, BadField, Following, Nothing, Begun, Bad, IsFrame, IsOut, IsBad, IsPartial, Tells, Follows, AreInTurn, MayCome, States, Begins, opcode_of, fields_of, frame_spelling, out_opcode, out_fields, spelled, stage_behind, stage_after, stream_of, length_most}
 use Rattle.dk_frame.specs.FrameLaws.{OneSpelling, OneSpellingOut, OneReading, LongerStream, FaultsLast}

@@ -2,7 +2,7 @@
 use Rattle.std.proofs.Common.{◌≡◌, ℕ, ◌<◌, ◌==◌, true, false, List, [], ◌++◌, length, sym, ◌∙◌, ap, arith}
 use Rattle.std.proofs.lemmas.List.{append-nil}
 use Rattle.dk_types.specs.Names.{IsName}
-use Rattle.dk_wire.specs.Fields.{name_spelling}
+use Rattle.dk_types.specs.Fields.{name_spelling}
 use Rattle.dk_model.specs.Frames.{Login, Message, Channel, Logout, body_most}
 use Rattle.dk_frame.specs.Fields.{HasNoFrame, BeginsWithNoName}
 use Rattle.dk_frame.proofs.Opened.{names_apart}

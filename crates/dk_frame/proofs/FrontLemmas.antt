@@ -1,7 +1,7 @@
 -- The frame at the front of bytes, and when there is none.
 use Rattle.std.proofs.Common.{◌≡◌, ℕ, ◌+◌, ◌-◌, ◌<◌, ◌≤◌, List, ◌∷◌, ◌++◌, length, take, drop, sym, ap, subst, ◌∙◌, arith}
 use Rattle.std.proofs.lemmas.List.{take_at, drop_at, take-append-drop, length-take}
-use Rattle.dk_wire.specs.Fields.{u32_spelling}
+use Rattle.dk_types.specs.Fields.{u32_spelling}
 use Rattle.dk_model.specs.Frames.{Frame, Stage, BadField, IsBad, MayCome, States, Begins, opcode_of, fields_of, frame_spelling, spelled}
 use Rattle.dk_frame.specs.Fields.{Has, HasNoFrame}
 use Rattle.dk_frame.specs.Fronts.{IsWhole}

@@ -1,7 +1,7 @@
 -- Bytes that go on.
 use Rattle.std.proofs.Common.{◌≡◌, ℕ, ◌+◌, ◌≤◌, List, ◌∷◌, ◌++◌, length, take, drop, refl, sym, ap, ◌∙◌, append_assoc, length-append, arith}
 use Rattle.std.proofs.lemmas.List.{take_at, take-append-le, take-append-drop}
-use Rattle.dk_wire.specs.Fields.{u32_spelling}
+use Rattle.dk_types.specs.Fields.{u32_spelling}
 use Rattle.dk_model.specs.Frames.{Frame, Stage, AtLogin, InSession, LoggedOut, Fault, BadLength, BadOpcode, BadField, Bad, IsBad, Follows, States, Begins, opcode_of, fields_of, frame_spelling}
 use Rattle.dk_frame.proofs.Opened.{spelled_parts, opened_whole}
 

@@ -1,5 +1,5 @@
 use Rattle.std.proofs.Common.{◌≡◌, length, List, ℕ, ap, sym, subst, arith}
-use Rattle.dk_wire.specs.Rest.{Rest}
+use Rattle.dk_types.specs.Rest.{Rest}
 use Rattle.dk_model.specs.Frames.{States}
 use Rattle.dk_frame.proofs.Numbers.{States-taken, short_of_number}
 use Rattle.dk_frame.proofs.front.length_of.Goals as goal
