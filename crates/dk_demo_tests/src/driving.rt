@@ -2,13 +2,13 @@
 ghost use Rattle.std.specs.Prelude.{IfOk};
 ghost use Rattle.dk_model.specs.Lawful.{IsInput};
 ghost use Rattle.dk_model.specs.Validity.{IsBody};
-ghost use Rattle.dk_serving.specs.Servings.{IsStandingFor};
+ghost use Rattle.dk_workers.specs.Working.{IsStandingFor};
 
 use dk_core::Core;
 use dk_game::Game;
 use dk_inspect::inspect_text;
 use dk_script::transcript_of;
-use dk_serving::{Ran, Served, serve_next};
+use dk_workers::{Ran, Step as Worked, work_once};
 use dk_types::limits::BODY_MOST_BYTES;
 use dk_types::{
     Blob, ClaimReply, ConnNo, ConnectReply, Durable, Event, Input, Listed, Name, NoMemory,
@@ -150,9 +150,9 @@ fn serve<G: Game>(alloc: Global, game: &G, core: &mut Core) -> Result<Option<Ran
     requires { IsStandingFor (G.rules game.now) core.old }
     ensures { IfOk result (λ _. IsStandingFor (G.rules game.now) core.new) }
 {
-    match serve_next(alloc, game, core, PASS) {
-        Ok(Served::Ran(ran)) => Ok(Some(ran)),
-        Ok(Served::Idle) => Ok(None),
+    match work_once(alloc, game, core, PASS) {
+        Ok(Worked::Ran(ran)) => Ok(Some(ran)),
+        Ok(Worked::Idle) => Ok(None),
         _ => Err(Fail::from("a run")),
     }
 }

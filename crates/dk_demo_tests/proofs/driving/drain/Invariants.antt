@@ -1,4 +1,4 @@
-use Rattle.dk_serving.specs.Servings.{IsStandingFor}
+use Rattle.dk_workers.specs.Working.{IsStandingFor}
 use Rattle.dk_demo_tests.proofs.driving.drain.Given as goal
 
 -- the core stands for a history of the game's rules

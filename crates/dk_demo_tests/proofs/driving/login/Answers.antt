@@ -1,4 +1,4 @@
-use Rattle.dk_serving.proofs.Honest.{standing_of, entered}
+use Rattle.dk_workers.proofs.Honest.{standing_of, entered}
 use Rattle.dk_demo_tests.proofs.driving.login.Goals as goal
 
 pub connect-requires : goal.connect-requires

@@ -1,4 +1,4 @@
-use Rattle.dk_serving.proofs.Honest.{entered}
+use Rattle.dk_workers.proofs.Honest.{entered}
 use Rattle.dk_demo_tests.proofs.driving.post.Goals as goal
 
 pub returns-in-Ok : goal.returns-in-Ok

@@ -1,4 +1,4 @@
-use Rattle.dk_serving.proofs.Honest.{standing_then}
+use Rattle.dk_workers.proofs.Honest.{standing_then}
 use Rattle.dk_demo_tests.proofs.driving.serve.Goals as goal
 
 pub returns-in-Ok-Ran : goal.returns-in-Ok-Ran
