@@ -11,15 +11,12 @@ use Rattle.dk_examples.specs.Worked.{run, conn, accepting, listed, nothing}
 use Rattle.dk_examples.specs.TimerGame.{timer_rules}
 use Rattle.dk_examples.specs.TimerRows.{occurrence, counting, counted}
 use Rattle.dk_examples.specs.SessionRows.{alice, with_alice}
-use Rattle.dk_examples.specs.SwordRows.{furnished, alice_entered, sight}
-use Rattle.sword_world.specs.Rules.{sword_rules}
 use Rattle.dk_types.specs.declared.job.Out.TheVariants as out
 use Rattle.dk_types.specs.declared.job.Input.TheVariants as input
 use Rattle.dk_model.specs.declared.waiting.Waiting.TheVariants as waits
-use Rattle.dk_examples.specs.HistoryRows.{world, of_alice, timer_events, TimerHistory, sword_events, SwordHistory, second_login_events, SecondLoginHistory, restart_events, RestartHistory}
+use Rattle.dk_examples.specs.HistoryRows.{world, of_alice, timer_events, TimerHistory, second_login_events, SecondLoginHistory, restart_events, RestartHistory}
 use Rattle.dk_examples.proofs.Running.{looks, puts}
 use Rattle.dk_examples.proofs.EventSteps.{stands, opens_empty, claims, commits, connects, ticks, posts, hands}
-use Rattle.dk_examples.proofs.SwordRuns.{sword_begins, sword_login, sword_look}
 use Rattle.dk_examples.proofs.SessionRuns.{session_read, first_run_accepts, login_is_accepted, second_login_is_refused, stop_ends}
 use Rattle.dk_examples.proofs.TimerRuns.{timer_begins, timer_skips, timer_goes_on, timer_ends}
 
@@ -104,56 +101,6 @@ timer_goes = (
 
 pub timer_history : TimerHistory
 timer_history = subst (λ (o : World). Leads timer_rules o timer_events (timing (listed counted 4 (Some (run 3))) 500 4 true [])) (sym opens_empty) timer_goes
-
-sword_history_goes : Leads sword_rules (world (listed nothing 0 None) 0 0 false [] []) sword_events (world (listed alice_entered 3 (Some (run 3))) 0 4 false [] ((conn 1, of_alice [] [] 3) ∷ []))
-sword_history_goes = (
-  world (listed nothing 0 None) 0 1 false ((run 0, claimed job.Initialize 0) ∷ []) [],
-  claims sword_rules (listed nothing 0 None) 0 0 false [] [] job.Initialize ((run 0, claimed job.Initialize 0) ∷ []) [] (simp stands) (omega arith) (simp stands) (simp stands) refl refl,
-  (
-    world (listed furnished 1 (Some (run 0))) 0 1 false [] [],
-    commits sword_rules (listed nothing 0 None) 0 1 false ((run 0, claimed job.Initialize 0) ∷ []) [] 0 (claimed job.Initialize 0) _ _ [] [] (simp stands) refl sword_begins (simp stands) (simp stands) refl refl,
-    (
-      world (listed furnished 1 (Some (run 0))) 0 2 false [] ((conn 1, of_alice (waits.Login ∷ []) [] 1) ∷ []),
-      connects sword_rules (listed furnished 1 (Some (run 0))) 0 1 false [] [] ((conn 1, of_alice (waits.Login ∷ []) [] 1) ∷ []) (omega arith) (simp stands) refl (simp stands) refl,
-      (
-        world (listed furnished 1 (Some (run 0))) 0 2 false [] ((conn 1, of_alice (waits.Login ∷ waits.Input (input.Message (codes "look")) ∷ []) [] 1) ∷ []),
-        posts sword_rules (listed furnished 1 (Some (run 0))) 0 2 false [] ((conn 1, of_alice (waits.Login ∷ []) [] 1) ∷ []) 1 (input.Message (codes "look")) ((conn 1, of_alice (waits.Login ∷ waits.Input (input.Message (codes "look")) ∷ []) [] 1) ∷ []) (simp stands) (simp stands) (simp stands) (simp stands) refl refl,
-        (
-          world (listed furnished 1 (Some (run 0))) 0 3 false ((run 2, claimed (job.Login (conn 1) alice) 0) ∷ []) ((conn 1, of_alice (waits.Login ∷ waits.Input (input.Message (codes "look")) ∷ []) [] 2) ∷ []),
-          claims sword_rules (listed furnished 1 (Some (run 0))) 0 2 false [] ((conn 1, of_alice (waits.Login ∷ waits.Input (input.Message (codes "look")) ∷ []) [] 1) ∷ []) (job.Login (conn 1) alice) ((run 2, claimed (job.Login (conn 1) alice) 0) ∷ []) ((conn 1, of_alice (waits.Login ∷ waits.Input (input.Message (codes "look")) ∷ []) [] 2) ∷ []) (simp (puts, stands)) (omega arith) (simp stands) (simp stands) refl refl,
-          (
-            world (listed furnished 1 (Some (run 0))) 0 3 false ((run 2, claimed (job.Login (conn 1) alice) 0) ∷ []) ((conn 1, of_alice (waits.Login ∷ waits.Input (input.Message (codes "look")) ∷ []) [] 2) ∷ []),
-            (simp (puts, stands), refl),
-            (
-              world (listed alice_entered 2 (Some (run 2))) 0 3 false [] ((conn 1, of_alice (waits.Input (input.Message (codes "look")) ∷ []) (out.Accepted ∷ []) 2) ∷ []),
-              commits sword_rules (listed furnished 1 (Some (run 0))) 0 3 false ((run 2, claimed (job.Login (conn 1) alice) 0) ∷ []) ((conn 1, of_alice (waits.Login ∷ waits.Input (input.Message (codes "look")) ∷ []) [] 2) ∷ []) 2 (claimed (job.Login (conn 1) alice) 0) _ _ [] ((conn 1, of_alice (waits.Input (input.Message (codes "look")) ∷ []) (out.Accepted ∷ []) 2) ∷ []) (simp stands) refl sword_login (simp stands) (simp stands) refl refl,
-              (
-                world (listed alice_entered 2 (Some (run 2))) 0 4 false ((run 3, claimed (job.Message (conn 1) alice (codes "look")) 0) ∷ []) ((conn 1, of_alice (waits.Input (input.Message (codes "look")) ∷ []) (out.Accepted ∷ []) 3) ∷ []),
-                claims sword_rules (listed alice_entered 2 (Some (run 2))) 0 3 false [] ((conn 1, of_alice (waits.Input (input.Message (codes "look")) ∷ []) (out.Accepted ∷ []) 2) ∷ []) (job.Message (conn 1) alice (codes "look")) ((run 3, claimed (job.Message (conn 1) alice (codes "look")) 0) ∷ []) ((conn 1, of_alice (waits.Input (input.Message (codes "look")) ∷ []) (out.Accepted ∷ []) 3) ∷ []) (simp (puts, stands)) (omega arith) (simp stands) (simp stands) refl refl,
-                (
-                  world (listed alice_entered 3 (Some (run 3))) 0 4 false [] ((conn 1, of_alice [] (out.Accepted ∷ out.Message sight ∷ []) 3) ∷ []),
-                  commits sword_rules (listed alice_entered 2 (Some (run 2))) 0 4 false ((run 3, claimed (job.Message (conn 1) alice (codes "look")) 0) ∷ []) ((conn 1, of_alice (waits.Input (input.Message (codes "look")) ∷ []) (out.Accepted ∷ []) 3) ∷ []) 3 (claimed (job.Message (conn 1) alice (codes "look")) 0) _ _ [] ((conn 1, of_alice [] (out.Accepted ∷ out.Message sight ∷ []) 3) ∷ []) (simp stands) refl sword_look (simp stands) (simp stands) refl refl,
-                  (
-                    world (listed alice_entered 3 (Some (run 3))) 0 4 false [] ((conn 1, of_alice [] (out.Accepted ∷ out.Message sight ∷ []) 3) ∷ []),
-                    (simp (puts, stands), refl),
-                    (
-                      world (listed alice_entered 3 (Some (run 3))) 0 4 false [] ((conn 1, of_alice [] [] 3) ∷ []),
-                      hands sword_rules (listed alice_entered 3 (Some (run 3))) 0 4 false [] ((conn 1, of_alice [] (out.Accepted ∷ out.Message sight ∷ []) 3) ∷ []) 1 16 (out.Accepted ∷ out.Message sight ∷ []) false ((conn 1, of_alice [] [] 3) ∷ []) (simp stands) (simp stands) (simp stands) (simp stands) refl refl,
-                      refl,
-                    ),
-                  ),
-                ),
-              ),
-            ),
-          ),
-        ),
-      ),
-    ),
-  ),
-)
-
-pub sword_history : SwordHistory
-sword_history = subst (λ (o : World). Leads sword_rules o sword_events (world (listed alice_entered 3 (Some (run 3))) 0 4 false [] ((conn 1, of_alice [] [] 3) ∷ []))) (sym opens_empty) sword_history_goes
 
 second_login_history_goes : Leads accepting (world (listed nothing 0 None) 0 0 false [] []) second_login_events (world (listed with_alice 3 (Some (run 4))) 0 5 false [] ((conn 1, of_alice [] [] 2) ∷ []))
 second_login_history_goes = (

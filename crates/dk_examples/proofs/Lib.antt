@@ -5,7 +5,6 @@ pub mod TimerRuns
 pub mod SessionRuns
 pub mod ChannelRuns
 pub mod OutboxRuns
-pub mod SwordRuns
 pub mod EventSteps
 pub mod HistoryRuns
 pub mod PickRuns

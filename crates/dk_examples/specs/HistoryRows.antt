@@ -19,12 +19,10 @@ use Rattle.dk_model.specs.DurableWorlds.{DurableWorld, empty_world}
 use Rattle.dk_model.specs.Worlds.{World, Connection, Claim}
 use Rattle.dk_model.specs.Histories.{Leads}
 use Rattle.dk_model.specs.Openings.{opening}
-use Rattle.sword_world.specs.Rules.{sword_rules}
 use Rattle.dk_examples.specs.Worked.{run, conn, accepting, listed, nothing}
 use Rattle.dk_examples.specs.TimerGame.{timer_rules}
 use Rattle.dk_examples.specs.TimerRows.{occurrence, counted}
 use Rattle.dk_examples.specs.SessionRows.{alice, with_alice}
-use Rattle.dk_examples.specs.SwordRows.{sight, alice_entered}
 
 -- a world without a budget, by its moment, its next number, whether the last claim was of a task, its claims and its connections
 abbrev pub world : DurableWorld → ℕ → ℕ → Bool → List (RunNo × Claim) → List (ConnNo × Connection) → World
@@ -66,18 +64,6 @@ timer_events =
 
 abbrev pub TimerHistory : Type 0
 TimerHistory = Leads timer_rules (opening empty_world None) timer_events (world (listed counted 4 (Some (run 3))) 500 4 true [] [])
-
--- a login and a look, and what is handed then
-abbrev pub sword_events : List Event
-sword_events =
-    claim 0 0 job.Initialize ∷ commit 0 1
-    ∷ connect 1 ∷ event.Post 0 (conn 1) (input.Message (codes "look")) posted.Taken
-    ∷ claim 2 0 (job.Login (conn 1) alice) ∷ idle ∷ commit 2 2
-    ∷ claim 3 0 (job.Message (conn 1) alice (codes "look")) ∷ commit 3 3 ∷ idle
-    ∷ event.Hand 0 (conn 1) 16 (out.Accepted ∷ out.Message sight ∷ []) false ∷ []
-
-abbrev pub SwordHistory : Type 0
-SwordHistory = Leads sword_rules (opening empty_world None) sword_events (world (listed alice_entered 3 (Some (run 3))) 0 4 false [] ((conn 1, of_alice [] [] 3) ∷ []))
 
 -- a second login under a connected name: its connection is gone once its messages are handed
 abbrev pub second_login_events : List Event

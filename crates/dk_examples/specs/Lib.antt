@@ -5,6 +5,5 @@ pub mod SessionRows
 pub mod ChannelGame
 pub mod ChannelRows
 pub mod OutboxRows
-pub mod SwordRows
 pub mod HistoryRows
 pub mod PickRows

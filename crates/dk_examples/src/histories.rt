@@ -1,14 +1,9 @@
 //! Histories.
-ghost use Rattle.dk_examples.specs.HistoryRows.{TimerHistory, SwordHistory, SecondLoginHistory, RestartHistory};
+ghost use Rattle.dk_examples.specs.HistoryRows.{TimerHistory, SecondLoginHistory, RestartHistory};
 
 /// A task is claimed once its moment has come, and goes on until it is cancelled.
 pub fn timer_history()
     ensures { TimerHistory }
-{}
-
-/// A login and a look of one client are run in their order, and what they send is handed.
-pub fn sword_history()
-    ensures { SwordHistory }
 {}
 
 /// A second connection of a connected name is refused, and gone once that is handed.

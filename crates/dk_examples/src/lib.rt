@@ -6,7 +6,7 @@ pub use channels::{
     channels_begin, disconnect_leaves, heard_goes_to_the_game, join_of_no_channel_fails,
     login_joins, no_channel_is_nothing, unheard_goes_to_all,
 };
-pub use histories::{restart_history, second_login_history, sword_history, timer_history};
+pub use histories::{restart_history, second_login_history, timer_history};
 pub use outboxes::{
     as_many_wait, cut_gets_no_more, hand_gives_all, one_more_cuts, one_more_in_the_run_cuts,
 };
@@ -18,11 +18,6 @@ pub use sessions::{
     disconnect_ends, first_run_accepts, given_up_login_fails, login_is_accepted, long_login_fails,
     second_login_is_refused, stop_ends, strange_message_is_nothing,
 };
-pub use swords::{
-    sword_begins, sword_dance, sword_drop, sword_drop_nothing, sword_leave, sword_lengths,
-    sword_login, sword_look, sword_look_around, sword_look_in_other_letters, sword_take,
-    sword_take_again,
-};
 pub use timers::{
     once_fails, timer_begins, timer_ends, timer_fails, timer_goes_on, timer_is_over, timer_skips,
 };
@@ -32,5 +27,4 @@ mod histories;
 mod outboxes;
 mod picks;
 mod sessions;
-mod swords;
 mod timers;

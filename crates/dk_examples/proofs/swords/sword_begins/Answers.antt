@@ -1,5 +1,0 @@
-use Rattle.dk_examples.proofs.SwordRuns.{sword_begins}
-use Rattle.dk_examples.proofs.swords.sword_begins.Goals as goal
-
-pub returns : goal.returns
-returns c = sword_begins

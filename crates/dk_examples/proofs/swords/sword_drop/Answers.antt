@@ -1,5 +1,0 @@
-use Rattle.dk_examples.proofs.SwordRuns.{sword_drop}
-use Rattle.dk_examples.proofs.swords.sword_drop.Goals as goal
-
-pub returns : goal.returns
-returns c = sword_drop

@@ -1,5 +1,0 @@
-use Rattle.dk_examples.proofs.SwordRuns.{sword_lengths}
-use Rattle.dk_examples.proofs.swords.sword_lengths.Goals as goal
-
-pub returns : goal.returns
-returns c = sword_lengths

@@ -1,5 +1,0 @@
-use Rattle.dk_examples.proofs.SwordRuns.{sword_login}
-use Rattle.dk_examples.proofs.swords.sword_login.Goals as goal
-
-pub returns : goal.returns
-returns c = sword_login

@@ -1,5 +1,0 @@
-use Rattle.dk_examples.proofs.SwordRuns.{sword_look_around}
-use Rattle.dk_examples.proofs.swords.sword_look_around.Goals as goal
-
-pub returns : goal.returns
-returns c = sword_look_around

@@ -1,5 +1,0 @@
-use Rattle.dk_examples.proofs.SwordRuns.{sword_take_again}
-use Rattle.dk_examples.proofs.swords.sword_take_again.Goals as goal
-
-pub returns : goal.returns
-returns c = sword_take_again

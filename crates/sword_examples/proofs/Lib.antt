@@ -1,0 +1,2 @@
+pub mod SwordRuns
+pub mod SwordHistoryRuns

@@ -1,0 +1,2 @@
+pub mod SwordRows
+pub mod SwordHistories
