@@ -24,7 +24,7 @@ impl From<NoMemory> for PostRefused {
 }
 
 /// The messages that were handed, and whether the connection is gone.
-#[derive(Debug, Drop)]
+#[derive(Drop)]
 pub struct Handed {
     pub outs: Listed<Out>,
     pub end: bool,

@@ -22,9 +22,9 @@ pub(crate) struct Tree<K, V> {
 #[derive(Drop)]
 pub(crate) struct Node<K, V> {
     // What a search reads stands together, before the value.
+    key: K,
     left: Tree<K, V>,
     right: Tree<K, V>,
-    key: K,
     value: V,
 }
 
