@@ -24,9 +24,7 @@ impl Counting {
 }
 
 impl View for Counting {
-    ghost use Rattle.dk_txn.specs.Sights.{steady};
-
-    ghost sights = { steady (λ view item read. Unit {0}) };
+    ghost sights = { record { gave = λ view item read. Unit {0}; becomes = λ u v. Unit {0}; stays = λ v. tt; goes_on = λ u v w a b. tt; keeps = λ u v same item read h. tt } };
 
     fn read(&mut self, item: &Item) -> Result<Read, NoMemory> {
         self.asked = self.asked.saturating_add(1);
