@@ -31,7 +31,7 @@ fn empty(alloc: Global) -> Blob
 
 /// The task that raises the counter 7 each millisecond.
 fn plan<V: View>(alloc: Global, txn: &mut Txn<'_, V>) -> Result<(), Halt>
-    ensures { Does V.gave halt_fault txn.old txn.new rules.plan result }
+    ensures { Does V.sights halt_fault txn.old txn.new rules.plan result }
 {
     let arg = Blob::copy_of(alloc, &[7])?;
     txn.schedule_periodic(1, arg, 1, 1)?;
@@ -39,14 +39,14 @@ fn plan<V: View>(alloc: Global, txn: &mut Txn<'_, V>) -> Result<(), Halt>
 }
 
 fn begin<V: View>(alloc: Global, txn: &mut Txn<'_, V>) -> Result<(), Halt>
-    ensures { Does V.gave halt_fault txn.old txn.new rules.begin result }
+    ensures { Does V.sights halt_fault txn.old txn.new rules.begin result }
 {
     make_all(alloc, txn)?;
     plan(alloc, txn)
 }
 
 fn fill<V: View>(alloc: Global, txn: &mut Txn<'_, V>, objects: u32) -> Result<(), Halt>
-    ensures { Does V.gave halt_fault txn.old txn.new (rules.fill objects) result }
+    ensures { Does V.sights halt_fault txn.old txn.new (rules.fill objects) result }
 {
     for made in 0..objects {
         txn.create(FILLING, empty(alloc))?;
@@ -56,14 +56,14 @@ fn fill<V: View>(alloc: Global, txn: &mut Txn<'_, V>, objects: u32) -> Result<()
 
 /// A task that is due last.
 fn put_off<V: View>(alloc: Global, txn: &mut Txn<'_, V>) -> Result<(), Halt>
-    ensures { Does V.gave halt_fault txn.old txn.new rules.put_off result }
+    ensures { Does V.sights halt_fault txn.old txn.new rules.put_off result }
 {
     txn.schedule(1, empty(alloc), DELAY_MOST_MS)?;
     Ok(())
 }
 
 fn enter<V: View>(alloc: Global, txn: &mut Txn<'_, V>, objects: u32) -> Result<(), Halt>
-    ensures { Does V.gave halt_fault txn.old txn.new (rules.enter objects) result }
+    ensures { Does V.sights halt_fault txn.old txn.new (rules.enter objects) result }
 {
     fill(alloc, txn, objects)?;
     put_off(alloc, txn)

@@ -33,6 +33,7 @@ use Rattle.dk_channels.specs.AllMembers.{first_of, wrong_kind_of, if_session, by
 use Rattle.dk_channels.proofs.Drops.{rest_is}
 use Rattle.dk_channels.proofs.Tellings.{first_is, second_is}
 use Rattle.dk_channels.proofs.Looks.{IsSaved, IsDropped, save_ok, save_long, kinds_saved, lengths_saved, looked, look_other, channel_stands, dropped, first_alike, none_long, not_session_is}
+use Rattle.dk_txn.specs.Sights.{Sights}
 
 -- the mode has no part in it
 pub found_moded : {A : Type 0} (r : Result A Refusal) (t b c u : Logged) (first last : Mode) (sort : ℕ → Refusal) (found : DurableWorld → Option ℕ) → b ≡ record t { mode = first } → u ≡ record c { mode = last }
@@ -54,23 +55,23 @@ found_at : (before after : Logged) (members : List Session) (i : ℕ) (m : Sessi
     → (d : DurableWorld) → Agrees d after.reads → first_of find members (current before d).world ≡ option_or (find m (current after d).world) (first_of find (drop (i + 1) members) (current after d).world)
 found_at before after members i m more at find later d agrees = later d agrees ∙ ap (λ ms. first_of find ms (current after d).world) (rest_is members i m more at)
 
-module _ {S : Type 0} {gave : S → Item → Read → Type 0} where
+module _ {S : Type 0} {sights : Sights S} where
   -- a refusal by another number tells nothing
   found_never : {a b : Txn S Logged} {A : Type 0} {f : Act A} {e : Refusal} (k : ℕ) (sort : ℕ → Refusal) (before : Logged) (found : DurableWorld → Option ℕ) → ((n : ℕ) → refusal_fault (sort n) ≡ Some (Refused k)) → Avoids k f
-      → Does gave refusal_fault a b f (Err e) → TellsFound sort before b.log found e
+      → Does sights refusal_fault a b f (Err e) → TellsFound sort before b.log found e
   found_never {a = a} {b = b} k sort before found number never p n is d agrees = absurd (never (current a.log d) (current b.log d) (p.does (Err (Refused k)) (ap (λ (h : Refusal). failure (refusal_fault h)) is ∙ ap failure (number n)) d agrees))
 
   -- one that is none over a kind, or none over a length, and is passed on
   pub kind_unfound : {a b : Txn S Logged} {A B : Type 0} {f : Act A} {e : Refusal} (r : Result B Refusal) (before : Logged) (found : DurableWorld → Option ℕ) → Avoids 3 f
-      → Does gave refusal_fault a b f (Err e) → IsErrAnd r (λ h. h ≡ e) → IfErr r (TellsFound refusal.WrongKind before b.log found)
+      → Does sights refusal_fault a b f (Err e) → IsErrAnd r (λ h. h ≡ e) → IfErr r (TellsFound refusal.WrongKind before b.log found)
   kind_unfound {b = b} {e = e} r before found never p is = passed (TellsFound refusal.WrongKind before b.log found) e r is (found_never 3 refusal.WrongKind before found (λ n. refl) never p)
 
   pub length_unfound : {a b : Txn S Logged} {A B : Type 0} {f : Act A} {e : Refusal} (r : Result B Refusal) (before : Logged) (found : DurableWorld → Option ℕ) → Avoids 4 f
-      → Does gave refusal_fault a b f (Err e) → IsErrAnd r (λ h. h ≡ e) → IfErr r (TellsFound refusal.TooLong before b.log found)
+      → Does sights refusal_fault a b f (Err e) → IsErrAnd r (λ h. h ≡ e) → IfErr r (TellsFound refusal.TooLong before b.log found)
   length_unfound {b = b} {e = e} r before found never p is = passed (TellsFound refusal.TooLong before b.log found) e r is (found_never 4 refusal.TooLong before found (λ n. refl) never p)
 
   -- the record of a member is of another kind
-  pub member_kind : {a b : Txn S Logged} {A : Type 0} {e : Refusal} (r : Result A Refusal) (m : Session) → Does gave refusal_fault a b (record_if_connected m) (Err e) → SameChanges a.log b.log
+  pub member_kind : {a b : Txn S Logged} {A : Type 0} {e : Refusal} (r : Result A Refusal) (m : Session) → Does sights refusal_fault a b (record_if_connected m) (Err e) → SameChanges a.log b.log
       → TellsKindOf b.log (kind_under (session_name m.name)) e → IsErrAnd r (λ h. h ≡ e) → IfErr r (TellsFound refusal.WrongKind a.log b.log (wrong_kind_of m))
   member_kind {a = a} {b = b} {e = e} r m p same told is = passed (TellsFound refusal.WrongKind a.log b.log (wrong_kind_of m)) e r is by
     where
@@ -82,13 +83,13 @@ module _ {S : Type 0} {gave : S → Item → Read → Type 0} where
           not_session_is (kind_under (session_name m.name) (current a.log d).world) n has (look_other m (current a.log d) (current b.log d) refused)
 
   -- a save is refused over no kind
-  pub saving_kind : {a b : Txn S Logged} {r : Result (Unit {0}) Refusal} (id : ObjectId) (bytes : List ℕ) (before : Logged) (found : DurableWorld → Option ℕ) → Does gave refusal_fault a b (act.save id bytes) r → IfErr r (TellsFound refusal.WrongKind before b.log found)
+  pub saving_kind : {a b : Txn S Logged} {r : Result (Unit {0}) Refusal} (id : ObjectId) (bytes : List ℕ) (before : Logged) (found : DurableWorld → Option ℕ) → Does sights refusal_fault a b (act.save id bytes) r → IfErr r (TellsFound refusal.WrongKind before b.log found)
   saving_kind {r = Ok u} id bytes before found p = tt
   saving_kind {r = Err e} id bytes before found p = found_never 3 refusal.WrongKind before found (λ n. refl) (save_avoids id bytes) p
 
   -- the record of a member is too long without the channel
-  pub member_length : {a b c : Txn S Logged} {r : Result (Unit {0}) Refusal} (name : List ℕ) (m : Session) (x : ObjectId × SessionRecord) → Does gave refusal_fault a b (record_if_connected m) (Ok (Some x))
-      → Does gave refusal_fault b c (act.save x.0 (bytes_without name x.1)) r → IfErr r (TellsLength (bytes_without name x.1)) → IfErr r (TellsFound refusal.TooLong a.log c.log (long_record_of name m))
+  pub member_length : {a b c : Txn S Logged} {r : Result (Unit {0}) Refusal} (name : List ℕ) (m : Session) (x : ObjectId × SessionRecord) → Does sights refusal_fault a b (record_if_connected m) (Ok (Some x))
+      → Does sights refusal_fault b c (act.save x.0 (bytes_without name x.1)) r → IfErr r (TellsLength (bytes_without name x.1)) → IfErr r (TellsFound refusal.TooLong a.log c.log (long_record_of name m))
   member_length {r = Ok u} name m x p q told = tt
   member_length {a = a} {b = b} {c = c} {r = Err e} name m x p q told = λ n is d agrees.
       let l = looked name m (Some x) (current a.log d) (current b.log d) (p.does (Ok (Some x)) refl d (agreed q.keeps d agrees)) in
@@ -98,25 +99,25 @@ module _ {S : Type 0} {gave : S → Item → Read → Type 0} where
 
   module _ {b c : Txn S Logged} (name : List ℕ) (before : Logged) (members : List Session) (i : ℕ) (m : Session) (more : i < length members) (at : m ≡ get_or members i m) where
     next : (find : Session → DurableWorld → Option ℕ) → ((a b : DurableWorld) → IsDropped name m a b → find m a ≡ None) → ((a b : DurableWorld) → IsDropped name m a b → (k : Session) → find k b ≡ find k a)
-        → FoundLater find before b.log members i → Does gave refusal_fault b c (drop_channel name m) (Ok tt) → FoundLater find before c.log members (i + 1)
+        → FoundLater find before b.log members i → Does sights refusal_fault b c (drop_channel name m) (Ok tt) → FoundLater find before c.log members (i + 1)
     next find none alike later q d agrees =
         let done = dropped name m (current b.log d) (current c.log d) (q.does (Ok tt) refl d agrees) in
         found_at before b.log members i m more at find later d (agreed q.keeps d agrees) ∙ ap (λ o. option_or o (first_of find (drop (i + 1) members) (current b.log d).world)) (none _ _ done) ∙ sym (first_alike find (drop (i + 1) members) _ _ (alike _ _ done))
 
     -- behind a member that was dropped
-    pub later_kinds : FoundLater wrong_kind_of before b.log members i → Does gave refusal_fault b c (drop_channel name m) (Ok tt) → FoundLater wrong_kind_of before c.log members (i + 1)
+    pub later_kinds : FoundLater wrong_kind_of before b.log members i → Does sights refusal_fault b c (drop_channel name m) (Ok tt) → FoundLater wrong_kind_of before c.log members (i + 1)
     later_kinds later q = next wrong_kind_of (λ _ _ done. done.kind) (λ _ _ done. done.kinds) later q
 
-    pub later_lengths : FoundLater (long_record_of name) before b.log members i → Does gave refusal_fault b c (drop_channel name m) (Ok tt) → FoundLater (long_record_of name) before c.log members (i + 1)
+    pub later_lengths : FoundLater (long_record_of name) before b.log members i → Does sights refusal_fault b c (drop_channel name m) (Ok tt) → FoundLater (long_record_of name) before c.log members (i + 1)
     later_lengths later q = next (long_record_of name) (λ _ _ done. done.length) (λ _ _ done. done.lengths) later q
 
     -- what the refusal over this member tells, it tells of the first of all
-    pub later_tells : {A : Type 0} {e : Refusal} (r : Result A Refusal) (find : Session → DurableWorld → Option ℕ) (sort : ℕ → Refusal) → FoundLater find before b.log members i → Does gave refusal_fault b c (drop_channel name m) (Err e)
+    pub later_tells : {A : Type 0} {e : Refusal} (r : Result A Refusal) (find : Session → DurableWorld → Option ℕ) (sort : ℕ → Refusal) → FoundLater find before b.log members i → Does sights refusal_fault b c (drop_channel name m) (Err e)
         → TellsFound sort b.log c.log (find m) e → IsErrAnd r (λ h. h ≡ e) → IfErr r (TellsFound sort before c.log (first_of find members))
     later_tells {e = e} r find sort later q told is = passed (TellsFound sort before c.log (first_of find members)) e r is (λ n is d agrees.
         found_at before b.log members i m more at find later d (agreed q.keeps d agrees) ∙ ap (λ o. option_or o (first_of find (drop (i + 1) members) (current b.log d).world)) (told n is d agrees))
 
-  module _ {a b c : Txn S Logged} (id : ObjectId) (bytes : List ℕ) (members : List Session) (p : Does gave refusal_fault a b (act.save id bytes) (Ok tt)) (k : Keeps gave b c) where
+  module _ {a b c : Txn S Logged} (id : ObjectId) (bytes : List ℕ) (members : List Session) (p : Does sights refusal_fault a b (act.save id bytes) (Ok tt)) (k : Keeps sights b c) where
     saved : (d : DurableWorld) → Agrees d c.log.reads → IsSaved id bytes (current a.log d) (current b.log d)
     saved d agrees = save_ok id bytes (current a.log d) (current b.log d) (p.does (Ok tt) refl d (agreed k d agrees))
 
@@ -130,7 +131,7 @@ module _ {S : Type 0} {gave : S → Item → Read → Type 0} where
         sym (first_alike (long_record_of name) members _ _ (lengths_saved id bytes _ _ (saved d agrees) name none)) ∙ told n is d agrees) told
 
   -- the channel's record is of another kind
-  pub channel_kind : {a b : Txn S Logged} {A : Type 0} {e : Refusal} (r : Result A Refusal) (name : List ℕ) → Does gave refusal_fault a b (channel_under name) (Err e) → TellsKindOf b.log (kind_under (channel_name name)) e → IsErrAnd r (λ h. h ≡ e)
+  pub channel_kind : {a b : Txn S Logged} {A : Type 0} {e : Refusal} (r : Result A Refusal) (name : List ℕ) → Does sights refusal_fault a b (channel_under name) (Err e) → TellsKindOf b.log (kind_under (channel_name name)) e → IsErrAnd r (λ h. h ≡ e)
       → IfErr r (TellsFound refusal.WrongKind a.log b.log (kind_of_all name))
   channel_kind {a = a} {b = b} {e = e} r name p told is = passed (TellsFound refusal.WrongKind a.log b.log (kind_of_all name)) e r is by
     where
@@ -141,7 +142,7 @@ module _ {S : Type 0} {gave : S → Item → Read → Type 0} where
           let told_here = subst (TellsKindOf b.log (kind_under (channel_name name))) is told in
           first_is (kind_under (channel_name name) (current a.log d).world) _ n (subst (λ (s : Run). kind_under (channel_name name) s.world ≡ Some n) o.same (told_here d agrees)) o.other
 
-  module _ {a b c : Txn S Logged} (name : List ℕ) (x : ObjectId × ChannelRecord) (p : Does gave refusal_fault a b (channel_under name) (Ok x)) (k : Keeps gave b c) where
+  module _ {a b c : Txn S Logged} (name : List ℕ) (x : ObjectId × ChannelRecord) (p : Does sights refusal_fault a b (channel_under name) (Ok x)) (k : Keeps sights b c) where
     -- the record that was found is a channel's
     pub found_channel : IsChannel b.log c.log x.0
     found_channel d agrees =

@@ -26,6 +26,7 @@ use Rattle.dk_txn.proofs.Kit.{keeps_all, keeps_then, agreed}
 use Rattle.dk_txn.proofs.ObjectCalls.{refused_here}
 use Rattle.dk_overlay.proofs.Tests.{Some_injective}
 use Rattle.dk_channels.specs.Sendings.{AreSent}
+use Rattle.dk_txn.specs.Sights.{Sights}
 
 map_last : {A B : Type 0} (f : A → B) (xs : List A) (x : A) → map f (xs ++ x ∷ []) ≡ map f xs ++ f x ∷ []
 map_last f [] x = refl
@@ -63,21 +64,21 @@ more outs message members i m h is =
     ∙ ap (λ l. outs ++ map (λ m. (m.conn, message)) l) (sym (take_more members i m h))
 
 -- a body is too long
-pub refuses_long : {S A : Type 0} {gave : S → Item → Read → Type 0} {a : Txn S Logged} {e : Refusal} → refusal_fault e ≡ Some (Refused TOO_LONG) → Does gave refusal_fault a a (refuse {A = A} TOO_LONG) (Err e)
+pub refuses_long : {S A : Type 0} {sights : Sights S} {a : Txn S Logged} {e : Refusal} → refusal_fault e ≡ Some (Refused TOO_LONG) → Does sights refusal_fault a a (refuse {A = A} TOO_LONG) (Err e)
 refuses_long {A = A} told = refused_here {f = refuse {A = A} TOO_LONG} (Refused TOO_LONG) told (λ d. refl)
 
-module _ {S : Type 0} {gave : S → Item → Read → Type 0} (members : List Session) (message : Out) where
+module _ {S : Type 0} {sights : Sights S} (members : List Session) (message : Out) where
   -- where there is no room for all, it is refused
-  pub each_full : {a : Txn S Logged} → nat_lt MESSAGES_MOST_COUNT (length a.log.outs + length members) ≡ true → Does gave refusal_fault a a (send_each members message) (Err refusal.TooMany)
+  pub each_full : {a : Txn S Logged} → nat_lt MESSAGES_MOST_COUNT (length a.log.outs + length members) ≡ true → Does sights refusal_fault a a (send_each members message) (Err refusal.TooMany)
   each_full full = refused_here (Refused 8) refl (λ d. rw full refl)
 
   -- at first nobody was sent it
-  pub sent_none : {a : Txn S Logged} → AreSent gave a a members message 0
+  pub sent_none : {a : Txn S Logged} → AreSent sights a a members message 0
   sent_none {a = a} = record { keeps = keeps_all; sent = λ d agrees. ap (λ l. record (current a.log d) { outs = l }) (sym (append-nil a.log.outs)) }
 
-  module _ {a b : Txn S Logged} (i : ℕ) (so_far : AreSent gave a b members message i) where
+  module _ {a b : Txn S Logged} (i : ℕ) (so_far : AreSent sights a b members message i) where
     -- there was no memory
-    pub each_starves : {r : Result (Unit {0}) Refusal} → IsErrAnd r (λ h. h ≡ refusal.NoMemory) → Does gave refusal_fault a b (send_each members message) r
+    pub each_starves : {r : Result (Unit {0}) Refusal} → IsErrAnd r (λ h. h ≡ refusal.NoMemory) → Does sights refusal_fault a b (send_each members message) r
     each_starves {r = Err h} is = record { keeps = so_far.keeps; does = λ s t. cc (subst (λ h. failure (refusal_fault h) ≡ Some s) is t) }
     each_starves {r = Ok x} is = absurd is
 
@@ -89,7 +90,7 @@ module _ {S : Type 0} {gave : S → Item → Read → Type 0} (members : List Se
           ∙ send_ok m.conn message (record (current a.log d) { outs = a.log.outs ++ map (λ m. (m.conn, message)) (take i members) }) short (room a.log.outs (λ m. (m.conn, message)) members i fits h)
 
       -- one more member is sent it
-      pub sent_more : {c : Txn S Logged} → m ≡ get_or members i m → Does gave refusal_fault b c (act.send m.conn message) (Ok tt) → AreSent gave a c members message (i + 1)
+      pub sent_more : {c : Txn S Logged} → m ≡ get_or members i m → Does sights refusal_fault b c (act.send m.conn message) (Ok tt) → AreSent sights a c members message (i + 1)
       sent_more is p = record {
         keeps = keeps_then so_far.keeps p.keeps;
         sent = λ d agrees.
@@ -98,7 +99,7 @@ module _ {S : Type 0} {gave : S → Item → Read → Type 0} (members : List Se
       }
 
       -- it is never refused
-      pub each_stops : {c : Txn S Logged} {e : Refusal} {r : Result (Unit {0}) Refusal} → Does gave refusal_fault b c (act.send m.conn message) (Err e) → IsErrAnd r (λ h. h ≡ e) → Does gave refusal_fault a c (send_each members message) r
+      pub each_stops : {c : Txn S Logged} {e : Refusal} {r : Result (Unit {0}) Refusal} → Does sights refusal_fault b c (act.send m.conn message) (Err e) → IsErrAnd r (λ h. h ≡ e) → Does sights refusal_fault a c (send_each members message) r
       each_stops {e = e} {r = Err q} p is = record {
         keeps = keeps_then so_far.keeps p.keeps;
         does = λ s t d agrees. refused_never (refusal_fault e) s (subst (λ q. failure (refusal_fault q) ≡ Some s) is t)
@@ -107,7 +108,7 @@ module _ {S : Type 0} {gave : S → Item → Read → Type 0} (members : List Se
       each_stops {r = Ok x} p is = absurd is
 
     -- all were sent it
-    pub each_does : nat_lt MESSAGES_MOST_COUNT (length a.log.outs + length members) ≡ false → length members ≤ i → Does gave refusal_fault a b (send_each members message) (Ok tt)
+    pub each_does : nat_lt MESSAGES_MOST_COUNT (length a.log.outs + length members) ≡ false → length members ≤ i → Does sights refusal_fault a b (send_each members message) (Ok tt)
     each_does fits all = record {
       keeps = so_far.keeps;
       does = λ s t d agrees.

@@ -32,6 +32,7 @@ use Rattle.dk_refs.proofs.Tellings.{Avoids, answers, refuses, give_avoids, refus
 use Rattle.dk_refs.proofs.Standing.{stands, is_other}
 use Rattle.dk_channels.specs.Channels.{recorded}
 use Rattle.dk_channels.specs.BothRecords.{other_kind, kind_of_records, of_both, records_after}
+use Rattle.dk_txn.specs.Sights.{Sights}
 
 pub recorded_avoids : (name : List ℕ) (n : ℕ) → Avoids n (recorded name)
 unfolding recorded
@@ -103,16 +104,16 @@ kinds_as t old new refusal.TooMany h told = tt
 kinds_as t old new refusal.NameExists h told = tt
 kinds_as t old new refusal.BadBytes h told = tt
 
-module _ {S : Type 0} {gave : S → Item → Read → Type 0} where
+module _ {S : Type 0} {sights : Sights S} where
   -- the record is of another kind
-  pub record_kind : {a b c : Txn S Logged} {id : ObjectId} {A B : Type 0} {f : Act A} {e : Refusal} (r : Result B Refusal) (name : List ℕ) → Does gave refusal_fault a b (recorded name) (Ok (Some id))
-      → Does gave refusal_fault b c f (Err e) → SameChanges b.log c.log → TellsKind c.log id e → IsErrAnd r (λ h. h ≡ e) → IfErr r (TellsKindOf c.log (kind_under (channel_name name)))
+  pub record_kind : {a b c : Txn S Logged} {id : ObjectId} {A B : Type 0} {f : Act A} {e : Refusal} (r : Result B Refusal) (name : List ℕ) → Does sights refusal_fault a b (recorded name) (Ok (Some id))
+      → Does sights refusal_fault b c f (Err e) → SameChanges b.log c.log → TellsKind c.log id e → IsErrAnd r (λ h. h ≡ e) → IfErr r (TellsKindOf c.log (kind_under (channel_name name)))
   unfolding recorded
   record_kind r name p q same told is = kind_found r (channel_name name) p q same told is
 
   module _ (name : List ℕ) (session : Session) where
     -- the channel's record is of another kind
-    pub first_kind : {a b : Txn S Logged} {e : Refusal} (r : Result (Unit {0}) Refusal) → Does gave refusal_fault a b (channel_under name) (Err e) → TellsKindOf b.log (kind_under (channel_name name)) e
+    pub first_kind : {a b : Txn S Logged} {e : Refusal} (r : Result (Unit {0}) Refusal) → Does sights refusal_fault a b (channel_under name) (Err e) → TellsKindOf b.log (kind_under (channel_name name)) e
         → IsErrAnd r (λ h. h ≡ e) → IfErr r (TellsKindOf b.log (kind_of_records name session))
     first_kind {a = a} {b = b} {e = e} r p told is = passed (TellsKindOf b.log (kind_of_records name session)) e r is (kinds_as b.log (kind_under (channel_name name)) (kind_of_records name session) e by told)
       where
@@ -122,9 +123,9 @@ module _ {S : Type 0} {gave : S → Item → Read → Type 0} where
             let o = is_other CHANNEL_KIND channel_of (current a.log d) (current b.log d) (channel_name name) refused in
             first_is (kind_under (channel_name name) (current b.log d).world) _ kind has (λ same. o.other (subst (λ (s : Run). kind_under (channel_name name) s.world ≡ Some CHANNEL_KIND) o.same same))
 
-    module _ {a b : Txn S Logged} {x : ObjectId × ChannelRecord} (p : Does gave refusal_fault a b (channel_under name) (Ok x)) where
+    module _ {a b : Txn S Logged} {x : ObjectId × ChannelRecord} (p : Does sights refusal_fault a b (channel_under name) (Ok x)) where
       -- the session's record is of another kind
-      pub second_kind : {c : Txn S Logged} {e : Refusal} (r : Result (Unit {0}) Refusal) → Does gave refusal_fault b c (own_record session) (Err e) → SameChanges b.log c.log → TellsKindOf c.log (kind_under (session_name session.name)) e
+      pub second_kind : {c : Txn S Logged} {e : Refusal} (r : Result (Unit {0}) Refusal) → Does sights refusal_fault b c (own_record session) (Err e) → SameChanges b.log c.log → TellsKindOf c.log (kind_under (session_name session.name)) e
           → IsErrAnd r (λ h. h ≡ e) → IfErr r (TellsKindOf c.log (kind_of_records name session))
       second_kind {c = c} {e = e} r q same told is = passed (TellsKindOf c.log (kind_of_records name session)) e r is (kinds_as c.log (kind_under (session_name session.name)) (kind_of_records name session) e by told)
         where
@@ -136,7 +137,7 @@ module _ {S : Type 0} {gave : S → Item → Read → Type 0} where
 
       -- both records were found, and one of them would be too long
       pub both_length : {c d : Txn S Logged} {y : ObjectId × SessionRecord} {f : Act (Unit {0})} (r : Result (Unit {0}) Refusal) (after : List ℕ → Session → ChannelRecord → SessionRecord → List ℕ)
-          → Does gave refusal_fault b c (own_record session) (Ok y) → Does gave refusal_fault c d f r → IfErr r (TellsLengthIn d.log (after name session x.1 y.1)) → IfErr r (TellsLengthOf a.log d.log (records_after after name session))
+          → Does sights refusal_fault b c (own_record session) (Ok y) → Does sights refusal_fault c d f r → IfErr r (TellsLengthIn d.log (after name session x.1 y.1)) → IfErr r (TellsLengthOf a.log d.log (records_after after name session))
       both_length (Ok u) after q h told = tt
       both_length {c = c} {d = d} {y = y} (Err e) after q h told = λ w agrees. subst (λ bytes. TellsLength bytes e) (sym (by w agrees)) (told w agrees)
         where

@@ -9,8 +9,9 @@ use Rattle.dk_overlay.specs.Logged.{Logged}
 use Rattle.dk_txn.specs.Current.{current}
 use Rattle.dk_txn.specs.declared.txn.Txn.{Txn}
 use Rattle.dk_txn.specs.Does.{Keeps}
+use Rattle.dk_txn.specs.Sights.{Sights}
 
 -- the first members were sent the message, and nothing else was done
-pub record AreSent {S : Type 0} (gave : S → Item → Read → Type 0) (a b : Txn S Logged) (members : List Session) (message : Out) (count : ℕ) : Type 0 where
-  pub keeps : Keeps gave a b
+pub record AreSent {S : Type 0} (sights : Sights S) (a b : Txn S Logged) (members : List Session) (message : Out) (count : ℕ) : Type 0 where
+  pub keeps : Keeps sights a b
   pub sent : (d : DurableWorld) → Agrees d b.log.reads → current b.log d ≡ record (current a.log d) { outs = a.log.outs ++ map (λ m. (m.conn, message)) (take count members) }

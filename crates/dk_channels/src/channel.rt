@@ -46,7 +46,7 @@ pub fn create_channel<V: View>(
     listener: bool,
     delivery: Delivery,
 ) -> Result<Channel, Refusal>
-    ensures does { Does V.gave refusal_fault txn.old txn.new (acts.create_channel name.now listener delivery) result }
+    ensures does { Does V.sights refusal_fault txn.old txn.new (acts.create_channel name.now listener delivery) result }
     ensures length { IfErr result (TellsLengthIn txn.new.log (channel_name name.now)) }
 {
     open_channel(alloc, txn, name, listener, delivery)?;
@@ -62,7 +62,7 @@ fn open_channel<V: View>(
     listener: bool,
     delivery: Delivery,
 ) -> Result<(), Refusal>
-    ensures does { Does V.gave refusal_fault txn.old txn.new (platform.create_channel name.now listener delivery) result }
+    ensures does { Does V.sights refusal_fault txn.old txn.new (platform.create_channel name.now listener delivery) result }
     ensures length { IfErr result (TellsLengthIn txn.new.log (channel_name name.now)) }
 {
     let before = txn.set_mode(Mode::Platform);
@@ -78,7 +78,7 @@ fn make_channel<V: View>(
     listener: bool,
     delivery: Delivery,
 ) -> Result<(), Refusal>
-    ensures does { Does V.gave refusal_fault txn.old txn.new (platform.new_channel name.now listener delivery) result }
+    ensures does { Does V.sights refusal_fault txn.old txn.new (platform.new_channel name.now listener delivery) result }
     ensures length { IfErr result (TellsLengthIn txn.new.log (channel_name name.now)) }
 {
     let key = match key_of(alloc, name)? {
@@ -99,7 +99,7 @@ fn record_under<V: View>(
     listener: bool,
     delivery: Delivery,
 ) -> Result<(), Refusal>
-    ensures does { Does V.gave refusal_fault txn.old txn.new (acts.recording key.now listener delivery) result }
+    ensures does { Does V.sights refusal_fault txn.old txn.new (acts.recording key.now listener delivery) result }
     ensures length { (bytes : List ℕ) → IfErr result (TellsLengthIn txn.new.log bytes) }
 {
     let record = ChannelRecord {
@@ -117,7 +117,7 @@ pub fn recorded<V: View>(
     txn: &mut Txn<'_, V>,
     name: &Name,
 ) -> Result<Option<ObjectId>, Refusal>
-    ensures { Does V.gave refusal_fault txn.old txn.new (acts.recorded name.now) result }
+    ensures { Does V.sights refusal_fault txn.old txn.new (acts.recorded name.now) result }
 {
     match key_of(alloc, name)? {
         None => Ok(None),
@@ -131,7 +131,7 @@ pub fn get_channel<V: View>(
     txn: &mut Txn<'_, V>,
     name: &Name,
 ) -> Result<Channel, Refusal>
-    ensures does { Does V.gave refusal_fault txn.old txn.new (acts.get_channel name.now) result }
+    ensures does { Does V.sights refusal_fault txn.old txn.new (acts.get_channel name.now) result }
     ensures length { IfErr result (TellsLengthIn txn.new.log (channel_name name.now)) }
 {
     find_channel(alloc, txn, name)?;
@@ -141,7 +141,7 @@ pub fn get_channel<V: View>(
 }
 
 fn find_channel<V: View>(alloc: Global, txn: &mut Txn<'_, V>, name: &Name) -> Result<(), Refusal>
-    ensures does { Does V.gave refusal_fault txn.old txn.new (platform.get_channel name.now) result }
+    ensures does { Does V.sights refusal_fault txn.old txn.new (platform.get_channel name.now) result }
     ensures length { IfErr result (TellsLengthIn txn.new.log (channel_name name.now)) }
 {
     match key_of(alloc, name)? {
@@ -159,7 +159,7 @@ pub fn record_of<V: View>(
     txn: &mut Txn<'_, V>,
     name: &Name,
 ) -> Result<(ManagedRef<ChannelRecord>, ChannelRecord), Refusal>
-    ensures does { Does V.gave refusal_fault txn.old txn.new (platform.channel_under name.now) result }
+    ensures does { Does V.sights refusal_fault txn.old txn.new (platform.channel_under name.now) result }
     ensures kind { IfErr result (TellsKindOf txn.new.log (kind_under (channel_name name.now))) }
 {
     match recorded(alloc, txn, name)? {
@@ -178,7 +178,7 @@ pub fn members<V: View>(
     txn: &mut Txn<'_, V>,
     channel: &Channel,
 ) -> Result<Listed<Session>, Refusal>
-    ensures does { Does V.gave refusal_fault txn.old txn.new (platform.members channel.now.name) result }
+    ensures does { Does V.sights refusal_fault txn.old txn.new (platform.members channel.now.name) result }
     ensures kind { IfErr result (TellsKindOf txn.new.log (kind_under (channel_name channel.now.name))) }
 {
     let (_, record) = record_of(alloc, txn, &channel.name)?;

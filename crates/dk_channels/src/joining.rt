@@ -25,7 +25,7 @@ pub fn join<V: View>(
     channel: &Channel,
     session: &Session,
 ) -> Result<(), Refusal>
-    ensures does { Does V.gave refusal_fault txn.old txn.new (platform.join channel.now.name session.now) result }
+    ensures does { Does V.sights refusal_fault txn.old txn.new (platform.join channel.now.name session.now) result }
     ensures kind { IfErr result (TellsKindOf txn.new.log (kind_of_records channel.now.name session.now)) }
     ensures length { IfErr result (TellsLengthOf txn.old.log txn.new.log (records_after joined channel.now.name session.now)) }
 {
@@ -41,7 +41,7 @@ fn enter<V: View>(
     name: &Name,
     session: &Session,
 ) -> Result<(), Refusal>
-    ensures does { Does V.gave refusal_fault txn.old txn.new (act.and_then (platform.channel_under name.now) (λ c. act.and_then (platform.own_record session.now) (λ r. platform.join_records name.now session.now c r))) result }
+    ensures does { Does V.sights refusal_fault txn.old txn.new (act.and_then (platform.channel_under name.now) (λ c. act.and_then (platform.own_record session.now) (λ r. platform.join_records name.now session.now c r))) result }
     ensures kind { IfErr result (TellsKindOf txn.new.log (kind_of_records name.now session.now)) }
     ensures length { IfErr result (TellsLengthOf txn.old.log txn.new.log (records_after joined name.now session.now)) }
 {
@@ -58,7 +58,7 @@ fn join_records<V: View>(
     channel: (ManagedRef<ChannelRecord>, ChannelRecord),
     own: (ManagedRef<SessionRecord>, SessionRecord),
 ) -> Result<(), Refusal>
-    ensures does { Does V.gave refusal_fault txn.old txn.new (platform.join_records name.now session.now channel own) result }
+    ensures does { Does V.sights refusal_fault txn.old txn.new (platform.join_records name.now session.now channel own) result }
     ensures length { IfErr result (TellsLengthIn txn.new.log (joined name.now session.now channel.1 own.1)) }
 {
     if is_member(session, channel.1.members.as_slice()) {

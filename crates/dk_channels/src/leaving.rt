@@ -28,7 +28,7 @@ pub fn leave<V: View>(
     channel: &Channel,
     session: &Session,
 ) -> Result<(), Refusal>
-    ensures does { Does V.gave refusal_fault txn.old txn.new (platform.leave channel.now.name session.now) result }
+    ensures does { Does V.sights refusal_fault txn.old txn.new (platform.leave channel.now.name session.now) result }
     ensures kind { IfErr result (TellsKindOf txn.new.log (kind_of_records channel.now.name session.now)) }
     ensures length { IfErr result (TellsLengthOf txn.old.log txn.new.log (records_after left channel.now.name session.now)) }
 {
@@ -44,7 +44,7 @@ fn step_out<V: View>(
     name: &Name,
     session: &Session,
 ) -> Result<(), Refusal>
-    ensures does { Does V.gave refusal_fault txn.old txn.new (act.and_then (platform.channel_under name.now) (λ c. act.and_then (platform.own_record session.now) (λ r. platform.leave_records name.now session.now c r))) result }
+    ensures does { Does V.sights refusal_fault txn.old txn.new (act.and_then (platform.channel_under name.now) (λ c. act.and_then (platform.own_record session.now) (λ r. platform.leave_records name.now session.now c r))) result }
     ensures kind { IfErr result (TellsKindOf txn.new.log (kind_of_records name.now session.now)) }
     ensures length { IfErr result (TellsLengthOf txn.old.log txn.new.log (records_after left name.now session.now)) }
 {
@@ -61,7 +61,7 @@ fn leave_records<V: View>(
     channel: (ManagedRef<ChannelRecord>, ChannelRecord),
     own: (ManagedRef<SessionRecord>, SessionRecord),
 ) -> Result<(), Refusal>
-    ensures does { Does V.gave refusal_fault txn.old txn.new (platform.leave_records name.now session.now channel own) result }
+    ensures does { Does V.sights refusal_fault txn.old txn.new (platform.leave_records name.now session.now channel own) result }
     ensures length { IfErr result (TellsLengthIn txn.new.log (left name.now session.now channel.1 own.1)) }
 {
     if !is_member(session, channel.1.members.as_slice()) {
@@ -88,7 +88,7 @@ pub fn leave_all<V: View>(
     txn: &mut Txn<'_, V>,
     channel: &Channel,
 ) -> Result<(), Refusal>
-    ensures does { Does V.gave refusal_fault txn.old txn.new (platform.leave_all channel.now.name) result }
+    ensures does { Does V.sights refusal_fault txn.old txn.new (platform.leave_all channel.now.name) result }
     ensures kind { IfErr result (TellsFound refusal.WrongKind txn.old.log txn.new.log (kind_of_all channel.now.name)) }
     ensures length { IfErr result (TellsFound refusal.TooLong txn.old.log txn.new.log (length_of_all channel.now.name)) }
     ensures never { IfErr result (NeverTooLong txn.old.log txn.new.log) }
@@ -100,7 +100,7 @@ pub fn leave_all<V: View>(
 }
 
 fn empty_out<V: View>(alloc: Global, txn: &mut Txn<'_, V>, name: &Name) -> Result<(), Refusal>
-    ensures does { Does V.gave refusal_fault txn.old txn.new (act.and_then (platform.channel_under name.now) (λ c. platform.leave_members name.now c c.1.members)) result }
+    ensures does { Does V.sights refusal_fault txn.old txn.new (act.and_then (platform.channel_under name.now) (λ c. platform.leave_members name.now c c.1.members)) result }
     ensures kind { IfErr result (TellsFound refusal.WrongKind txn.old.log txn.new.log (kind_of_all name.now)) }
     ensures length { IfErr result (TellsFound refusal.TooLong txn.old.log txn.new.log (length_of_all name.now)) }
 {
@@ -126,7 +126,7 @@ fn leave_members<V: View>(
     name: &Name,
     channel: (ManagedRef<ChannelRecord>, ChannelRecord),
 ) -> Result<(), Refusal>
-    ensures does { Does V.gave refusal_fault txn.old txn.new (platform.leave_members name.now channel channel.1.members) result }
+    ensures does { Does V.sights refusal_fault txn.old txn.new (platform.leave_members name.now channel channel.1.members) result }
     ensures kind { IfErr result (TellsFound refusal.WrongKind txn.old.log txn.new.log (first_of wrong_kind_of channel.1.members)) }
     ensures length { IsChannel txn.old.log txn.new.log channel.0 → IfErr result (TellsFound refusal.TooLong txn.old.log txn.new.log (first_of (long_record_of name.now) channel.1.members)) }
 {
@@ -146,7 +146,7 @@ fn drop_each<V: View>(
     name: &Name,
     members: &[Session],
 ) -> Result<(), Refusal>
-    ensures does { Does V.gave refusal_fault txn.old txn.new (platform.drop_each name.now members.now) result }
+    ensures does { Does V.sights refusal_fault txn.old txn.new (platform.drop_each name.now members.now) result }
     ensures kind { IfErr result (TellsFound refusal.WrongKind txn.old.log txn.new.log (first_of wrong_kind_of members.now)) }
     ensures length { IfErr result (TellsFound refusal.TooLong txn.old.log txn.new.log (first_of (long_record_of name.now) members.now)) }
 {
@@ -163,7 +163,7 @@ fn drop_channel<V: View>(
     name: &Name,
     session: &Session,
 ) -> Result<(), Refusal>
-    ensures does { Does V.gave refusal_fault txn.old txn.new (platform.drop_channel name.now session.now) result }
+    ensures does { Does V.sights refusal_fault txn.old txn.new (platform.drop_channel name.now session.now) result }
     ensures kind { IfErr result (TellsFound refusal.WrongKind txn.old.log txn.new.log (wrong_kind_of session.now)) }
     ensures length { IfErr result (TellsFound refusal.TooLong txn.old.log txn.new.log (long_record_of name.now session.now)) }
 {
@@ -179,7 +179,7 @@ fn drop_from<V: View>(
     name: &Name,
     own: (ManagedRef<SessionRecord>, SessionRecord),
 ) -> Result<(), Refusal>
-    ensures does { Does V.gave refusal_fault txn.old txn.new (act.save own.0 (bytes_without name.now own.1)) result }
+    ensures does { Does V.sights refusal_fault txn.old txn.new (act.save own.0 (bytes_without name.now own.1)) result }
     ensures length { IfErr result (TellsLength (bytes_without name.now own.1)) }
 {
     let (place, sessions) = own;

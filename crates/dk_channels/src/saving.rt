@@ -39,7 +39,7 @@ pub(crate) fn save_both<V: View>(
     channel: (ManagedRef<ChannelRecord>, ChannelRecord),
     session: (ManagedRef<SessionRecord>, SessionRecord),
 ) -> Result<(), Refusal>
-    ensures does { Does V.gave refusal_fault txn.old txn.new (platform.save_both channel.0 (channel_bytes channel.1) session.0 (session_bytes session.1)) result }
+    ensures does { Does V.sights refusal_fault txn.old txn.new (platform.save_both channel.0 (channel_bytes channel.1) session.0 (session_bytes session.1)) result }
     ensures length { IfErr result (TellsLengthIn txn.new.log (too_long_of (channel_bytes channel.1) (session_bytes session.1))) }
 {
     let first = channel.1.encode(alloc)?;
@@ -60,7 +60,7 @@ fn save_payloads<V: View>(
     second: ObjectId,
     behind: Blob,
 ) -> Result<(), Refusal>
-    ensures does { Does V.gave refusal_fault txn.old txn.new (act.and_then (act.save first payload) (λ _. act.save second behind)) result }
+    ensures does { Does V.sights refusal_fault txn.old txn.new (act.and_then (act.save first payload) (λ _. act.save second behind)) result }
     ensures length { (bytes : List ℕ) → act.is_too_long payload ≡ false → act.is_too_long behind ≡ false → IfErr result (TellsLengthIn txn.new.log bytes) }
 {
     txn.save(first, payload)?;

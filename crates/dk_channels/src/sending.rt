@@ -25,7 +25,7 @@ pub fn send<V: View>(
     sender: Option<&Session>,
     body: &Blob,
 ) -> Result<(), Refusal>
-    ensures does { Does V.gave refusal_fault txn.old txn.new (platform.channel_send channel.now.name (option_copied sender.entry) body.now) result }
+    ensures does { Does V.sights refusal_fault txn.old txn.new (platform.channel_send channel.now.name (option_copied sender.entry) body.now) result }
     ensures kind { IfErr result (TellsKindOf txn.new.log (kind_under (channel_name channel.now.name))) }
     ensures length { IfErr result (TellsLengthIn txn.new.log body.now) }
 {
@@ -56,7 +56,7 @@ fn send_each<V: View>(
     body: &Blob,
 ) -> Result<(), Refusal>
     requires { act.is_too_long body.now ≡ false }
-    ensures { Does V.gave refusal_fault txn.old txn.new (platform.send_each members.now (out.Channel channel.now body.now)) result }
+    ensures { Does V.sights refusal_fault txn.old txn.new (platform.send_each members.now (out.Channel channel.now body.now)) result }
 {
     if !txn.has_room_for(members.len() as u64) {
         return Err(Refusal::TooMany);

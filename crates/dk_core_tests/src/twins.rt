@@ -25,7 +25,7 @@ fn empty(alloc: Global) -> Blob
 
 /// An object under a name.
 fn make<V: View>(alloc: Global, txn: &mut Txn<'_, V>, name: &Name) -> Result<(), Halt>
-    ensures { Does V.gave halt_fault txn.old txn.new (rules.make name.now) result }
+    ensures { Does V.sights halt_fault txn.old txn.new (rules.make name.now) result }
 {
     let id = txn.create(TWIN_KIND, empty(alloc))?;
     txn.bind(name, id)?;
@@ -34,7 +34,7 @@ fn make<V: View>(alloc: Global, txn: &mut Txn<'_, V>, name: &Name) -> Result<(),
 
 /// A task that is due at once.
 fn plan<V: View>(alloc: Global, txn: &mut Txn<'_, V>) -> Result<(), Halt>
-    ensures { Does V.gave halt_fault txn.old txn.new rules.plan result }
+    ensures { Does V.sights halt_fault txn.old txn.new rules.plan result }
 {
     txn.schedule(1, empty(alloc), 0)?;
     Ok(())
@@ -42,7 +42,7 @@ fn plan<V: View>(alloc: Global, txn: &mut Txn<'_, V>) -> Result<(), Halt>
 
 /// The two objects, under the names a and c, and two tasks.
 fn begin<V: View>(alloc: Global, txn: &mut Txn<'_, V>) -> Result<(), Halt>
-    ensures { Does V.gave halt_fault txn.old txn.new rules.begin result }
+    ensures { Does V.sights halt_fault txn.old txn.new rules.begin result }
 {
     let first = Name::from_text(alloc, "a")?;
     let second = Name::from_text(alloc, "c")?;
@@ -54,7 +54,7 @@ fn begin<V: View>(alloc: Global, txn: &mut Txn<'_, V>) -> Result<(), Halt>
 
 /// What a name is bound to gets one byte.
 fn mark<V: View>(alloc: Global, txn: &mut Txn<'_, V>, name: &Name) -> Result<(), Halt>
-    ensures { Does V.gave halt_fault txn.old txn.new (rules.mark name.now) result }
+    ensures { Does V.sights halt_fault txn.old txn.new (rules.mark name.now) result }
 {
     let bytes = Blob::copy_of(alloc, b"x")?;
     let id = txn.bound(name)?;
@@ -64,7 +64,7 @@ fn mark<V: View>(alloc: Global, txn: &mut Txn<'_, V>, name: &Name) -> Result<(),
 
 /// A name is bound to what another is bound to.
 fn bind_too<V: View>(txn: &mut Txn<'_, V>, name: &Name, too: &Name) -> Result<(), Halt>
-    ensures { Does V.gave halt_fault txn.old txn.new (rules.bind_too name.now too.now) result }
+    ensures { Does V.sights halt_fault txn.old txn.new (rules.bind_too name.now too.now) result }
 {
     let id = txn.bound(name)?;
     txn.bind(too, id)?;
@@ -73,7 +73,7 @@ fn bind_too<V: View>(txn: &mut Txn<'_, V>, name: &Name, too: &Name) -> Result<()
 
 /// Both objects get a byte, and the name b is bound to the first.
 fn change<V: View>(alloc: Global, txn: &mut Txn<'_, V>) -> Result<(), Halt>
-    ensures { Does V.gave halt_fault txn.old txn.new rules.change result }
+    ensures { Does V.sights halt_fault txn.old txn.new rules.change result }
 {
     let first = Name::from_text(alloc, "a")?;
     let between = Name::from_text(alloc, "b")?;
@@ -90,7 +90,7 @@ fn answer<V: View>(
     conn: ConnNo,
     messages: usize,
 ) -> Result<(), Halt>
-    ensures { Does V.gave halt_fault txn.old txn.new (rules.answer messages conn) result }
+    ensures { Does V.sights halt_fault txn.old txn.new (rules.answer messages conn) result }
 {
     for i in 0..messages {
         txn.send(conn, Out::Message(empty(alloc)))?;

@@ -7,11 +7,12 @@ use Rattle.dk_overlay.specs.Logged.{Logged}
 use Rattle.dk_txn.specs.declared.txn.Txn.{Txn}
 use Rattle.dk_txn.specs.Does.{Leads}
 use Rattle.dk_demos.specs.Rules.{make, make_from, plan, plan_from}
+use Rattle.dk_txn.specs.Sights.{Sights}
 
-module _ {S : Type 0} {gave : S → Item → Read → Type 0} {a b : Txn S Logged} {whole : Act (Unit {0})} where
-  pub make_turn : (all number : ℕ) → number < all → Leads gave a b whole (make_from number (all - number)) → Leads gave a b whole (and_then (make number) (λ _. make_from (number + 1) (all - (number + 1))))
+module _ {S : Type 0} {sights : Sights S} {a b : Txn S Logged} {whole : Act (Unit {0})} where
+  pub make_turn : (all number : ℕ) → number < all → Leads sights a b whole (make_from number (all - number)) → Leads sights a b whole (and_then (make number) (λ _. make_from (number + 1) (all - (number + 1))))
   make_turn all number h p = let e : all - number ≡ suc (all - (number + 1)) = omega (arith, h) in rw e at p
 
-  pub plan_turn : (seed tasks before : ℕ) → before < tasks → Leads gave a b whole (plan_from seed before (tasks - before))
-      → Leads gave a b whole (and_then (plan seed (before + 1)) (λ _. plan_from seed (before + 1) (tasks - (before + 1))))
+  pub plan_turn : (seed tasks before : ℕ) → before < tasks → Leads sights a b whole (plan_from seed before (tasks - before))
+      → Leads sights a b whole (and_then (plan seed (before + 1)) (λ _. plan_from seed (before + 1) (tasks - (before + 1))))
   plan_turn seed tasks before h p = let e : tasks - before ≡ suc (tasks - (before + 1)) = omega (arith, h) in rw e at p

@@ -53,7 +53,7 @@ pub(crate) fn counter_name(alloc: Global, number: u8) -> Result<Name, NoMemory>
 /// A counter at 0, under its name.
 fn make<V: View>(alloc: Global, txn: &mut Txn<'_, V>, number: u8) -> Result<(), Halt>
     requires { number < 16 }
-    ensures { Does V.gave halt_fault txn.old txn.new (rules.make number) result }
+    ensures { Does V.sights halt_fault txn.old txn.new (rules.make number) result }
 {
     let name = counter_name(alloc, number)?;
     let counter = ManagedRef::create(alloc, txn, &Counter { count: 0 })?;
@@ -63,7 +63,7 @@ fn make<V: View>(alloc: Global, txn: &mut Txn<'_, V>, number: u8) -> Result<(), 
 
 /// The sixteen counters at 0, under their names.
 pub fn make_all<V: View>(alloc: Global, txn: &mut Txn<'_, V>) -> Result<(), Halt>
-    ensures { Does V.gave halt_fault txn.old txn.new (rules.make_from 0 16) result }
+    ensures { Does V.sights halt_fault txn.old txn.new (rules.make_from 0 16) result }
 {
     for number in 0..COUNTERS {
         make(alloc, txn, number)?;
@@ -80,7 +80,7 @@ pub(crate) fn counter_of_task(seed: u64, number: u32) -> u8
 
 /// The task of this number, due at once.
 fn plan<V: View>(alloc: Global, txn: &mut Txn<'_, V>, seed: u64, number: u32) -> Result<(), Halt>
-    ensures { Does V.gave halt_fault txn.old txn.new (rules.plan seed number) result }
+    ensures { Does V.sights halt_fault txn.old txn.new (rules.plan seed number) result }
 {
     let arg = Blob::copy_of(alloc, &[counter_of_task(seed, number)])?;
     txn.schedule(RAISE, arg, 0)?;
@@ -88,7 +88,7 @@ fn plan<V: View>(alloc: Global, txn: &mut Txn<'_, V>, seed: u64, number: u32) ->
 }
 
 fn plan_all<V: View>(alloc: Global, txn: &mut Txn<'_, V>, seed: u64, tasks: u32) -> Result<(), Halt>
-    ensures { Does V.gave halt_fault txn.old txn.new (rules.plan_from seed 0 tasks) result }
+    ensures { Does V.sights halt_fault txn.old txn.new (rules.plan_from seed 0 tasks) result }
 {
     for before in 0..tasks {
         plan(alloc, txn, seed, before + 1)?;
@@ -97,7 +97,7 @@ fn plan_all<V: View>(alloc: Global, txn: &mut Txn<'_, V>, seed: u64, tasks: u32)
 }
 
 fn begin<V: View>(alloc: Global, txn: &mut Txn<'_, V>, seed: u64, tasks: u32) -> Result<(), Halt>
-    ensures { Does V.gave halt_fault txn.old txn.new (rules.begin seed tasks) result }
+    ensures { Does V.sights halt_fault txn.old txn.new (rules.begin seed tasks) result }
 {
     make_all(alloc, txn)?;
     plan_all(alloc, txn, seed, tasks)
@@ -105,7 +105,7 @@ fn begin<V: View>(alloc: Global, txn: &mut Txn<'_, V>, seed: u64, tasks: u32) ->
 
 fn raise_at<V: View>(alloc: Global, txn: &mut Txn<'_, V>, number: u8) -> Result<(), Halt>
     requires { number < 16 }
-    ensures { Does V.gave halt_fault txn.old txn.new (rules.raise_at number) result }
+    ensures { Does V.sights halt_fault txn.old txn.new (rules.raise_at number) result }
 {
     let name = counter_name(alloc, number)?;
     let place = ManagedRef::<Counter>::of(txn.bound(&name)?);
@@ -116,7 +116,7 @@ fn raise_at<V: View>(alloc: Global, txn: &mut Txn<'_, V>, number: u8) -> Result<
 
 /// Raises a counter, where there is one of this number.
 fn raise_known<V: View>(alloc: Global, txn: &mut Txn<'_, V>, number: u8) -> Result<(), Halt>
-    ensures { Does V.gave halt_fault txn.old txn.new (rules.raise_known number) result }
+    ensures { Does V.sights halt_fault txn.old txn.new (rules.raise_known number) result }
 {
     if number >= COUNTERS {
         return Ok(());
@@ -126,7 +126,7 @@ fn raise_known<V: View>(alloc: Global, txn: &mut Txn<'_, V>, number: u8) -> Resu
 
 /// Raises the counter whose number is the first byte of a task's argument. Where there is none, it does nothing.
 pub fn raise<V: View>(alloc: Global, txn: &mut Txn<'_, V>, arg: &Blob) -> Result<(), Halt>
-    ensures { Does V.gave halt_fault txn.old txn.new (rules.raise arg.now) result }
+    ensures { Does V.sights halt_fault txn.old txn.new (rules.raise arg.now) result }
 {
     match arg.as_slice().first() {
         Some(number) => raise_known(alloc, txn, *number),

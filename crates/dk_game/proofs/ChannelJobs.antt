@@ -28,6 +28,7 @@ use Rattle.dk_txn.specs.Refusals.{refusal_fault}
 use Rattle.dk_txn.proofs.Kit.{keeps_then, agreed}
 use Rattle.dk_game.specs.declared.halt.Halt.{Halt}
 use Rattle.dk_game.specs.Halted.{halt_fault}
+use Rattle.dk_txn.specs.Sights.{Sights}
 
 -- whether a fault is that of a name that is not bound
 abbrev is_unbound : AppFault → Bool
@@ -108,25 +109,25 @@ module _ (session : Session) (channel body : List ℕ) (game : Act (Unit {0})) w
   stopped_on W (Some fault) before last other p s t d h =
       message_after (before d) ∙ ap (λ o. after o.0 o.1) (p fault refl d h) ∙ stops_so fault (is_unbound fault) (last d) (other fault refl) ∙ ap (λ r. (r, last d)) (Some_injective _ _ t)
 
-  module _ {S : Type 0} {gave : S → Item → Read → Type 0} {a b : Txn S Logged} where
+  module _ {S : Type 0} {sights : Sights S} {a b : Txn S Logged} where
     -- there is such a channel
     pub channel_does : {c : Txn S Logged} {x : ObjectId × ChannelRecord} {r : Result (Unit {0}) Halt}
-        → Does gave refusal_fault a b (channel_under channel) (Ok x) → Does gave halt_fault b c (heard session channel body game x.1) r → Does gave halt_fault a c (channel_message session channel body game) r
+        → Does sights refusal_fault a b (channel_under channel) (Ok x) → Does sights halt_fault b c (heard session channel body game x.1) r → Does sights halt_fault a c (channel_message session channel body game) r
     channel_does {x = x} p q = record {
       keeps = keeps_then p.keeps q.keeps;
       does = λ s t d agrees. message_after (current a.log d) ∙ ap (λ o. after o.0 o.1) (p.does (Ok x) refl d (agreed q.keeps d agrees)) ∙ q.does s t d agrees;
     }
 
     -- there is none
-    pub channel_none : Does gave refusal_fault a b (channel_under channel) (Err refusal.NameNotBound) → Does gave halt_fault a b (channel_message session channel body game) (Ok tt)
+    pub channel_none : Does sights refusal_fault a b (channel_under channel) (Err refusal.NameNotBound) → Does sights halt_fault a b (channel_message session channel body game) (Ok tt)
     channel_none p = record {
       keeps = p.keeps;
       does = λ s t d agrees. message_after (current a.log d) ∙ ap (λ o. after o.0 o.1) (p.does (Err (Refused NAME_NOT_BOUND)) refl d agrees) ∙ ap (λ r. (r, current b.log d)) (Some_injective _ _ t);
     }
 
     -- the look was refused over something else
-    pub channel_halts : {e : Refusal} {r : Result (Unit {0}) Halt} → Does gave refusal_fault a b (channel_under channel) (Err e) → (e ≡ refusal.NameNotBound → ⊥) → IsErrAnd r (λ h. halt_fault h ≡ refusal_fault e)
-        → Does gave halt_fault a b (channel_message session channel body game) r
+    pub channel_halts : {e : Refusal} {r : Result (Unit {0}) Halt} → Does sights refusal_fault a b (channel_under channel) (Err e) → (e ≡ refusal.NameNotBound → ⊥) → IsErrAnd r (λ h. halt_fault h ≡ refusal_fault e)
+        → Does sights halt_fault a b (channel_message session channel body game) r
     channel_halts {r = Ok x} p other is = absurd is
     channel_halts {e = e} {r = Err h} p other is = record {
       keeps = p.keeps;

@@ -15,6 +15,7 @@ use Rattle.dk_overlay.specs.Logged.{Logged, nothing_done}
 use Rattle.dk_txn.specs.Finishes.{told}
 use Rattle.dk_txn.specs.Knowing.{JobFits}
 use Rattle.dk_txn.specs.Law.{IsBegun}
+use Rattle.dk_txn.specs.Sights.{Sights}
 
 -- a transaction as it was begun
 pub begun_so : (t : Logged) (run : RunNo) (at : ℕ) → t ≡ nothing_done run at → IsBegun t
@@ -27,9 +28,9 @@ law_so rules j run at t (Ok f) start law = subst (λ (l : Logged). KeepsLaw rule
 law_so rules j run at t (Err e) start law = tt
 
 -- the reads were given by the view, also once it is had back
-pub given_back : {S : Type 0} {v u : S} (gave : S → Item → Read → Type 0) (result : Result Finished NoMemory) → v ≡ u
-    → IfOk result (λ f. AllByRecursion (λ r. gave v r.0 r.1) f.reads.items) → IfOk result (λ f. AllByRecursion (λ r. gave u r.0 r.1) f.reads.items)
-given_back gave result same given = subst (λ v. IfOk result (λ f. AllByRecursion (λ r. gave v r.0 r.1) f.reads.items)) same given
+pub given_back : {S : Type 0} {v u : S} (sights : Sights S) (result : Result Finished NoMemory) → v ≡ u
+    → IfOk result (λ f. AllByRecursion (λ r. sights.gave v r.0 r.1) f.reads.items) → IfOk result (λ f. AllByRecursion (λ r. sights.gave u r.0 r.1) f.reads.items)
+given_back sights result same given = subst (λ v. IfOk result (λ f. AllByRecursion (λ r. sights.gave v r.0 r.1) f.reads.items)) same given
 
 -- a job within its limits has the moments of a task within theirs
 pub job_fits : (j : Job) → IsJob j → JobFits j

@@ -22,10 +22,11 @@ use Rattle.dk_game.specs.declared.halt.Halt.{Halt}
 use Rattle.dk_game.specs.Halted.{halt_fault}
 use Rattle.dk_game.specs.Moving.{MayMove, AsksOwn}
 use Rattle.dk_game.proofs.Owning.{moves_own}
+use Rattle.dk_txn.specs.Sights.{Sights}
 
 -- a run that did the whole of its job, from its start, and tells what its end tells, keeps the law
-pub job_kept : {S : Type 0} {gave : S → Item → Read → Type 0} {a b : Txn S Logged} {r : Result (Unit {0}) Halt} (rules : Job → Act (Unit {0})) (j : Job) (end : Result (Unit {0}) AppFault) (f : Finished)
-    → IsBegun (a.log) → DoesFor (MayMove j) gave halt_fault a b (work j (within Game (rules j))) r → AsksOwn j b.log r → JobFits j → outcome_told halt_fault r ≡ Some end
+pub job_kept : {S : Type 0} {sights : Sights S} {a b : Txn S Logged} {r : Result (Unit {0}) Halt} (rules : Job → Act (Unit {0})) (j : Job) (end : Result (Unit {0}) AppFault) (f : Finished)
+    → IsBegun (a.log) → DoesFor (MayMove j) sights halt_fault a b (work j (within Game (rules j))) r → AsksOwn j b.log r → JobFits j → outcome_told halt_fault r ≡ Some end
     → f.reads.items ≡ b.log.reads → TellsEnd b.log j end f → KeepsLaw rules j a.log.run a.log.at f.reads.items (told f)
 job_kept {a = a} rules j end f start p asks fits is reads tells = record {
   keeps = λ d valid agrees new stands.

@@ -20,6 +20,7 @@ use Rattle.dk_txn.proofs.Kit.{does_as}
 use Rattle.dk_game.specs.declared.halt.Halt.{Halt}
 use Rattle.dk_game.specs.declared.halt.Halt.TheVariants as halt
 use Rattle.dk_game.specs.Halted.{halt_fault}
+use Rattle.dk_txn.specs.Sights.{Sights}
 
 -- what a login does where its name has a record, and where it has none
 abbrev turned_away : Session → Act (Unit {0})
@@ -33,8 +34,8 @@ login_as (Some id) session game s = refl
 login_as None session game s = refl
 
 -- a login is the question whether its name has a record, and what follows
-pub login_does : {S : Type 0} {gave : S → Item → Read → Type 0} {a b : Txn S Logged} {r : Result (Unit {0}) Halt} (session : Session) (game : Act (Unit {0}))
-    → Does gave halt_fault a b (and_then (is_recorded session.name) (λ there. if there then turned_away session else let_in session game)) r → Does gave halt_fault a b (login session game) r
+pub login_does : {S : Type 0} {sights : Sights S} {a b : Txn S Logged} {r : Result (Unit {0}) Halt} (session : Session) (game : Act (Unit {0}))
+    → Does sights halt_fault a b (and_then (is_recorded session.name) (λ there. if there then turned_away session else let_in session game)) r → Does sights halt_fault a b (login session game) r
 unfolding and_then is_recorded
 login_does session game p = does_as _ (λ s. login_as (platform_bound s (session_name session.name)) session game s) p
 
@@ -42,8 +43,8 @@ memory_told : {A : Type 0} (s : Result A AppFault) → failure None ≡ Some s �
 memory_told s t = cc
 
 -- want of memory tells nothing of what was to be done
-pub out_of_memory : {P : TaskKey → ℕ → Type 0} {S : Type 0} {gave : S → Item → Read → Type 0} {a b : Txn S Logged} {A : Type 0} {f : Act A} {r : Result A Halt}
-    → KeepsFor P gave a b → IsErrAnd r (λ h. h ≡ halt.NoMemory) → DoesFor P gave halt_fault a b f r
+pub out_of_memory : {P : TaskKey → ℕ → Type 0} {S : Type 0} {sights : Sights S} {a b : Txn S Logged} {A : Type 0} {f : Act A} {r : Result A Halt}
+    → KeepsFor P sights a b → IsErrAnd r (λ h. h ≡ halt.NoMemory) → DoesFor P sights halt_fault a b f r
 out_of_memory {r = Ok x} k is = absurd is
 out_of_memory {r = Err h} k is = record { keeps = k; does = λ s t d agrees. absurd (memory_told s (ap (λ x. failure (halt_fault x)) (sym is) ∙ t)) }
 
@@ -58,15 +59,15 @@ none_left [] (suc i) h = refl
 none_left (c ∷ channels) zero h = absurd (omega (arith, h))
 none_left (c ∷ channels) (suc i) h = none_left channels i (omega (arith, h))
 
-module _ {S : Type 0} {gave : S → Item → Read → Type 0} {a b : Txn S Logged} {f : Act (Unit {0})} (session : Session) (channels : List (List ℕ)) (i : ℕ) where
+module _ {S : Type 0} {sights : Sights S} {a b : Txn S Logged} {f : Act (Unit {0})} (session : Session) (channels : List (List ℕ)) (i : ℕ) where
   -- what is left at a channel begins with it
-  pub at_channel : (name x : List ℕ) → i < length channels → name ≡ get_or channels i x → Leads gave a b f (leave_channels session (drop i channels))
-      → Leads gave a b f (and_then (leave name session) (λ _. leave_channels session (drop (i + 1) channels)))
+  pub at_channel : (name x : List ℕ) → i < length channels → name ≡ get_or channels i x → Leads sights a b f (leave_channels session (drop i channels))
+      → Leads sights a b f (and_then (leave name session) (λ _. leave_channels session (drop (i + 1) channels)))
   at_channel name x h is p =
       let next : suc i ≡ i + 1 = omega arith in
       let here : drop i channels ≡ name ∷ drop (i + 1) channels = turn channels i x h ∙ ap (λ (y : List ℕ). y ∷ drop (suc i) channels) (sym is) ∙ ap (λ n. name ∷ drop n channels) next in
-      subst (λ cs. Leads gave a b f (leave_channels session cs)) here p
+      subst (λ cs. Leads sights a b f (leave_channels session cs)) here p
 
   -- behind the last nothing is left
-  pub at_end : length channels ≤ i → Leads gave a b f (leave_channels session (drop i channels)) → Leads gave a b f (leave_channels session [])
-  at_end h p = subst (λ cs. Leads gave a b f (leave_channels session cs)) (none_left channels i h) p
+  pub at_end : length channels ≤ i → Leads sights a b f (leave_channels session (drop i channels)) → Leads sights a b f (leave_channels session [])
+  at_end h p = subst (λ cs. Leads sights a b f (leave_channels session cs)) (none_left channels i h) p

@@ -25,7 +25,7 @@ pub(crate) fn channel<G: Game, V: View>(
     body: &Blob,
     txn: &mut Txn<'_, V>,
 ) -> Result<(), Halt>
-    ensures { Does V.gave halt_fault txn.old txn.new (step.for_session session.now (step.channel_message session.now name.now body.now (within mode.Game (G.rules game.now job.now)))) result }
+    ensures { Does V.sights halt_fault txn.old txn.new (step.for_session session.now (step.channel_message session.now name.now body.now (within mode.Game (G.rules game.now job.now)))) result }
 {
     if is_connected(alloc, txn, session)? {
         on_channel(alloc, game, job, session, name, body, txn)
@@ -43,7 +43,7 @@ fn on_channel<G: Game, V: View>(
     body: &Blob,
     txn: &mut Txn<'_, V>,
 ) -> Result<(), Halt>
-    ensures { Does V.gave halt_fault txn.old txn.new (step.channel_message session.now name.now body.now (within mode.Game (G.rules game.now job.now))) result }
+    ensures { Does V.sights halt_fault txn.old txn.new (step.channel_message session.now name.now body.now (within mode.Game (G.rules game.now job.now))) result }
 {
     match record_of(alloc, txn, name) {
         Ok((_, record)) => {

@@ -23,5 +23,5 @@ pub trait Game: Rules {
 
     /// The game's part of a job. The platform's part goes before and after it.
     fn run<V: View>(&self, alloc: Global, job: &Job, txn: &mut Txn<'_, V>) -> Result<(), Halt>
-        ensures { Does V.gave halt_fault txn.old txn.new (Self.rules self.now job.now) result };
+        ensures { Does V.sights halt_fault txn.old txn.new (Self.rules self.now job.now) result };
 }

@@ -33,7 +33,7 @@ pub(crate) fn work_job<G: Game, V: View>(
     txn: &mut Txn<'_, V>,
 ) -> Result<(), Halt>
     requires { JobFits job.now }
-    ensures does { DoesFor (MayMove job.now) V.gave halt_fault txn.old txn.new (work job.now (within mode.Game (G.rules game.now job.now))) result }
+    ensures does { DoesFor (MayMove job.now) V.sights halt_fault txn.old txn.new (work job.now (within mode.Game (G.rules game.now job.now))) result }
     ensures asked { IsBegun txn.old.log → AsksOwn job.now txn.new.log result }
 {
     match job {

@@ -27,8 +27,8 @@ pub fn run_over<G: Game, V: View>(
     requires moment { at ≤ MOMENT_MOST_MS }
     requires fits { JobFits job.now }
     ensures law { IfOk result (λ f. KeepsLaw (G.rules game.now) job.now number at f.reads.items (told f)) }
-    ensures kept { (i : Item) (r : Read) → V.gave view.old i r → V.gave view.new i r }
-    ensures given { IfOk result (λ f. AllByRecursion (λ r. V.gave view.new r.0 r.1) f.reads.items) }
+    ensures becomes { V.sights.becomes view.old view.new }
+    ensures given { IfOk result (λ f. AllByRecursion (λ r. V.sights.gave view.new r.0 r.1) f.reads.items) }
 {
     let mut txn = Txn::begin(alloc, view, number, at);
     run_job(alloc, game, job, &mut txn)

@@ -22,7 +22,7 @@ pub(crate) fn game_part<G: Game, V: View>(
     job: &Job,
     txn: &mut Txn<'_, V>,
 ) -> Result<(), Halt>
-    ensures { Does V.gave halt_fault txn.old txn.new (within mode.Game (G.rules game.now job.now)) result }
+    ensures { Does V.sights halt_fault txn.old txn.new (within mode.Game (G.rules game.now job.now)) result }
 {
     let before = txn.set_mode(Mode::Game);
     let end = game.run(alloc, job, txn);
@@ -42,7 +42,7 @@ pub(crate) fn occurrence<G: Game, V: View>(
     txn: &mut Txn<'_, V>,
 ) -> Result<(), Halt>
     requires { Fits due period }
-    ensures does { DoesFor (Only key due) V.gave halt_fault txn.old txn.new (and_then (own_act key due period) (λ pending. if pending then within mode.Game (G.rules game.now job.now) else give (Ok tt))) result }
+    ensures does { DoesFor (Only key due) V.sights halt_fault txn.old txn.new (and_then (own_act key due period) (λ pending. if pending then within mode.Game (G.rules game.now job.now) else give (Ok tt))) result }
     ensures asked { IsBegun txn.old.log → AsksTask key txn.new.log result }
 {
     if txn.own_task(key, due, period)? {

@@ -28,8 +28,8 @@ pub fn run_job<G: Game, V: View>(
     requires fits { JobFits job.now }
     ensures law { IfOk result (λ f. KeepsLaw (G.rules game.now) job.now txn.old.log.run txn.old.log.at f.reads.items (told f)) }
     ensures same_view { txn.new.view.ghost_name ≡ txn.old.view.ghost_name }
-    ensures kept { (i : Item) (r : Read) → V.gave txn.old.view.now i r → V.gave txn.new.view.now i r }
-    ensures given { IfOk result (λ f. AllByRecursion (λ r. V.gave txn.new.view.now r.0 r.1) f.reads.items) }
+    ensures becomes { V.sights.becomes txn.old.view.now txn.new.view.now }
+    ensures given { IfOk result (λ f. AllByRecursion (λ r. V.sights.gave txn.new.view.now r.0 r.1) f.reads.items) }
     ensures once { IfOk result (λ f. IsOnce f.reads.items) }
 {
     let end = match work_job(alloc, game, job, txn) {

@@ -23,7 +23,7 @@ pub(crate) fn login<G: Game, V: View>(
     session: &Session,
     txn: &mut Txn<'_, V>,
 ) -> Result<(), Halt>
-    ensures { Does V.gave halt_fault txn.old txn.new (step.login session.now (within mode.Game (G.rules game.now job.now))) result }
+    ensures { Does V.sights halt_fault txn.old txn.new (step.login session.now (within mode.Game (G.rules game.now job.now))) result }
 {
     if is_recorded(alloc, txn, &session.name)? {
         txn.send(session.conn, Out::Refused)?;
@@ -43,7 +43,7 @@ pub(crate) fn message<G: Game, V: View>(
     session: &Session,
     txn: &mut Txn<'_, V>,
 ) -> Result<(), Halt>
-    ensures { Does V.gave halt_fault txn.old txn.new (step.for_session session.now (within mode.Game (G.rules game.now job.now))) result }
+    ensures { Does V.sights halt_fault txn.old txn.new (step.for_session session.now (within mode.Game (G.rules game.now job.now))) result }
 {
     if is_connected(alloc, txn, session)? {
         game_part(alloc, game, job, txn)
@@ -60,7 +60,7 @@ pub(crate) fn disconnect<G: Game, V: View>(
     session: &Session,
     txn: &mut Txn<'_, V>,
 ) -> Result<(), Halt>
-    ensures { Does V.gave halt_fault txn.old txn.new (step.for_session session.now (step.disconnect session.now (within mode.Game (G.rules game.now job.now)))) result }
+    ensures { Does V.sights halt_fault txn.old txn.new (step.for_session session.now (step.disconnect session.now (within mode.Game (G.rules game.now job.now)))) result }
 {
     if is_connected(alloc, txn, session)? {
         end_session(alloc, game, job, session, txn)
@@ -76,7 +76,7 @@ fn end_session<G: Game, V: View>(
     session: &Session,
     txn: &mut Txn<'_, V>,
 ) -> Result<(), Halt>
-    ensures { Does V.gave halt_fault txn.old txn.new (step.disconnect session.now (within mode.Game (G.rules game.now job.now))) result }
+    ensures { Does V.sights halt_fault txn.old txn.new (step.disconnect session.now (within mode.Game (G.rules game.now job.now))) result }
 {
     game_part(alloc, game, job, txn)?;
     let (_, record) = own_record(alloc, txn, session)?;
@@ -92,7 +92,7 @@ fn leave_channels<V: View>(
     session: &Session,
     channels: &[Name],
 ) -> Result<(), Refusal>
-    ensures { Does V.gave refusal_fault txn.old txn.new (step.leave_channels session.now channels.now) result }
+    ensures { Does V.sights refusal_fault txn.old txn.new (step.leave_channels session.now channels.now) result }
 {
     for name in channels {
         let channel = Channel {

@@ -25,6 +25,7 @@ use Rattle.dk_txn.specs.Does.{Does, failure}
 use Rattle.dk_txn.proofs.Kit.{keeps_all, then_does, give_does, stops}
 use Rattle.dk_txn.proofs.ObjectCalls.{refused_here}
 use Rattle.dk_refs.specs.Telling.{kind_of, TellsKind}
+use Rattle.dk_txn.specs.Sights.{Sights}
 
 eq_true : (a b : ℕ) → a ≡ b → (a == b) ≡ true
 eq_true a b h = grind (arith, nat_tests)
@@ -81,74 +82,74 @@ pub passed : {A : Type 0} (Holds : Refusal → Type 0) (e : Refusal) (r : Result
 passed Holds e (Err h) is holds = subst Holds (sym is) holds
 passed Holds e (Ok x) is holds = absurd is
 
-module _ {S : Type 0} {gave : S → Item → Read → Type 0} where
+module _ {S : Type 0} {sights : Sights S} where
   -- the answer is known, and nothing is done
-  pub answered_here : {a : Txn S Logged} {A : Type 0} {f : Act A} {x : A} → ((d : DurableWorld) → f (current a.log d) ≡ (Ok x, current a.log d)) → Does gave refusal_fault a a f (Ok x)
+  pub answered_here : {a : Txn S Logged} {A : Type 0} {f : Act A} {x : A} → ((d : DurableWorld) → f (current a.log d) ≡ (Ok x, current a.log d)) → Does sights refusal_fault a a f (Ok x)
   answered_here {a = a} h = record { keeps = keeps_all; does = λ s t d agrees. h d ∙ ap (λ r. (r, current a.log d)) (Some_injective _ _ t) }
 
   module _ {a b : Txn S Logged} {A : Type 0} (id : ObjectId) (kind : ℕ) (read : List ℕ → Option A) where
-    pub get_stops : {e : Refusal} {r : Result A Refusal} → Does gave refusal_fault a b (act.get id) (Err e) → IsErrAnd r (λ h. h ≡ e) → Does gave refusal_fault a b (get_as kind read id) r
+    pub get_stops : {e : Refusal} {r : Result A Refusal} → Does sights refusal_fault a b (act.get id) (Err e) → IsErrAnd r (λ h. h ≡ e) → Does sights refusal_fault a b (get_as kind read id) r
     unfolding get_as
     get_stops p is = stops _ p is
 
-    pub update_stops : {e : Refusal} {r : Result A Refusal} → Does gave refusal_fault a b (get_as kind read id) (Err e) → IsErrAnd r (λ h. h ≡ e) → Does gave refusal_fault a b (get_for_update_as kind read id) r
+    pub update_stops : {e : Refusal} {r : Result A Refusal} → Does sights refusal_fault a b (get_as kind read id) (Err e) → IsErrAnd r (λ h. h ≡ e) → Does sights refusal_fault a b (get_for_update_as kind read id) r
     unfolding get_for_update_as
     update_stops p is = stops _ p is
 
-    pub update_halts : {c : Txn S Logged} {x : A} {e : Refusal} {r : Result A Refusal} → Does gave refusal_fault a b (get_as kind read id) (Ok x) → Does gave refusal_fault b c (act.mark id) (Err e)
-        → IsErrAnd r (λ h. h ≡ e) → Does gave refusal_fault a c (get_for_update_as kind read id) r
+    pub update_halts : {c : Txn S Logged} {x : A} {e : Refusal} {r : Result A Refusal} → Does sights refusal_fault a b (get_as kind read id) (Ok x) → Does sights refusal_fault b c (act.mark id) (Err e)
+        → IsErrAnd r (λ h. h ≡ e) → Does sights refusal_fault a c (get_for_update_as kind read id) r
     unfolding get_for_update_as
     update_halts p q is = then_does _ p (stops _ q is)
 
-    pub update_does : {c : Txn S Logged} {x : A} → Does gave refusal_fault a b (get_as kind read id) (Ok x) → Does gave refusal_fault b c (act.mark id) (Ok tt) → Does gave refusal_fault a c (get_for_update_as kind read id) (Ok x)
+    pub update_does : {c : Txn S Logged} {x : A} → Does sights refusal_fault a b (get_as kind read id) (Ok x) → Does sights refusal_fault b c (act.mark id) (Ok tt) → Does sights refusal_fault a c (get_for_update_as kind read id) (Ok x)
     unfolding get_for_update_as
     update_does p q = then_does _ p (then_does _ q give_does)
 
-  pub save_stops : {a b : Txn S Logged} {e : Refusal} {r : Result (Unit {0}) Refusal} (id : ObjectId) (kind : ℕ) (bytes : List ℕ) → Does gave refusal_fault a b (act.get id) (Err e) → IsErrAnd r (λ h. h ≡ e)
-      → Does gave refusal_fault a b (save_as kind id bytes) r
+  pub save_stops : {a b : Txn S Logged} {e : Refusal} {r : Result (Unit {0}) Refusal} (id : ObjectId) (kind : ℕ) (bytes : List ℕ) → Does sights refusal_fault a b (act.get id) (Err e) → IsErrAnd r (λ h. h ≡ e)
+      → Does sights refusal_fault a b (save_as kind id bytes) r
   unfolding save_as
   save_stops id kind bytes p is = stops _ p is
 
-  module _ {a b : Txn S Logged} (id : ObjectId) (object : Object) (got : Does gave refusal_fault a b (act.get id) (Ok object)) where
+  module _ {a b : Txn S Logged} (id : ObjectId) (object : Object) (got : Does sights refusal_fault a b (act.get id) (Ok object)) where
     -- the object has a kind of its own
     pub found_kind : TellsKind b.log id (refusal.WrongKind object.kind)
     found_kind d agrees = ap kind_of (stands_at id (current a.log d) (current b.log d) object (got.does (Ok object) refl d agrees))
 
     module _ {A : Type 0} (kind : ℕ) (read : List ℕ → Option A) where
-      pub get_wrong : {told : ℕ} → (object.kind ≡ kind → ⊥) → Does gave refusal_fault a b (get_as kind read id) (Err (refusal.WrongKind told))
+      pub get_wrong : {told : ℕ} → (object.kind ≡ kind → ⊥) → Does sights refusal_fault a b (get_as kind read id) (Err (refusal.WrongKind told))
       unfolding get_as
       get_wrong other = then_does _ got (refused_here (Refused 3) refl (λ d. rw (eq_false object.kind kind other) refl))
 
       -- the bytes of an object of the right kind are read
-      pub get_read : (r : Result A Refusal) → object.kind ≡ kind → r ≡ ok_or (read object.bytes) refusal.BadBytes → Does gave refusal_fault a b (get_as kind read id) r
+      pub get_read : (r : Result A Refusal) → object.kind ≡ kind → r ≡ ok_or (read object.bytes) refusal.BadBytes → Does sights refusal_fault a b (get_as kind read id) r
       unfolding get_as
-      get_read r same is = then_does _ got (subst (λ (r : Result A Refusal). Does gave refusal_fault b b (λ s. if object.kind == kind then (found 10 (read object.bytes), s) else act.refuse 3 s) r) (sym is) (by (read object.bytes)))
+      get_read r same is = then_does _ got (subst (λ (r : Result A Refusal). Does sights refusal_fault b b (λ s. if object.kind == kind then (found 10 (read object.bytes), s) else act.refuse 3 s) r) (sym is) (by (read object.bytes)))
         where
-          by : (o : Option A) → Does gave refusal_fault b b (λ s. if object.kind == kind then (found 10 o, s) else act.refuse 3 s) (ok_or o refusal.BadBytes)
+          by : (o : Option A) → Does sights refusal_fault b b (λ s. if object.kind == kind then (found 10 o, s) else act.refuse 3 s) (ok_or o refusal.BadBytes)
           by None = refused_here (Refused 10) refl (λ d. rw (eq_true object.kind kind same) refl)
           by (Some x) = answered_here (λ d. rw (eq_true object.kind kind same) refl)
 
     module _ (kind : ℕ) (bytes : List ℕ) where
-      pub save_wrong : {told : ℕ} → (object.kind ≡ kind → ⊥) → Does gave refusal_fault a b (save_as kind id bytes) (Err (refusal.WrongKind told))
+      pub save_wrong : {told : ℕ} → (object.kind ≡ kind → ⊥) → Does sights refusal_fault a b (save_as kind id bytes) (Err (refusal.WrongKind told))
       unfolding save_as
       save_wrong other = then_does _ got (rw (eq_false object.kind kind other) (refused_here (Refused 3) refl (λ d. refl)))
 
       -- an object of the right kind is saved
-      pub save_right : {c : Txn S Logged} {r : Result (Unit {0}) Refusal} → object.kind ≡ kind → Does gave refusal_fault b c (act.save id bytes) r → Does gave refusal_fault a c (save_as kind id bytes) r
+      pub save_right : {c : Txn S Logged} {r : Result (Unit {0}) Refusal} → object.kind ≡ kind → Does sights refusal_fault b c (act.save id bytes) r → Does sights refusal_fault a c (save_as kind id bytes) r
       unfolding save_as
       save_right same saved = then_does _ got (rw (eq_true object.kind kind same) saved)
 
   -- a refusal of these calls tells nothing of a kind
-  pub get_tells : {a b : Txn S Logged} {e : Refusal} (id : ObjectId) → Does gave refusal_fault a b (act.get id) (Err e) → TellsKind b.log id e
+  pub get_tells : {a b : Txn S Logged} {e : Refusal} (id : ObjectId) → Does sights refusal_fault a b (act.get id) (Err e) → TellsKind b.log id e
   unfolding act.get
   get_tells {a = a} {b = b} {e = e} id p = tells_nothing b.log id e (λ is d agrees. not_three 2 (map.get (current a.log d).world.objects id) two (ap (λ q. q.0) (p.does (Err (Refused 3)) (ap failure is) d agrees)))
 
-  pub mark_tells : {a b : Txn S Logged} {e : Refusal} (id : ObjectId) → Does gave refusal_fault a b (act.mark id) (Err e) → TellsKind b.log id e
+  pub mark_tells : {a b : Txn S Logged} {e : Refusal} (id : ObjectId) → Does sights refusal_fault a b (act.mark id) (Err e) → TellsKind b.log id e
   unfolding act.mark
   mark_tells {a = a} {b = b} {e = e} id p =
       tells_nothing b.log id e (λ is d agrees. change_other (map.get (current a.log d).world.objects id) id (λ object. Some object) (current a.log d) (current b.log d) (p.does (Err (Refused 3)) (ap failure is) d agrees))
 
-  save_refused : {a b : Txn S Logged} {e : Refusal} (id : ObjectId) (bytes : List ℕ) → Does gave refusal_fault a b (act.save id bytes) (Err e) → TellsKind b.log id e
+  save_refused : {a b : Txn S Logged} {e : Refusal} (id : ObjectId) (bytes : List ℕ) → Does sights refusal_fault a b (act.save id bytes) (Err e) → TellsKind b.log id e
   unfolding act.save
   save_refused {a = a} {b = b} {e = e} id bytes p =
       tells_nothing b.log id e (λ is d agrees. by d (act.is_too_long bytes) (p.does (Err (Refused 3)) (ap failure is) d agrees))
@@ -157,6 +158,6 @@ module _ {S : Type 0} {gave : S → Item → Read → Type 0} where
       by d true e = not_three {A = Unit {0}} 4 None four (ap (λ p. p.0) e)
       by d false e = change_other (map.get (current a.log d).world.objects id) id (λ object. Some (record { kind = object.kind; bytes = bytes })) (current a.log d) (current b.log d) e
 
-  pub save_tells : {a b : Txn S Logged} {r : Result (Unit {0}) Refusal} (id : ObjectId) (bytes : List ℕ) → Does gave refusal_fault a b (act.save id bytes) r → IfErr r (TellsKind b.log id)
+  pub save_tells : {a b : Txn S Logged} {r : Result (Unit {0}) Refusal} (id : ObjectId) (bytes : List ℕ) → Does sights refusal_fault a b (act.save id bytes) r → IfErr r (TellsKind b.log id)
   save_tells {r = Ok u} id bytes p = tt
   save_tells {r = Err e} id bytes p = save_refused id bytes p

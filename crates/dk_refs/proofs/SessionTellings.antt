@@ -21,6 +21,7 @@ use Rattle.dk_txn.specs.Does.{Does, SameChanges}
 use Rattle.dk_refs.specs.Telling.{TellsKind, TellsKindOf, kind_under}
 use Rattle.dk_refs.proofs.Tellings.{Avoids, answers, refuses, give_avoids, then_avoids, get_as_avoids, found_as_avoids, kind_found}
 use Rattle.dk_refs.specs.Lookups.{recorded}
+use Rattle.dk_txn.specs.Sights.{Sights}
 
 pub recorded_avoids : (name : List ℕ) (n : ℕ) → Avoids n (recorded name)
 unfolding recorded
@@ -47,9 +48,9 @@ send_avoids to message s t e = by _ (act.is_too_long (act.body_of message)) (nat
     by new false true e = refuses 8 3 s t (λ e. cc) e
     by new false false e = answers tt 3 new t e
 
-module _ {S : Type 0} {gave : S → Item → Read → Type 0} where
+module _ {S : Type 0} {sights : Sights S} where
   -- the record is of another kind
-  pub record_kind : {a b c : Txn S Logged} {id : ObjectId} {A B : Type 0} {f : Act A} {e : Refusal} (r : Result B Refusal) (name : List ℕ) → Does gave refusal_fault a b (recorded name) (Ok (Some id))
-      → Does gave refusal_fault b c f (Err e) → SameChanges b.log c.log → TellsKind c.log id e → IsErrAnd r (λ h. h ≡ e) → IfErr r (TellsKindOf c.log (kind_under (session_name name)))
+  pub record_kind : {a b c : Txn S Logged} {id : ObjectId} {A B : Type 0} {f : Act A} {e : Refusal} (r : Result B Refusal) (name : List ℕ) → Does sights refusal_fault a b (recorded name) (Ok (Some id))
+      → Does sights refusal_fault b c f (Err e) → SameChanges b.log c.log → TellsKind c.log id e → IsErrAnd r (λ h. h ≡ e) → IfErr r (TellsKindOf c.log (kind_under (session_name name)))
   unfolding recorded
   record_kind r name p q same told is = kind_found r (session_name name) p q same told is

@@ -32,6 +32,7 @@ use Rattle.dk_txn.specs.Does.{Does, SameChanges, failure}
 use Rattle.dk_txn.proofs.Kit.{agreed}
 use Rattle.dk_refs.specs.Telling.{TellsKind, TellsKindOf, TellsLengthIn, TellsLengthOf, kind_at, kind_under}
 use Rattle.dk_refs.proofs.Calls.{passed}
+use Rattle.dk_txn.specs.Sights.{Sights}
 
 -- the act is never refused by this number
 abbrev pub Avoids : {A : Type 0} → ℕ → Act A → Type 0
@@ -245,7 +246,7 @@ length_of_moded (Err e) t b c u first last bytes is was told = rw was (λ d agre
 pub current_same : (a b : Logged) (d : DurableWorld) → SameChanges a b → current b d ≡ current a d
 current_same a b d same = ap (λ (t : Logged). current t d) same
 
-module _ {S : Type 0} {gave : S → Item → Read → Type 0} {a b : Txn S Logged} {A : Type 0} {f : Act A} {e : Refusal} (p : Does gave refusal_fault a b f (Err e)) where
+module _ {S : Type 0} {sights : Sights S} {a b : Txn S Logged} {A : Type 0} {f : Act A} {e : Refusal} (p : Does sights refusal_fault a b f (Err e)) where
   -- a refusal that is passed on tells what it told
   pub kind_passes : {B : Type 0} (r : Result B Refusal) (kind : DurableWorld → Option ℕ) → TellsKindOf b.log kind e → IsErrAnd r (λ h. h ≡ e) → IfErr r (TellsKindOf b.log kind)
   kind_passes r kind told is = passed (TellsKindOf b.log kind) e r is told
@@ -264,19 +265,19 @@ module _ {S : Type 0} {gave : S → Item → Read → Type 0} {a b : Txn S Logge
   length_of_never r before bytes never is =
       passed (TellsLengthOf before b.log bytes) e r is (λ d agrees. no_length (bytes (current before d).world) e (λ four. never (current a.log d) (current b.log d) (p.does (Err (Refused 4)) (ap failure four) d agrees)))
 
-module _ {S : Type 0} {gave : S → Item → Read → Type 0} where
+module _ {S : Type 0} {sights : Sights S} where
   -- the last call, which may have been answered
-  pub kind_never_last : {a b : Txn S Logged} {A : Type 0} {f : Act A} {r : Result A Refusal} (kind : DurableWorld → Option ℕ) → Avoids 3 f → Does gave refusal_fault a b f r → IfErr r (TellsKindOf b.log kind)
+  pub kind_never_last : {a b : Txn S Logged} {A : Type 0} {f : Act A} {r : Result A Refusal} (kind : DurableWorld → Option ℕ) → Avoids 3 f → Does sights refusal_fault a b f r → IfErr r (TellsKindOf b.log kind)
   kind_never_last {r = Ok x} kind never p = tt
   kind_never_last {r = Err e} kind never p = kind_never p kind never
 
-  pub length_never_last : {a b : Txn S Logged} {A : Type 0} {f : Act A} {r : Result A Refusal} (bytes : List ℕ) → Avoids 4 f → Does gave refusal_fault a b f r → IfErr r (TellsLengthIn b.log bytes)
+  pub length_never_last : {a b : Txn S Logged} {A : Type 0} {f : Act A} {r : Result A Refusal} (bytes : List ℕ) → Avoids 4 f → Does sights refusal_fault a b f r → IfErr r (TellsLengthIn b.log bytes)
   length_never_last {r = Ok x} bytes never p = tt
   length_never_last {r = Err e} bytes never p = length_never p bytes never
 
   -- a name was looked up, and the object that it leads to was read, and is of another kind
-  pub kind_found : {a b c : Txn S Logged} {id : ObjectId} {A B : Type 0} {f : Act A} {e : Refusal} (r : Result B Refusal) (name : List ℕ) → Does gave refusal_fault a b (λ s. (Ok (platform_bound s name), s)) (Ok (Some id))
-      → Does gave refusal_fault b c f (Err e) → SameChanges b.log c.log → TellsKind c.log id e → IsErrAnd r (λ h. h ≡ e) → IfErr r (TellsKindOf c.log (kind_under name))
+  pub kind_found : {a b c : Txn S Logged} {id : ObjectId} {A B : Type 0} {f : Act A} {e : Refusal} (r : Result B Refusal) (name : List ℕ) → Does sights refusal_fault a b (λ s. (Ok (platform_bound s name), s)) (Ok (Some id))
+      → Does sights refusal_fault b c f (Err e) → SameChanges b.log c.log → TellsKind c.log id e → IsErrAnd r (λ h. h ≡ e) → IfErr r (TellsKindOf c.log (kind_under name))
   kind_found {a = a} {b = b} {c = c} {id = id} {e = e} r name p q same told is = passed (TellsKindOf c.log (kind_under name)) e r is (leads_kind c.log name id e by told)
     where
       by : (d : DurableWorld) → Agrees d c.log.reads → platform_bound (current c.log d) name ≡ Some id

@@ -19,7 +19,7 @@ pub fn session_under<V: View>(
     txn: &mut Txn<'_, V>,
     name: &Name,
 ) -> Result<(ManagedRef<SessionRecord>, SessionRecord), Refusal>
-    ensures does { Does V.gave refusal_fault txn.old txn.new (platform.session_under name.now) result }
+    ensures does { Does V.sights refusal_fault txn.old txn.new (platform.session_under name.now) result }
     ensures same_changes { SameChanges txn.old.log txn.new.log }
     ensures kind { IfErr result (TellsKindOf txn.new.log (kind_under (session_name name.now))) }
 {
@@ -40,7 +40,7 @@ pub fn own_record<V: View>(
     txn: &mut Txn<'_, V>,
     session: &Session,
 ) -> Result<(ManagedRef<SessionRecord>, SessionRecord), Refusal>
-    ensures does { Does V.gave refusal_fault txn.old txn.new (platform.own_record session.now) result }
+    ensures does { Does V.sights refusal_fault txn.old txn.new (platform.own_record session.now) result }
     ensures same_changes { SameChanges txn.old.log txn.new.log }
     ensures kind { IfErr result (TellsKindOf txn.new.log (kind_under (session_name session.now.name))) }
 {
@@ -58,7 +58,7 @@ pub fn record_if_connected<V: View>(
     txn: &mut Txn<'_, V>,
     session: &Session,
 ) -> Result<Option<(ManagedRef<SessionRecord>, SessionRecord)>, Refusal>
-    ensures does { Does V.gave refusal_fault txn.old txn.new (platform.record_if_connected session.now) result }
+    ensures does { Does V.sights refusal_fault txn.old txn.new (platform.record_if_connected session.now) result }
     ensures same_changes { SameChanges txn.old.log txn.new.log }
     ensures kind { IfErr result (TellsKindOf txn.new.log (kind_under (session_name session.now.name))) }
 {

@@ -40,7 +40,7 @@ pub fn recorded<V: View>(
     txn: &mut Txn<'_, V>,
     name: &Name,
 ) -> Result<Option<ObjectId>, Refusal>
-    ensures does { Does V.gave refusal_fault txn.old txn.new (lookup.recorded name.now) result }
+    ensures does { Does V.sights refusal_fault txn.old txn.new (lookup.recorded name.now) result }
     ensures same_changes { SameChanges txn.old.log txn.new.log }
 {
     match session_name(alloc, name)? {
@@ -55,7 +55,7 @@ pub fn is_recorded<V: View>(
     txn: &mut Txn<'_, V>,
     name: &Name,
 ) -> Result<bool, Refusal>
-    ensures does { Does V.gave refusal_fault txn.old txn.new (lookup.is_recorded name.now) result }
+    ensures does { Does V.sights refusal_fault txn.old txn.new (lookup.is_recorded name.now) result }
     ensures same_changes { SameChanges txn.old.log txn.new.log }
 {
     let id = recorded(alloc, txn, name)?;

@@ -63,7 +63,7 @@ impl<T: Managed> ManagedRef<T> {
         txn: &mut Txn<'_, V>,
         value: &T,
     ) -> Result<ManagedRef<T>, Refusal>
-        ensures does { Does V.gave refusal_fault txn.old txn.new (act.create T.KIND (T.bytes value.now)) result }
+        ensures does { Does V.sights refusal_fault txn.old txn.new (act.create T.KIND (T.bytes value.now)) result }
         ensures refused { OnErr result (SameChanges txn.old.log txn.new.log) }
         ensures length { IfErr result (TellsLength (T.bytes value.now)) }
     {
@@ -74,7 +74,7 @@ impl<T: Managed> ManagedRef<T> {
 
     /// The object's value (`ManagedReference.get`). Refuses 2, 3, 10.
     pub fn get<V: View>(&self, alloc: Global, txn: &mut Txn<'_, V>) -> Result<T, Refusal>
-        ensures does { Does V.gave refusal_fault txn.old txn.new (get_as T.KIND T.of self.now) result }
+        ensures does { Does V.sights refusal_fault txn.old txn.new (get_as T.KIND T.of self.now) result }
         ensures same_changes { SameChanges txn.old.log txn.new.log }
         ensures kind { IfErr result (TellsKind txn.new.log self.now) }
     {
@@ -88,7 +88,7 @@ impl<T: Managed> ManagedRef<T> {
     /// The object's value, which the run is to change: the object is written as it is, so that it gets a new stamp
     /// (`ManagedReference.getForUpdate`). Refuses 2, 3, 10, 6.
     pub fn get_for_update<V: View>(&self, alloc: Global, txn: &mut Txn<'_, V>) -> Result<T, Refusal>
-        ensures does { Does V.gave refusal_fault txn.old txn.new (get_for_update_as T.KIND T.of self.now) result }
+        ensures does { Does V.sights refusal_fault txn.old txn.new (get_for_update_as T.KIND T.of self.now) result }
         ensures refused { OnErr result (SameChanges txn.old.log txn.new.log) }
         ensures kind { IfErr result (TellsKind txn.new.log self.now) }
     {
@@ -100,7 +100,7 @@ impl<T: Managed> ManagedRef<T> {
     /// Writes the object as it is, so that it gets a new stamp (`DataManager.markForUpdate`). Its kind is not looked
     /// at. Refuses 2, 6.
     pub fn mark_for_update<V: View>(&self, txn: &mut Txn<'_, V>) -> Result<(), Refusal>
-        ensures does { Does V.gave refusal_fault txn.old txn.new (act.mark self.now) result }
+        ensures does { Does V.sights refusal_fault txn.old txn.new (act.mark self.now) result }
         ensures refused { OnErr result (SameChanges txn.old.log txn.new.log) }
     {
         txn.mark(self.id)
@@ -113,7 +113,7 @@ impl<T: Managed> ManagedRef<T> {
         txn: &mut Txn<'_, V>,
         value: &T,
     ) -> Result<(), Refusal>
-        ensures does { Does V.gave refusal_fault txn.old txn.new (save_as T.KIND self.now (T.bytes value.now)) result }
+        ensures does { Does V.sights refusal_fault txn.old txn.new (save_as T.KIND self.now (T.bytes value.now)) result }
         ensures refused { OnErr result (SameChanges txn.old.log txn.new.log) }
         ensures kind { IfErr result (TellsKind txn.new.log self.now) }
         ensures length { IfErr result (TellsLength (T.bytes value.now)) }
@@ -128,7 +128,7 @@ impl<T: Managed> ManagedRef<T> {
 
     /// Takes the object away (`DataManager.removeObject`). Its kind is not looked at. Refuses 2, 6.
     pub fn remove<V: View>(&self, txn: &mut Txn<'_, V>) -> Result<(), Refusal>
-        ensures does { Does V.gave refusal_fault txn.old txn.new (act.remove self.now) result }
+        ensures does { Does V.sights refusal_fault txn.old txn.new (act.remove self.now) result }
         ensures refused { OnErr result (SameChanges txn.old.log txn.new.log) }
     {
         txn.remove(self.id)

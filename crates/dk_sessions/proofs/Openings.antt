@@ -23,6 +23,7 @@ use Rattle.dk_txn.proofs.Kit.{then_does, does_as, stops}
 use Rattle.dk_txn.proofs.ObjectCalls.{refused_here}
 use Rattle.dk_refs.specs.Lookups.{IsTooLong}
 use Rattle.dk_sessions.specs.Openings.{recording, taking}
+use Rattle.dk_txn.specs.Sights.{Sights}
 
 -- what follows where a name was looked up
 abbrev after_name : Session → Option ObjectId → Act (Unit {0})
@@ -39,33 +40,33 @@ unrecorded session x s t long e =
     let none : own_record session s ≡ (Err (Refused 1), s) = rw long refl in
     let same : Err (Refused 1) ≡ Ok x = ap (λ p. p.0) (sym none ∙ e) in absurd cc
 
-module _ {S : Type 0} {gave : S → Item → Read → Type 0} (session : Session) where
-  pub open_long : {a : Txn S Logged} {e : Refusal} → IsTooLong e → is_name_too_long (session_name session.name) ≡ true → Does gave refusal_fault a a (new_record session) (Err e)
+module _ {S : Type 0} {sights : Sights S} (session : Session) where
+  pub open_long : {a : Txn S Logged} {e : Refusal} → IsTooLong e → is_name_too_long (session_name session.name) ≡ true → Does sights refusal_fault a a (new_record session) (Err e)
   unfolding new_record
   open_long is long = refused_here (Refused 4) is (λ d. rw long refl)
 
   module _ {a b : Txn S Logged} (key : List ℕ) (is : key ≡ session_name session.name) (short : is_name_too_long (session_name session.name) ≡ false) where
-    pub open_stops : {e : Refusal} {r : Result (Unit {0}) Refusal} → Does gave refusal_fault a b (binding key) (Err e) → IsErrAnd r (λ h. h ≡ e) → Does gave refusal_fault a b (new_record session) r
-    open_stops {e = e} p told = does_as _ (means session short) (stops _ (subst (λ k. Does gave refusal_fault a b (binding k) (Err e)) is p) told)
+    pub open_stops : {e : Refusal} {r : Result (Unit {0}) Refusal} → Does sights refusal_fault a b (binding key) (Err e) → IsErrAnd r (λ h. h ≡ e) → Does sights refusal_fault a b (new_record session) r
+    open_stops {e = e} p told = does_as _ (means session short) (stops _ (subst (λ k. Does sights refusal_fault a b (binding k) (Err e)) is p) told)
 
-    found_then : {c : Txn S Logged} {o : Option ObjectId} {r : Result (Unit {0}) Refusal} → Does gave refusal_fault a b (binding key) (Ok o) → Does gave refusal_fault b c (after_name session o) r → Does gave refusal_fault a c (new_record session) r
-    found_then {o = o} p q = does_as _ (means session short) (then_does (after_name session) (subst (λ k. Does gave refusal_fault a b (binding k) (Ok o)) is p) q)
+    found_then : {c : Txn S Logged} {o : Option ObjectId} {r : Result (Unit {0}) Refusal} → Does sights refusal_fault a b (binding key) (Ok o) → Does sights refusal_fault b c (after_name session o) r → Does sights refusal_fault a c (new_record session) r
+    found_then {o = o} p q = does_as _ (means session short) (then_does (after_name session) (subst (λ k. Does sights refusal_fault a b (binding k) (Ok o)) is p) q)
 
-    pub open_exists : {id : ObjectId} → Does gave refusal_fault a b (binding key) (Ok (Some id)) → Does gave refusal_fault a b (new_record session) (Err refusal.NameExists)
+    pub open_exists : {id : ObjectId} → Does sights refusal_fault a b (binding key) (Ok (Some id)) → Does sights refusal_fault a b (new_record session) (Err refusal.NameExists)
     open_exists p = found_then p (refused_here (Refused 9) refl (λ d. refl))
 
-    pub open_made : {c : Txn S Logged} {r : Result (Unit {0}) Refusal} → Does gave refusal_fault a b (binding key) (Ok None) → Does gave refusal_fault b c (recording key session.conn) r → Does gave refusal_fault a c (new_record session) r
-    open_made {c = c} {r = r} p q = found_then p (does_as _ (λ s. refl) (subst (λ k. Does gave refusal_fault b c (recording k session.conn) r) is q))
+    pub open_made : {c : Txn S Logged} {r : Result (Unit {0}) Refusal} → Does sights refusal_fault a b (binding key) (Ok None) → Does sights refusal_fault b c (recording key session.conn) r → Does sights refusal_fault a c (new_record session) r
+    open_made {c = c} {r = r} p q = found_then p (does_as _ (λ s. refl) (subst (λ k. Does sights refusal_fault b c (recording k session.conn) r) is q))
 
-  module _ {a b : Txn S Logged} {x : ObjectId × SessionRecord} (own : Does gave refusal_fault a b (own_record session) (Ok x)) where
+  module _ {a b : Txn S Logged} {x : ObjectId × SessionRecord} (own : Does sights refusal_fault a b (own_record session) (Ok x)) where
     -- this can not be
-    pub take_long : {e : Refusal} → is_name_too_long (session_name session.name) ≡ true → Does gave refusal_fault a b (taking session) (Err e)
+    pub take_long : {e : Refusal} → is_name_too_long (session_name session.name) ≡ true → Does sights refusal_fault a b (taking session) (Err e)
     take_long long = record { keeps = own.keeps; does = λ s t d agrees. absurd (unrecorded session x (current a.log d) (current b.log d) long (own.does (Ok x) refl d agrees)) }
 
-    pub take_stops : {c : Txn S Logged} {e : Refusal} {r : Result (Unit {0}) Refusal} (key : List ℕ) → key ≡ session_name session.name → Does gave refusal_fault b c (act.unbind key) (Err e) → IsErrAnd r (λ h. h ≡ e)
-        → Does gave refusal_fault a c (taking session) r
-    take_stops {c = c} {e = e} key is p told = then_does _ own (stops _ (subst (λ k. Does gave refusal_fault b c (act.unbind k) (Err e)) is p) told)
+    pub take_stops : {c : Txn S Logged} {e : Refusal} {r : Result (Unit {0}) Refusal} (key : List ℕ) → key ≡ session_name session.name → Does sights refusal_fault b c (act.unbind key) (Err e) → IsErrAnd r (λ h. h ≡ e)
+        → Does sights refusal_fault a c (taking session) r
+    take_stops {c = c} {e = e} key is p told = then_does _ own (stops _ (subst (λ k. Does sights refusal_fault b c (act.unbind k) (Err e)) is p) told)
 
-    pub take_does : {c d : Txn S Logged} {r : Result (Unit {0}) Refusal} (key : List ℕ) → key ≡ session_name session.name → Does gave refusal_fault b c (act.unbind key) (Ok tt) → Does gave refusal_fault c d (act.remove x.0) r
-        → Does gave refusal_fault a d (taking session) r
-    take_does {c = c} key is p q = then_does _ own (then_does _ (subst (λ k. Does gave refusal_fault b c (act.unbind k) (Ok tt)) is p) q)
+    pub take_does : {c d : Txn S Logged} {r : Result (Unit {0}) Refusal} (key : List ℕ) → key ≡ session_name session.name → Does sights refusal_fault b c (act.unbind key) (Ok tt) → Does sights refusal_fault c d (act.remove x.0) r
+        → Does sights refusal_fault a d (taking session) r
+    take_does {c = c} key is p q = then_does _ own (then_does _ (subst (λ k. Does sights refusal_fault b c (act.unbind k) (Ok tt)) is p) q)

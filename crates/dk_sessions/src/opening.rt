@@ -20,7 +20,7 @@ pub fn open_record<V: View>(
     txn: &mut Txn<'_, V>,
     session: &Session,
 ) -> Result<(), Refusal>
-    ensures does { Does V.gave refusal_fault txn.old txn.new (platform.open_record session.now) result }
+    ensures does { Does V.sights refusal_fault txn.old txn.new (platform.open_record session.now) result }
     ensures length { IfErr result (TellsLengthIn txn.new.log (named session.now.name)) }
 {
     let before = txn.set_mode(Mode::Platform);
@@ -36,7 +36,7 @@ pub fn close_record<V: View>(
     txn: &mut Txn<'_, V>,
     session: &Session,
 ) -> Result<(), Refusal>
-    ensures does { Does V.gave refusal_fault txn.old txn.new (platform.close_record session.now) result }
+    ensures does { Does V.sights refusal_fault txn.old txn.new (platform.close_record session.now) result }
     ensures kind { IfErr result (TellsKindOf txn.new.log (kind_under (named session.now.name))) }
 {
     let before = txn.set_mode(Mode::Platform);
@@ -50,7 +50,7 @@ fn new_record<V: View>(
     txn: &mut Txn<'_, V>,
     session: &Session,
 ) -> Result<(), Refusal>
-    ensures does { Does V.gave refusal_fault txn.old txn.new (platform.new_record session.now) result }
+    ensures does { Does V.sights refusal_fault txn.old txn.new (platform.new_record session.now) result }
     ensures length { IfErr result (TellsLengthIn txn.new.log (named session.now.name)) }
 {
     let key = match session_name(alloc, &session.name)? {
@@ -70,7 +70,7 @@ fn record_under<V: View>(
     key: &Name,
     conn: ConnNo,
 ) -> Result<(), Refusal>
-    ensures does { Does V.gave refusal_fault txn.old txn.new (opening.recording key.now conn) result }
+    ensures does { Does V.sights refusal_fault txn.old txn.new (opening.recording key.now conn) result }
     ensures length { (bytes : List ℕ) → IfErr result (TellsLengthIn txn.new.log bytes) }
 {
     let session = SessionRecord {
@@ -86,7 +86,7 @@ fn take_record<V: View>(
     txn: &mut Txn<'_, V>,
     session: &Session,
 ) -> Result<(), Refusal>
-    ensures does { Does V.gave refusal_fault txn.old txn.new (opening.taking session.now) result }
+    ensures does { Does V.sights refusal_fault txn.old txn.new (opening.taking session.now) result }
     ensures kind { IfErr result (TellsKindOf txn.new.log (kind_under (named session.now.name))) }
 {
     let found = own_record(alloc, txn, session)?;

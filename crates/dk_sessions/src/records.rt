@@ -19,7 +19,7 @@ pub fn is_connected<V: View>(
     txn: &mut Txn<'_, V>,
     session: &Session,
 ) -> Result<bool, Refusal>
-    ensures does { Does V.gave refusal_fault txn.old txn.new (platform.is_connected session.now) result }
+    ensures does { Does V.sights refusal_fault txn.old txn.new (platform.is_connected session.now) result }
     ensures same_changes { SameChanges txn.old.log txn.new.log }
     ensures kind { IfErr result (TellsKindOf txn.new.log (kind_under (session_name session.now.name))) }
 {
@@ -34,7 +34,7 @@ pub fn is_connected<V: View>(
 
 /// The session that is recorded under a login name. Refuses 4, 1, and then 2, 3 and 10 of the record.
 pub fn find<V: View>(alloc: Global, txn: &mut Txn<'_, V>, name: &Name) -> Result<Session, Refusal>
-    ensures does { Does V.gave refusal_fault txn.old txn.new (platform.find_session name.now) result }
+    ensures does { Does V.sights refusal_fault txn.old txn.new (platform.find_session name.now) result }
     ensures same_changes { SameChanges txn.old.log txn.new.log }
     ensures kind { IfErr result (TellsKindOf txn.new.log (kind_under (session_name name.now))) }
     ensures length { IfErr result (TellsLengthIn txn.new.log (session_name name.now)) }

@@ -19,7 +19,7 @@ pub fn send<V: View>(
     session: &Session,
     body: &Blob,
 ) -> Result<(), Refusal>
-    ensures does { Does V.gave refusal_fault txn.old txn.new (platform.session_send session.now body.now) result }
+    ensures does { Does V.sights refusal_fault txn.old txn.new (platform.session_send session.now body.now) result }
     ensures refused { OnErr result (SameChanges txn.old.log txn.new.log) }
     ensures kind { IfErr result (TellsKindOf txn.new.log (kind_under (session_name session.now.name))) }
     ensures length { IfErr result (TellsLengthIn txn.new.log body.now) }

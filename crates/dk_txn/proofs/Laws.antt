@@ -26,6 +26,7 @@ use Rattle.dk_txn.proofs.Owning.{current_start}
 use Rattle.dk_txn.specs.declared.txn.Txn.{Txn}
 use Rattle.dk_txn.specs.Does.{KeepsFor, DoesFor, Keeps, AllGiven, outcome_told}
 use Rattle.dk_txn.specs.Law.{IsBegun}
+use Rattle.dk_txn.specs.Sights.{Sights}
 
 -- with nothing done no task was moved
 pub nothing_moved : (run : RunNo) (at : ℕ) (key : TaskKey) (due : ℕ) → MovesAlone key due (nothing_done run at)
@@ -35,19 +36,19 @@ never : {A : Type 0} (n : ℕ) → n ≡ suc n → A
 never n e = absurd (omega (arith, e))
 
 -- what moves no task but those of every key and moment moves none
-pub unmoved : {S : Type 0} {gave : S → Item → Read → Type 0} {a b : Txn S Logged} (run : RunNo) (at : ℕ) → a.log ≡ nothing_done run at → Keeps gave a b
+pub unmoved : {S : Type 0} {sights : Sights S} {a b : Txn S Logged} (run : RunNo) (at : ℕ) → a.log ≡ nothing_done run at → Keeps sights a b
     → (k : TaskKey) (from to : ℕ) → map.get b.log.tasks k ≡ Some (Moved from to) → ⊥
 unmoved run at start p k from to h = never from (p.moves k (suc from) tt (subst (MovesAlone k (suc from)) (sym start) (nothing_moved run at k (suc from))) k from to h).1
 
 -- what moves no task but this one, from a start with nothing done, has moved no other
-pub moved_own : {P : TaskKey → ℕ → Type 0} {S : Type 0} {gave : S → Item → Read → Type 0} {a b : Txn S Logged} (run : RunNo) (at : ℕ) (key : TaskKey) (due : ℕ) → P key due
-    → a.log ≡ nothing_done run at → KeepsFor P gave a b → MovesAlone key due b.log
+pub moved_own : {P : TaskKey → ℕ → Type 0} {S : Type 0} {sights : Sights S} {a b : Txn S Logged} (run : RunNo) (at : ℕ) (key : TaskKey) (due : ℕ) → P key due
+    → a.log ≡ nothing_done run at → KeepsFor P sights a b → MovesAlone key due b.log
 moved_own run at key due p start k = k.moves key due p (subst (MovesAlone key due) (sym start) (nothing_moved run at key due))
 
 -- a run that did as its job does, from its start, and that tells what its end tells, keeps the law
-pub law_kept : {P : TaskKey → ℕ → Type 0} {S E : Type 0} {gave : S → Item → Read → Type 0} {told_by : E → Option AppFault} {a b : Txn S Logged} {r : Result (Unit {0}) E}
+pub law_kept : {P : TaskKey → ℕ → Type 0} {S E : Type 0} {sights : Sights S} {told_by : E → Option AppFault} {a b : Txn S Logged} {r : Result (Unit {0}) E}
     (rules : Job → Act (Unit {0})) (job : Job) (run : RunNo) (at : ℕ) (end : Result (Unit {0}) AppFault) (f : Finished)
-    → a.log ≡ nothing_done run at → DoesFor P gave told_by a b (work job (within Game (rules job))) r → outcome_told told_by r ≡ Some end
+    → a.log ≡ nothing_done run at → DoesFor P sights told_by a b (work job (within Game (rules job))) r → outcome_told told_by r ≡ Some end
     → OwnIsAsked job b.log → MovesOwn job b.log → JobFits job → f.reads.items ≡ b.log.reads → TellsEnd b.log job end f → KeepsLaw rules job run at f.reads.items (told f)
 law_kept {a = a} {b = b} rules job run at end f start p is asked own fits reads tells = record {
   keeps = λ d valid agrees new stands.
@@ -63,5 +64,5 @@ law_kept {a = a} {b = b} rules job run at end f start p is asked own fits reads 
 }
 
 -- with no reads each was given
-pub none_given : {S : Type 0} {gave : S → Item → Read → Type 0} (a : Txn S Logged) → IsBegun (a.log) → AllGiven gave a
-none_given {gave = gave} a start = record { given = subst (λ (t : Logged). AllByRecursion (λ r. gave a.view.now r.0 r.1) t.reads) (sym start) tt }
+pub none_given : {S : Type 0} {sights : Sights S} (a : Txn S Logged) → IsBegun (a.log) → AllGiven sights a
+none_given {sights = sights} a start = record { given = subst (λ (t : Logged). AllByRecursion (λ r. sights.gave a.view.now r.0 r.1) t.reads) (sym start) tt }

@@ -30,6 +30,7 @@ use Rattle.dk_txn.specs.Refusals.{refusal_fault}
 use Rattle.dk_txn.specs.Does.{Keeps, Does, SameChanges, KnownName, outcome_told}
 use Rattle.dk_txn.proofs.Reading.{same_current, keeps_changed, told_found}
 use Rattle.dk_txn.proofs.ObjectCalls.{refused_at, refused_here, done_at}
+use Rattle.dk_txn.specs.Sights.{Sights}
 
 pub name_changed : (t : Logged) (name : List ℕ) (c : Change ObjectId) → map.get t.names name ≡ Some c → KnownName t name c
 name_changed t name c h = record {
@@ -58,9 +59,9 @@ none_found : {A : Type 0} (o : Option A) → is_some o ≡ false → o ≡ None
 none_found None h = refl
 none_found (Some v) h = cc
 
-module _ {S : Type 0} {gave : S → Item → Read → Type 0} where
-  pub bound_does : {a b : Txn S Logged} {name : List ℕ} {c : Change ObjectId} → Keeps gave a b → SameChanges a.log b.log → KnownName b.log name c → (r : Result ObjectId Refusal) → r ≡ ok_or c.after refusal.NameNotBound
-      → Does gave refusal_fault a b (act.bound name) r
+module _ {S : Type 0} {sights : Sights S} where
+  pub bound_does : {a b : Txn S Logged} {name : List ℕ} {c : Change ObjectId} → Keeps sights a b → SameChanges a.log b.log → KnownName b.log name c → (r : Result ObjectId Refusal) → r ≡ ok_or c.after refusal.NameNotBound
+      → Does sights refusal_fault a b (act.bound name) r
   unfolding act.bound
   bound_does {a = a} {b = b} {name = name} {c = c} k same known r e = record {
     keeps = k;
@@ -70,7 +71,7 @@ module _ {S : Type 0} {gave : S → Item → Read → Type 0} where
         ∙ ap (λ x. (x, current b.log d)) (told_found 1 refusal.NameNotBound refl c.after s (ap (outcome_told refusal_fault) (sym e) ∙ told));
   }
 
-  pub binding_does : {a b : Txn S Logged} {name : List ℕ} {c : Change ObjectId} → Keeps gave a b → SameChanges a.log b.log → KnownName b.log name c → Does gave refusal_fault a b (binding name) (Ok c.after)
+  pub binding_does : {a b : Txn S Logged} {name : List ℕ} {c : Change ObjectId} → Keeps sights a b → SameChanges a.log b.log → KnownName b.log name c → Does sights refusal_fault a b (binding name) (Ok c.after)
   unfolding binding
   binding_does {a = a} {b = b} {name = name} k same known = record {
     keeps = k;
@@ -80,13 +81,13 @@ module _ {S : Type 0} {gave : S → Item → Read → Type 0} where
         ∙ ap (λ x. (x, current b.log d)) (Some_injective _ _ told);
   }
 
-  pub bind_reserved : {a : Txn S Logged} (name : List ℕ) (id : ObjectId) → act.is_reserved_name a.log.mode name ≡ true → Does gave refusal_fault a a (act.bind name id) (Err refusal.Reserved)
+  pub bind_reserved : {a : Txn S Logged} (name : List ℕ) (id : ObjectId) → act.is_reserved_name a.log.mode name ≡ true → Does sights refusal_fault a a (act.bind name id) (Err refusal.Reserved)
   unfolding act.bind
   bind_reserved name id h = refused_here (Refused 6) refl (λ d. rw h refl)
 
   pub bind_does : {a b : Txn S Logged} {name : List ℕ} {c : Change ObjectId} {u : Logged} (id : ObjectId) → act.is_reserved_name a.log.mode name ≡ false
-      → Keeps gave a b → SameChanges a.log b.log → KnownName b.log name c → u ≡ changing_name b.log name (record { before = c.before; after = Some id })
-      → Does gave refusal_fault a (record { view = b.view; log = u }) (act.bind name id) (Ok tt)
+      → Keeps sights a b → SameChanges a.log b.log → KnownName b.log name c → u ≡ changing_name b.log name (record { before = c.before; after = Some id })
+      → Does sights refusal_fault a (record { view = b.view; log = u }) (act.bind name id) (Ok tt)
   unfolding act.bind
   bind_does {a = a} {b = b} {name = name} {c = c} id free k same known e =
       let change : Change ObjectId = record { before = c.before; after = Some id } in
@@ -95,13 +96,13 @@ module _ {S : Type 0} {gave : S → Item → Read → Type 0} where
       done_at t _ (keeps_changed k t refl refl refl (λ s. sound_name b.log name change s (known.before s)) (λ key due p m. m)) same refl e
       (λ d agrees. rw open_now (ap (λ s. (Ok tt, s)) (current_named b.log name change d)))
 
-  pub unbind_reserved : {a : Txn S Logged} (name : List ℕ) → act.is_reserved_name a.log.mode name ≡ true → Does gave refusal_fault a a (act.unbind name) (Err refusal.Reserved)
+  pub unbind_reserved : {a : Txn S Logged} (name : List ℕ) → act.is_reserved_name a.log.mode name ≡ true → Does sights refusal_fault a a (act.unbind name) (Err refusal.Reserved)
   unfolding act.unbind
   unbind_reserved name h = refused_here (Refused 6) refl (λ d. rw h refl)
 
   pub unbind_does : {a b : Txn S Logged} {name : List ℕ} {c : Change ObjectId} {u : Logged} → act.is_reserved_name a.log.mode name ≡ false
-      → Keeps gave a b → SameChanges a.log b.log → KnownName b.log name c → is_some c.after ≡ true → u ≡ changing_name b.log name (record { before = c.before; after = None })
-      → Does gave refusal_fault a (record { view = b.view; log = u }) (act.unbind name) (Ok tt)
+      → Keeps sights a b → SameChanges a.log b.log → KnownName b.log name c → is_some c.after ≡ true → u ≡ changing_name b.log name (record { before = c.before; after = None })
+      → Does sights refusal_fault a (record { view = b.view; log = u }) (act.unbind name) (Ok tt)
   unfolding act.unbind
   unbind_does {a = a} {b = b} {name = name} {c = c} free k same known there e =
       let change : Change ObjectId = record { before = c.before; after = None } in
@@ -111,7 +112,7 @@ module _ {S : Type 0} {gave : S → Item → Read → Type 0} where
       (λ d agrees. rw open_now (ap (λ o. unbind_found o name (current b.log d)) (known.after d agrees ∙ (there_found c.after there).1) ∙ ap (λ s. (Ok tt, s)) (current_named b.log name change d)))
 
   pub unbind_refused : {a b : Txn S Logged} {name : List ℕ} {c : Change ObjectId} → act.is_reserved_name a.log.mode name ≡ false
-      → Keeps gave a b → SameChanges a.log b.log → KnownName b.log name c → is_some c.after ≡ false → Does gave refusal_fault a b (act.unbind name) (Err refusal.NameNotBound)
+      → Keeps sights a b → SameChanges a.log b.log → KnownName b.log name c → is_some c.after ≡ false → Does sights refusal_fault a b (act.unbind name) (Err refusal.NameNotBound)
   unfolding act.unbind
   unbind_refused {a = a} {b = b} {name = name} {c = c} free k same known gone =
       let open_now : act.is_reserved_name b.log.mode name ≡ false = ap (λ (l : Logged). act.is_reserved_name l.mode name) same ∙ free in

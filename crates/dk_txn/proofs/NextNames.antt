@@ -31,6 +31,7 @@ use Rattle.dk_txn.specs.Refusals.{refusal_fault}
 use Rattle.dk_txn.specs.Does.{Keeps, Does, SameChanges, NextStanding, is_standing}
 use Rattle.dk_txn.proofs.Kit.{keeps_all, keeps_then, agreed}
 use Rattle.dk_txn.proofs.Reading.{same_current}
+use Rattle.dk_txn.specs.Sights.{Sights}
 
 -- how many names of entries are above one
 abbrev pub names_above : {X : Type 0} → Option (List ℕ) → List (List ℕ × X) → ℕ
@@ -86,14 +87,14 @@ next_is : (d : DurableWorld) (cursor : Option (List ℕ)) (said : Answer) (r : O
 next_is d cursor said r e f = subst (Least bytes_cmp (λ q. passes (is_above cursor) (λ _. true) q (map.get d.names q))) (ap next_in e ∙ sym f) (next_name-least d.names cursor)
 
 -- the loop has passed each standing name that is not above the cursor
-pub record Passed {S : Type 0} (gave : S → Item → Read → Type 0) (a b : Txn S Logged) (after cursor : Option (List ℕ)) : Type 0 where
-  pub keeps : Keeps gave a b
+pub record Passed {S : Type 0} (sights : Sights S) (a b : Txn S Logged) (after cursor : Option (List ℕ)) : Type 0 where
+  pub keeps : Keeps sights a b
   pub same_changes : SameChanges a.log b.log
   pub passed : (d : DurableWorld) → Agrees d b.log.reads → (q : List ℕ) → is_standing b.log d after q ≡ true → is_above cursor q ≡ true
   pub further : (d : DurableWorld) → Agrees d b.log.reads → (q : List ℕ) → is_above cursor q ≡ true → is_above after q ≡ true
 
-module _ {S : Type 0} {gave : S → Item → Read → Type 0} where
-  pub passed_start : {a : Txn S Logged} (after cursor : Option (List ℕ)) → cursor ≡ after → Passed gave a a after cursor
+module _ {S : Type 0} {sights : Sights S} where
+  pub passed_start : {a : Txn S Logged} (after cursor : Option (List ℕ)) → cursor ≡ after → Passed sights a a after cursor
   passed_start {a = a} after cursor e = record {
     keeps = keeps_all;
     same_changes = refl;
@@ -102,7 +103,7 @@ module _ {S : Type 0} {gave : S → Item → Read → Type 0} where
   }
 
   -- one more read changes nothing of it
-  pub passed_asked : {a b c : Txn S Logged} {after cursor : Option (List ℕ)} → Passed gave a b after cursor → Keeps gave b c → SameChanges b.log c.log → Passed gave a c after cursor
+  pub passed_asked : {a b c : Txn S Logged} {after cursor : Option (List ℕ)} → Passed sights a b after cursor → Keeps sights b c → SameChanges b.log c.log → Passed sights a c after cursor
   passed_asked {a = a} {b = b} {c = c} {after = after} p k same = record {
     keeps = keeps_then p.keeps k;
     same_changes = same ∙ ap (λ (t : Logged). record t { reads = c.log.reads }) p.same_changes;
@@ -110,7 +111,7 @@ module _ {S : Type 0} {gave : S → Item → Read → Type 0} where
     further = λ d agrees. p.further d (agreed k d agrees);
   }
 
-  module _ {a c : Txn S Logged} {after cursor : Option (List ℕ)} (p : Passed gave a c after cursor) (said : Answer)
+  module _ {a c : Txn S Logged} {after cursor : Option (List ℕ)} (p : Passed sights a c after cursor) (said : Answer)
       (tells : (d : DurableWorld) → Agrees d c.log.reads → answer d (item.NextAfter cursor) ≡ said) where
     pub passed_none : None ≡ next_in said → NextStanding c.log after None
     passed_none e = record {
@@ -134,7 +135,7 @@ module _ {S : Type 0} {gave : S → Item → Read → Type 0} where
           );
     }
 
-    pub passed_on : (n : List ℕ) → Some n ≡ next_in said → is_some (map.get c.log.names n) ≡ true → Passed gave a c after (Some n)
+    pub passed_on : (n : List ℕ) → Some n ≡ next_in said → is_some (map.get c.log.names n) ≡ true → Passed sights a c after (Some n)
     passed_on n e changed = record {
       keeps = p.keeps;
       same_changes = p.same_changes;
@@ -178,9 +179,9 @@ next_over t after r own s least d agrees =
     _
     (Least-or bytes_cmp names_total names_same (is_standing t d after) (is_bound_after t.names after) r own (s.least d agrees) least))
 
-pub next_does : {S : Type 0} {gave : S → Item → Read → Type 0} {a b : Txn S Logged} (after r own least : Option (List ℕ))
-    → Keeps gave a b → SameChanges a.log b.log → NextStanding b.log after r → Least bytes_cmp (is_bound_after b.log.names after) own → least ≡ lesser bytes_cmp r own
-    → Does gave refusal_fault a b (act.next_bound after) (Ok least)
+pub next_does : {S : Type 0} {sights : Sights S} {a b : Txn S Logged} (after r own least : Option (List ℕ))
+    → Keeps sights a b → SameChanges a.log b.log → NextStanding b.log after r → Least bytes_cmp (is_bound_after b.log.names after) own → least ≡ lesser bytes_cmp r own
+    → Does sights refusal_fault a b (act.next_bound after) (Ok least)
 unfolding act.next_bound
 next_does {a = a} {b = b} after r own least k same s e f = record {
   keeps = k;

@@ -34,6 +34,7 @@ use Rattle.dk_txn.specs.Refusals.{refusal_fault, TellsLength}
 use Rattle.dk_txn.specs.Does.{KeepsFor, DoesFor, Keeps, Does, SameChanges, KnownObject, CanChange, RefusesChange, failure, outcome_told}
 use Rattle.dk_txn.proofs.Kit.{keeps_all}
 use Rattle.dk_txn.proofs.Reading.{same_current, keeps_changed, told_found}
+use Rattle.dk_txn.specs.Sights.{Sights}
 
 pub le_true : (a b : ℕ) → a ≤ b → nat_le a b ≡ true
 le_true a b h = grind (arith, nat_tests)
@@ -41,10 +42,10 @@ le_true a b h = grind (arith, nat_tests)
 pub le_false : (a b : ℕ) → b < a → nat_le a b ≡ false
 le_false a b h = grind (arith, nat_tests)
 
-module _ {P : TaskKey → ℕ → Type 0} {S : Type 0} {gave : S → Item → Read → Type 0} where
+module _ {P : TaskKey → ℕ → Type 0} {S : Type 0} {sights : Sights S} where
   -- the run stands as it did, and the call is refused
-  pub refused_at : {a b : Txn S Logged} {A : Type 0} {f : Act A} {e : Refusal} (fault : AppFault) → KeepsFor P gave a b → SameChanges a.log b.log → refusal_fault e ≡ Some fault
-      → ((d : DurableWorld) → Agrees d b.log.reads → f (current b.log d) ≡ (Err fault, current b.log d)) → DoesFor P gave refusal_fault a b f (Err e)
+  pub refused_at : {a b : Txn S Logged} {A : Type 0} {f : Act A} {e : Refusal} (fault : AppFault) → KeepsFor P sights a b → SameChanges a.log b.log → refusal_fault e ≡ Some fault
+      → ((d : DurableWorld) → Agrees d b.log.reads → f (current b.log d) ≡ (Err fault, current b.log d)) → DoesFor P sights refusal_fault a b f (Err e)
   refused_at {a = a} {b = b} {f = f} fault k same is h = record {
     keeps = k;
     does = λ s t d agrees. ap f (same_current a.log b.log d same) ∙ h d agrees ∙ ap (λ r. (r, current b.log d)) (Some_injective _ _ (sym (ap failure is) ∙ t));
@@ -52,23 +53,23 @@ module _ {P : TaskKey → ℕ → Type 0} {S : Type 0} {gave : S → Item → Re
 
   -- the same where nothing was read
   pub refused_here : {a : Txn S Logged} {A : Type 0} {f : Act A} {e : Refusal} (fault : AppFault) → refusal_fault e ≡ Some fault
-      → ((d : DurableWorld) → f (current a.log d) ≡ (Err fault, current a.log d)) → DoesFor P gave refusal_fault a a f (Err e)
+      → ((d : DurableWorld) → f (current a.log d) ≡ (Err fault, current a.log d)) → DoesFor P sights refusal_fault a a f (Err e)
   refused_here {a = a} {f = f} fault is h = record {
     keeps = keeps_all;
     does = λ s t d agrees. h d ∙ ap (λ r. (r, current a.log d)) (Some_injective _ _ (sym (ap failure is) ∙ t));
   }
 
   -- the run stands as the log t says, and the call is done
-  pub done_at : {a b : Txn S Logged} {A : Type 0} {f : Act A} {x : A} (t u : Logged) → KeepsFor P gave a (record { view = b.view; log = t }) → SameChanges a.log b.log → t.reads ≡ b.log.reads → u ≡ t
-      → ((d : DurableWorld) → Agrees d b.log.reads → f (current b.log d) ≡ (Ok x, current t d)) → DoesFor P gave refusal_fault a (record { view = b.view; log = u }) f (Ok x)
+  pub done_at : {a b : Txn S Logged} {A : Type 0} {f : Act A} {x : A} (t u : Logged) → KeepsFor P sights a (record { view = b.view; log = t }) → SameChanges a.log b.log → t.reads ≡ b.log.reads → u ≡ t
+      → ((d : DurableWorld) → Agrees d b.log.reads → f (current b.log d) ≡ (Ok x, current t d)) → DoesFor P sights refusal_fault a (record { view = b.view; log = u }) f (Ok x)
   done_at {a = a} {b = b} {f = f} {x = x} t u k same reads e h =
-      subst (λ (t : Logged). DoesFor P gave refusal_fault a (record { view = b.view; log = t }) f (Ok x)) (sym e) (record {
+      subst (λ (t : Logged). DoesFor P sights refusal_fault a (record { view = b.view; log = t }) f (Ok x)) (sym e) (record {
         keeps = k;
         does = λ s told d agrees. ap f (same_current a.log b.log d same) ∙ h d (subst (Agrees d) reads agrees) ∙ ap (λ r. (r, current t d)) (Some_injective _ _ told);
       })
 
   -- want of memory tells nothing
-  pub forgotten : {a b : Txn S Logged} {A : Type 0} {f : Act A} → KeepsFor P gave a b → DoesFor P gave refusal_fault a b f (Err refusal.NoMemory)
+  pub forgotten : {a b : Txn S Logged} {A : Type 0} {f : Act A} → KeepsFor P sights a b → DoesFor P sights refusal_fault a b f (Err refusal.NoMemory)
   forgotten k = record { keeps = k; does = λ s t. cc }
 
 -- what is known of an object by a change of it, and by what the view said
@@ -87,9 +88,9 @@ known_asked t id said o b none e f h =
       before = λ s d agrees new. f ∙ sym (was d agrees);
     }
 
-module _ {S : Type 0} {gave : S → Item → Read → Type 0} where
-  pub get_does : {a b : Txn S Logged} {id : ObjectId} {c : Change Object} → Keeps gave a b → SameChanges a.log b.log → KnownObject b.log id c → (r : Result Object Refusal) → r ≡ ok_or c.after refusal.ObjectNotFound
-      → Does gave refusal_fault a b (act.get id) r
+module _ {S : Type 0} {sights : Sights S} where
+  pub get_does : {a b : Txn S Logged} {id : ObjectId} {c : Change Object} → Keeps sights a b → SameChanges a.log b.log → KnownObject b.log id c → (r : Result Object Refusal) → r ≡ ok_or c.after refusal.ObjectNotFound
+      → Does sights refusal_fault a b (act.get id) r
   unfolding act.get
   get_does {a = a} {b = b} {id = id} {c = c} k same known r e = record {
     keeps = k;
@@ -118,11 +119,11 @@ changed_by t id c can change d agrees =
     ap (λ o. change_found o id change (current t d)) (can.known.after d agrees ∙ can.there.1)
     ∙ rw can.there.2 (ap (λ s. (Ok tt, s)) (current_changed t id (record { before = c.before; after = change can.there.0 }) d))
 
-module _ {S : Type 0} {gave : S → Item → Read → Type 0} where
+module _ {S : Type 0} {sights : Sights S} where
   -- a change of an object, done
   pub change_does : {a b : Txn S Logged} {id : ObjectId} {c : Change Object} {u : Logged} (f : Act (Unit {0})) (change : Object → Option Object) (new : Option Object)
-      → Keeps gave a b → SameChanges a.log b.log → (can : CanChange b.log id c) → new ≡ change can.there.0 → u ≡ changing_object b.log id (record { before = c.before; after = new })
-      → ((s : Run) → f s ≡ change_object id change s) → Does gave refusal_fault a (record { view = b.view; log = u }) f (Ok tt)
+      → Keeps sights a b → SameChanges a.log b.log → (can : CanChange b.log id c) → new ≡ change can.there.0 → u ≡ changing_object b.log id (record { before = c.before; after = new })
+      → ((s : Run) → f s ≡ change_object id change s) → Does sights refusal_fault a (record { view = b.view; log = u }) f (Ok tt)
   change_does {a = a} {b = b} {id = id} {c = c} f change new k same can is e means =
       let done : Change Object = record { before = c.before; after = new } in
       let t : Logged = changing_object b.log id done in
@@ -131,7 +132,7 @@ module _ {S : Type 0} {gave : S → Item → Read → Type 0} where
 
   -- and refused
   pub change_refused : {a b : Txn S Logged} {e : Refusal} (id : ObjectId) (f : Act (Unit {0})) (change : Object → Option Object)
-      → Keeps gave a b → SameChanges a.log b.log → RefusesChange b.log id e → ((s : Run) → f s ≡ change_object id change s) → Does gave refusal_fault a b f (Err e)
+      → Keeps sights a b → SameChanges a.log b.log → RefusesChange b.log id e → ((s : Run) → f s ≡ change_object id change s) → Does sights refusal_fault a b f (Err e)
   change_refused {a = a} {b = b} {e = e} id f change k same refuses means = record {
     keeps = k;
     does = does (refusal_fault e) refl;
@@ -142,25 +143,25 @@ module _ {S : Type 0} {gave : S → Item → Read → Type 0} where
       does (Some fault) is s t = λ d agrees.
           ap f (same_current a.log b.log d same) ∙ means (current b.log d) ∙ refuses fault is change d agrees ∙ ap (λ r. (r, current b.log d)) (Some_injective _ _ t)
 
-  pub save_long : {a : Txn S Logged} {e : Refusal} (id : ObjectId) (bytes : List ℕ) → refusal_fault e ≡ Some (Refused 4) → act.is_too_long bytes ≡ true → Does gave refusal_fault a a (act.save id bytes) (Err e)
+  pub save_long : {a : Txn S Logged} {e : Refusal} (id : ObjectId) (bytes : List ℕ) → refusal_fault e ≡ Some (Refused 4) → act.is_too_long bytes ≡ true → Does sights refusal_fault a a (act.save id bytes) (Err e)
   unfolding act.save
   save_long id bytes is h = refused_here (Refused 4) is (λ d. rw h refl)
 
   module _ {a : Txn S Logged} (kind : ℕ) (bytes : List ℕ) where
-    pub create_reserved : act.is_reserved_kind a.log.mode kind ≡ true → Does gave refusal_fault a a (act.create kind bytes) (Err refusal.Reserved)
+    pub create_reserved : act.is_reserved_kind a.log.mode kind ≡ true → Does sights refusal_fault a a (act.create kind bytes) (Err refusal.Reserved)
     unfolding act.create
     create_reserved h = refused_here (Refused 6) refl (λ d. rw h refl)
 
-    pub create_long : {e : Refusal} → refusal_fault e ≡ Some (Refused 4) → act.is_reserved_kind a.log.mode kind ≡ false → act.is_too_long bytes ≡ true → Does gave refusal_fault a a (act.create kind bytes) (Err e)
+    pub create_long : {e : Refusal} → refusal_fault e ≡ Some (Refused 4) → act.is_reserved_kind a.log.mode kind ≡ false → act.is_too_long bytes ≡ true → Does sights refusal_fault a a (act.create kind bytes) (Err e)
     unfolding act.create
     create_long is free h = refused_here (Refused 4) is (λ d. rw (free, h) refl)
 
-    pub create_many : act.is_reserved_kind a.log.mode kind ≡ false → act.is_too_long bytes ≡ false → 65536 ≤ a.log.objects_made → Does gave refusal_fault a a (act.create kind bytes) (Err refusal.TooMany)
+    pub create_many : act.is_reserved_kind a.log.mode kind ≡ false → act.is_too_long bytes ≡ false → 65536 ≤ a.log.objects_made → Does sights refusal_fault a a (act.create kind bytes) (Err refusal.TooMany)
     unfolding act.create
     create_many free short h = refused_here (Refused 8) refl (λ d. rw (free, short, le_true 65536 a.log.objects_made h) refl)
 
     pub create_does : {u : Logged} (id : ObjectId) → act.is_reserved_kind a.log.mode kind ≡ false → act.is_too_long bytes ≡ false → a.log.objects_made < 65536
-        → id ≡ new_id (a.log) → u ≡ creating (a.log) (record { kind = kind; bytes = bytes }) → Does gave refusal_fault a (record { view = a.view; log = u }) (act.create kind bytes) (Ok id)
+        → id ≡ new_id (a.log) → u ≡ creating (a.log) (record { kind = kind; bytes = bytes }) → Does sights refusal_fault a (record { view = a.view; log = u }) (act.create kind bytes) (Ok id)
     unfolding act.create
     create_does id free short few is e =
         let object : Object = record { kind = kind; bytes = bytes } in

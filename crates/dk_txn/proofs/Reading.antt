@@ -21,6 +21,7 @@ use Rattle.dk_txn.specs.declared.refusal.Refusal.{Refusal}
 use Rattle.dk_txn.specs.declared.txn.Txn.{Txn}
 use Rattle.dk_txn.specs.Refusals.{refusal_fault}
 use Rattle.dk_txn.specs.Does.{KeepsFor, Keeps, SameChanges, failure, outcome_told}
+use Rattle.dk_txn.specs.Sights.{Sights}
 
 All-push : {X : Type 0} (P : X → Type 0) (xs : List X) (x : X) → AllByRecursion P xs → P x → AllByRecursion P (xs ++ x ∷ [])
 All-push P [] x h p = (p, tt)
@@ -30,17 +31,17 @@ All-weaker : {X : Type 0} (P Q : X → Type 0) (xs : List X) → ((x : X) → P 
 All-weaker P Q [] f h = tt
 All-weaker P Q (x ∷ xs) f h = (f x h.0, All-weaker P Q xs f h.1)
 
-module _ {S : Type 0} {gave : S → Item → Read → Type 0} {a b : Txn S Logged} where
+module _ {S : Type 0} {sights : Sights S} {a b : Txn S Logged} where
   -- after a read
-  pub keeps_read : (item : Item) (read : Read) → b.view.ghost_name ≡ a.view.ghost_name → gave b.view.now item read
-      → ((i : Item) (r : Read) → gave a.view.now i r → gave b.view.now i r) → b.log ≡ reading a.log item read → Keeps gave a b
-  keeps_read item read same gives keeps e = record {
+  pub keeps_read : (item : Item) (read : Read) → b.view.ghost_name ≡ a.view.ghost_name → sights.gave b.view.now item read
+      → sights.becomes a.view.now b.view.now → b.log ≡ reading a.log item read → Keeps sights a b
+  keeps_read item read same gives becomes e = record {
     same_view = same;
     reads_stay = ((item, read) ∷ [], ap (λ (t : Logged). t.reads) e);
-    kept = keeps;
+    becomes = becomes;
     given = λ h. record {
-      given = subst (λ (t : Logged). AllByRecursion (λ r. gave b.view.now r.0 r.1) t.reads) (sym e)
-          (All-push (λ r. gave b.view.now r.0 r.1) a.log.reads (item, read) (All-weaker (λ r. gave a.view.now r.0 r.1) (λ r. gave b.view.now r.0 r.1) a.log.reads (λ r. keeps r.0 r.1) h.given) gives);
+      given = subst (λ (t : Logged). AllByRecursion (λ r. sights.gave b.view.now r.0 r.1) t.reads) (sym e)
+          (All-push (λ r. sights.gave b.view.now r.0 r.1) a.log.reads (item, read) (All-weaker (λ r. sights.gave a.view.now r.0 r.1) (λ r. sights.gave b.view.now r.0 r.1) a.log.reads (λ r. sights.keeps _ _ becomes r.0 r.1) h.given) gives);
     };
     same_run = ap (λ (t : Logged). t.run) e;
     same_at = ap (λ (t : Logged). t.at) e;
@@ -49,14 +50,14 @@ module _ {S : Type 0} {gave : S → Item → Read → Type 0} {a b : Txn S Logge
   }
 
   -- after a read that was refused
-  pub keeps_unread : b.view.ghost_name ≡ a.view.ghost_name → ((i : Item) (r : Read) → gave a.view.now i r → gave b.view.now i r) → b.log ≡ a.log → Keeps gave a b
-  keeps_unread same keeps e = record {
+  pub keeps_unread : b.view.ghost_name ≡ a.view.ghost_name → sights.becomes a.view.now b.view.now → b.log ≡ a.log → Keeps sights a b
+  keeps_unread same becomes e = record {
     same_view = same;
     reads_stay = ([], ap (λ (t : Logged). t.reads) e ∙ sym (append-nil a.log.reads));
-    kept = keeps;
+    becomes = becomes;
     given = λ h. record {
-      given = subst (λ (t : Logged). AllByRecursion (λ r. gave b.view.now r.0 r.1) t.reads) (sym e)
-          (All-weaker (λ r. gave a.view.now r.0 r.1) (λ r. gave b.view.now r.0 r.1) a.log.reads (λ r. keeps r.0 r.1) h.given);
+      given = subst (λ (t : Logged). AllByRecursion (λ r. sights.gave b.view.now r.0 r.1) t.reads) (sym e)
+          (All-weaker (λ r. sights.gave a.view.now r.0 r.1) (λ r. sights.gave b.view.now r.0 r.1) a.log.reads (λ r. sights.keeps _ _ becomes r.0 r.1) h.given);
     };
     same_run = ap (λ (t : Logged). t.run) e;
     same_at = ap (λ (t : Logged). t.at) e;
@@ -76,14 +77,14 @@ pub same_current : (a b : Logged) (d : DurableWorld) → SameChanges a b → cur
 same_current a b d e = sym (ap (λ t. current t d) e)
 
 -- what a change of the log keeps, with the view as it was
-pub keeps_changed : {P : TaskKey → ℕ → Type 0} {S : Type 0} {gave : S → Item → Read → Type 0} {a b : Txn S Logged} → KeepsFor P gave a b → (t : Logged)
+pub keeps_changed : {P : TaskKey → ℕ → Type 0} {S : Type 0} {sights : Sights S} {a b : Txn S Logged} → KeepsFor P sights a b → (t : Logged)
     → t.reads ≡ b.log.reads → t.run ≡ b.log.run → t.at ≡ b.log.at → (IsSound b.log → IsSound t) → ((key : TaskKey) (due : ℕ) → P key due → MovesAlone key due b.log → MovesAlone key due t)
-    → KeepsFor P gave a (record { view = b.view; log = t })
-keeps_changed {gave = gave} {b = b} k t reads run at sound moves = record {
+    → KeepsFor P sights a (record { view = b.view; log = t })
+keeps_changed {sights = sights} {b = b} k t reads run at sound moves = record {
   same_view = k.same_view;
   reads_stay = (k.reads_stay.0, reads ∙ k.reads_stay.1);
-  kept = k.kept;
-  given = λ h. record { given = subst (λ rs. AllByRecursion (λ r. gave b.view.now r.0 r.1) rs) (sym reads) (k.given h).given };
+  becomes = k.becomes;
+  given = λ h. record { given = subst (λ rs. AllByRecursion (λ r. sights.gave b.view.now r.0 r.1) rs) (sym reads) (k.given h).given };
   same_run = run ∙ k.same_run;
   same_at = at ∙ k.same_at;
   sound = λ s. sound (k.sound s);

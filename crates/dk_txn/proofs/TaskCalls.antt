@@ -39,6 +39,7 @@ use Rattle.dk_txn.specs.Does.{Keeps, Does, DoesFor, Only, SameChanges, KnownTask
 use Rattle.dk_txn.proofs.Kit.{keeps_all, keeps_for}
 use Rattle.dk_txn.proofs.Reading.{same_current, keeps_changed}
 use Rattle.dk_txn.proofs.ObjectCalls.{refused_at, refused_here, done_at, le_true, le_false}
+use Rattle.dk_txn.specs.Sights.{Sights}
 
 -- a task of this moment and delay
 abbrev pub scheduled_at : ℕ → List ℕ → ℕ → ℕ → ℕ → Scheduled
@@ -115,26 +116,26 @@ module _ (t : Logged) (key : TaskKey) (due period : ℕ) where
         knows_passed t d key due period (s.knows d agrees_then (subst (IsNew d) passing_run new)) (known d agrees_then);
   }
 
-module _ {S : Type 0} {gave : S → Item → Read → Type 0} where
+module _ {S : Type 0} {sights : Sights S} where
   -- the rules say the same in other words
   pub does_as : {P : TaskKey → ℕ → Type 0} {a b : Txn S Logged} {E A : Type 0} {told : E → Option AppFault} {f : Act A} {r : Result A E} (g : Act A)
-      → ((s : Run) → f s ≡ g s) → DoesFor P gave told a b g r → DoesFor P gave told a b f r
+      → ((s : Run) → f s ≡ g s) → DoesFor P sights told a b g r → DoesFor P sights told a b f r
   does_as {a = a} g same p = record { keeps = p.keeps; does = λ s t d agrees. same (current a.log d) ∙ p.does s t d agrees }
 
-  pub cancel_does : {a b : Txn S Logged} {u : Logged} (key : TaskKey) → Keeps gave a b → SameChanges a.log b.log → KnownTask b.log key true → u ≡ removing_task b.log key
-      → Does gave refusal_fault a (record { view = b.view; log = u }) (act.cancel key) (Ok tt)
+  pub cancel_does : {a b : Txn S Logged} {u : Logged} (key : TaskKey) → Keeps sights a b → SameChanges a.log b.log → KnownTask b.log key true → u ≡ removing_task b.log key
+      → Does sights refusal_fault a (record { view = b.view; log = u }) (act.cancel key) (Ok tt)
   unfolding act.cancel
   cancel_does {a = a} {b = b} key k same known e =
       let t : Logged = removing_task b.log key in
       done_at t _ (keeps_changed k t refl refl refl (sound_removed b.log key known) (λ q due p m. moves_but b.log key (removing (map.get b.log.tasks key)) (λ from to e. removing_unmoved (map.get b.log.tasks key) from to e) q due m)) same refl e
       (λ d agrees. cancelled _ key (current b.log d) (known d agrees) ∙ ap (λ s. (Ok tt, s)) (current_removed b.log key d))
 
-  pub cancel_refused : {a b : Txn S Logged} (key : TaskKey) → Keeps gave a b → SameChanges a.log b.log → KnownTask b.log key false → Does gave refusal_fault a b (act.cancel key) (Err refusal.ObjectNotFound)
+  pub cancel_refused : {a b : Txn S Logged} (key : TaskKey) → Keeps sights a b → SameChanges a.log b.log → KnownTask b.log key false → Does sights refusal_fault a b (act.cancel key) (Err refusal.ObjectNotFound)
   unfolding act.cancel
   cancel_refused {b = b} key k same known = refused_at (Refused 2) k same refl (λ d agrees. uncancelled _ key (current b.log d) (known d agrees))
 
-  pub own_does : {a b : Txn S Logged} {u : Logged} (key : TaskKey) (due period : ℕ) → Keeps gave a b → SameChanges a.log b.log → KnownTask b.log key true → u ≡ passing_own b.log key due period
-      → DoesFor (Only key due) gave refusal_fault a (record { view = b.view; log = u }) (own_task key due period) (Ok true)
+  pub own_does : {a b : Txn S Logged} {u : Logged} (key : TaskKey) (due period : ℕ) → Keeps sights a b → SameChanges a.log b.log → KnownTask b.log key true → u ≡ passing_own b.log key due period
+      → DoesFor (Only key due) sights refusal_fault a (record { view = b.view; log = u }) (own_task key due period) (Ok true)
   own_does {a = a} {b = b} key due period k same known e =
       let t : Logged = passing_own b.log key due period in
       done_at t _
@@ -142,19 +143,19 @@ module _ {S : Type 0} {gave : S → Item → Read → Type 0} where
       (λ q from p m. moves_passed (λ x n. (x ≡ q) × (n ≡ from)) b.log key due period (sym p.0, sym p.1) m))
       same (passing_reads b.log key due period) e (λ d agrees. own_passed b.log d key due period (known d agrees))
 
-  pub own_none : {a b : Txn S Logged} (key : TaskKey) (due period : ℕ) → Keeps gave a b → SameChanges a.log b.log → KnownTask b.log key false
-      → DoesFor (Only key due) gave refusal_fault a b (own_task key due period) (Ok false)
+  pub own_none : {a b : Txn S Logged} (key : TaskKey) (due period : ℕ) → Keeps sights a b → SameChanges a.log b.log → KnownTask b.log key false
+      → DoesFor (Only key due) sights refusal_fault a b (own_task key due period) (Ok false)
   own_none {a = a} {b = b} key due period k same known = record {
     keeps = keeps_for k;
     does = λ s t d agrees. ap (own_task key due period) (same_current a.log b.log d same) ∙ own_absent b.log d key due period (known d agrees) ∙ ap (λ r. (r, current b.log d)) (Some_injective _ _ t);
   }
 
   module _ {a : Txn S Logged} (kind : ℕ) (arg : List ℕ) (delay period : ℕ) where
-    pub add_many : 65536 ≤ a.log.tasks_made → Does gave refusal_fault a a (act.scheduled kind arg delay period) (Err refusal.TooMany)
+    pub add_many : 65536 ≤ a.log.tasks_made → Does sights refusal_fault a a (act.scheduled kind arg delay period) (Err refusal.TooMany)
     add_many h = refused_here (Refused 8) refl (λ d. rw (le_true 65536 a.log.tasks_made h) refl)
 
     pub add_does : {u : Logged} (key : TaskKey) (task : Scheduled) → a.log.tasks_made < 65536 → task ≡ record { due = a.log.at + delay; period = period; kind = kind; arg = arg }
-        → key ≡ new_key (a.log) → u ≡ scheduling (a.log) task → Does gave refusal_fault a (record { view = a.view; log = u }) (act.scheduled kind arg delay period) (Ok key)
+        → key ≡ new_key (a.log) → u ≡ scheduling (a.log) task → Does sights refusal_fault a (record { view = a.view; log = u }) (act.scheduled kind arg delay period) (Ok key)
     add_does key task few what is e =
         let made : Logged = record (a.log) { tasks_made = a.log.tasks_made + 1 } in
         let s : Scheduled = record { due = a.log.at + delay; period = period; kind = kind; arg = arg } in
@@ -169,44 +170,44 @@ module _ {S : Type 0} {gave : S → Item → Read → Type 0} where
         (ap (λ r. (Ok (new_key (a.log)), r)) (current_task made (new_key (a.log)) (Added s) d (Some (task_made s)) refl) ∙ ap (λ k. (Ok k, current t d)) (sym is)))
 
   module _ {a : Txn S Logged} (kind : ℕ) (arg : List ℕ) (delay : ℕ) where
-    pub schedule_long : {e : Refusal} → refusal_fault e ≡ Some (Refused 4) → act.is_too_long arg ≡ true → Does gave refusal_fault a a (act.schedule kind arg delay) (Err e)
+    pub schedule_long : {e : Refusal} → refusal_fault e ≡ Some (Refused 4) → act.is_too_long arg ≡ true → Does sights refusal_fault a a (act.schedule kind arg delay) (Err e)
     unfolding act.schedule
     schedule_long is h = refused_here (Refused 4) is (λ d. rw h refl)
 
-    pub schedule_late : act.is_too_long arg ≡ false → 1099511627776 < delay → Does gave refusal_fault a a (act.schedule kind arg delay) (Err refusal.BadDelay)
+    pub schedule_late : act.is_too_long arg ≡ false → 1099511627776 < delay → Does sights refusal_fault a a (act.schedule kind arg delay) (Err refusal.BadDelay)
     unfolding act.schedule
     schedule_late short h = refused_here (Refused 5) refl (λ d. rw (short, lt_true 1099511627776 delay h) refl)
 
     pub schedule_does : {b : Txn S Logged} {r : Result TaskKey Refusal} → act.is_too_long arg ≡ false → delay ≤ 1099511627776
-        → Does gave refusal_fault a b (act.scheduled kind arg delay 0) r → Does gave refusal_fault a b (act.schedule kind arg delay) r
+        → Does sights refusal_fault a b (act.scheduled kind arg delay 0) r → Does sights refusal_fault a b (act.schedule kind arg delay) r
     unfolding act.schedule
     schedule_does short near p = does_as (act.scheduled kind arg delay 0) (λ s. rw (short, lt_false 1099511627776 delay near) refl) p
 
-    pub periodic_long : (period : ℕ) {e : Refusal} → refusal_fault e ≡ Some (Refused 4) → act.is_too_long arg ≡ true → Does gave refusal_fault a a (act.schedule_periodic kind arg delay period) (Err e)
+    pub periodic_long : (period : ℕ) {e : Refusal} → refusal_fault e ≡ Some (Refused 4) → act.is_too_long arg ≡ true → Does sights refusal_fault a a (act.schedule_periodic kind arg delay period) (Err e)
     unfolding act.schedule_periodic
     periodic_long period is h = refused_here (Refused 4) is (λ d. rw h refl)
 
     pub periodic_bad : (period : ℕ) → act.is_too_long arg ≡ false → (nat_lt 1099511627776 delay || nat_lt 1099511627776 period || period == 0) ≡ true
-        → Does gave refusal_fault a a (act.schedule_periodic kind arg delay period) (Err refusal.BadDelay)
+        → Does sights refusal_fault a a (act.schedule_periodic kind arg delay period) (Err refusal.BadDelay)
     unfolding act.schedule_periodic
     periodic_bad period short h = refused_here (Refused 5) refl (λ d. rw (short, h) refl)
 
     pub periodic_does : (period : ℕ) {b : Txn S Logged} {r : Result TaskKey Refusal} → act.is_too_long arg ≡ false → (nat_lt 1099511627776 delay || nat_lt 1099511627776 period || period == 0) ≡ false
-        → Does gave refusal_fault a b (act.scheduled kind arg delay period) r → Does gave refusal_fault a b (act.schedule_periodic kind arg delay period) r
+        → Does sights refusal_fault a b (act.scheduled kind arg delay period) r → Does sights refusal_fault a b (act.schedule_periodic kind arg delay period) r
     unfolding act.schedule_periodic
     periodic_does period short good p = does_as (act.scheduled kind arg delay period) (λ s. rw (short, good) refl) p
 
   module _ {a : Txn S Logged} (to : ConnNo) (out : Out) where
-    pub send_long : {e : Refusal} → refusal_fault e ≡ Some (Refused 4) → 65535 < length (act.body_of out) → Does gave refusal_fault a a (act.send to out) (Err e)
+    pub send_long : {e : Refusal} → refusal_fault e ≡ Some (Refused 4) → 65535 < length (act.body_of out) → Does sights refusal_fault a a (act.send to out) (Err e)
     unfolding act.send
     send_long is h = refused_here (Refused 4) is (λ d. rw (lt_true 65535 (length (act.body_of out)) h) refl)
 
-    pub send_many : length (act.body_of out) ≤ 65535 → 65536 ≤ length a.log.outs → Does gave refusal_fault a a (act.send to out) (Err refusal.TooMany)
+    pub send_many : length (act.body_of out) ≤ 65535 → 65536 ≤ length a.log.outs → Does sights refusal_fault a a (act.send to out) (Err refusal.TooMany)
     unfolding act.send
     send_many short h = refused_here (Refused 8) refl (λ d. rw (lt_false 65535 (length (act.body_of out)) short, le_true 65536 (length a.log.outs) h) refl)
 
     pub send_does : {u : Logged} → length (act.body_of out) ≤ 65535 → length a.log.outs < 65536 → u ≡ sending (a.log) to out
-        → Does gave refusal_fault a (record { view = a.view; log = u }) (act.send to out) (Ok tt)
+        → Does sights refusal_fault a (record { view = a.view; log = u }) (act.send to out) (Ok tt)
     unfolding act.send
     send_does short few e =
         let t : Logged = sending (a.log) to out in

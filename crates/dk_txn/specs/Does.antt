@@ -22,22 +22,23 @@ use Rattle.dk_txn.specs.Knowing.{IsSound, MovesAlone}
 use Rattle.dk_txn.specs.declared.txn.Txn.{Txn}
 use Rattle.dk_txn.specs.declared.refusal.Refusal.{Refusal}
 use Rattle.dk_txn.specs.Refusals.{refusal_fault}
+use Rattle.dk_txn.specs.Sights.{Sights}
 
 -- only reads were added
 abbrev pub SameChanges : Logged → Logged → Type 0
 SameChanges a b = b ≡ record a { reads = b.reads }
 
 -- each read was given by the view
-pub record AllGiven {S : Type 0} (gave : S → Item → Read → Type 0) (t : Txn S Logged) : Type 0 where
-  pub given : AllByRecursion (λ r. gave t.view.now r.0 r.1) t.log.reads
+pub record AllGiven {S : Type 0} (sights : Sights S) (t : Txn S Logged) : Type 0 where
+  pub given : AllByRecursion (λ r. sights.gave t.view.now r.0 r.1) t.log.reads
 
--- what a call keeps, however it ends: the view is the same, and reads were only added, each of them given by the view; the
+-- what a call keeps, however it ends: the view is the same, or what it becomes, and reads were only added, each of them given by the view; the
 -- changes know what was there before, and no task was moved but those for which P holds, of its key and its due moment
-pub record KeepsFor (P : TaskKey → ℕ → Type 0) {S : Type 0} (gave : S → Item → Read → Type 0) (a b : Txn S Logged) : Type 0 where
+pub record KeepsFor (P : TaskKey → ℕ → Type 0) {S : Type 0} (sights : Sights S) (a b : Txn S Logged) : Type 0 where
   pub same_view : b.view.ghost_name ≡ a.view.ghost_name
   pub reads_stay : (more : List (Item × Read)) × (b.log.reads ≡ a.log.reads ++ more)
-  pub kept : (item : Item) (read : Read) → gave a.view.now item read → gave b.view.now item read
-  pub given : AllGiven gave a → AllGiven gave b
+  pub becomes : sights.becomes a.view.now b.view.now
+  pub given : AllGiven sights a → AllGiven sights b
   pub same_run : b.log.run ≡ a.log.run
   pub same_at : b.log.at ≡ a.log.at
   pub sound : IsSound a.log → IsSound b.log
@@ -54,13 +55,13 @@ outcome_told told (Ok x) = Some (Ok x)
 outcome_told told (Err e) = failure (told e)
 
 -- in every agreeing world, the call does f and answers as f does; `told` says which fault an error tells
-pub record DoesFor (P : TaskKey → ℕ → Type 0) {S E A : Type 0} (gave : S → Item → Read → Type 0) (told : E → Option AppFault) (a b : Txn S Logged) (f : Act A) (r : Result A E) : Type 0 where
-  pub keeps : KeepsFor P gave a b
+pub record DoesFor (P : TaskKey → ℕ → Type 0) {S E A : Type 0} (sights : Sights S) (told : E → Option AppFault) (a b : Txn S Logged) (f : Act A) (r : Result A E) : Type 0 where
+  pub keeps : KeepsFor P sights a b
   pub does : (s : Result A AppFault) → outcome_told told r ≡ Some s → (d : DurableWorld) → Agrees d b.log.reads → f (current a.log d) ≡ (s, current b.log d)
 
 -- in every agreeing world, what was left to do at first is what is left to do now
-pub record LeadsFor (P : TaskKey → ℕ → Type 0) {S C : Type 0} (gave : S → Item → Read → Type 0) (a b : Txn S Logged) (f g : Act C) : Type 0 where
-  pub keeps : KeepsFor P gave a b
+pub record LeadsFor (P : TaskKey → ℕ → Type 0) {S C : Type 0} (sights : Sights S) (a b : Txn S Logged) (f g : Act C) : Type 0 where
+  pub keeps : KeepsFor P sights a b
   pub leads : (d : DurableWorld) → Agrees d b.log.reads → f (current a.log d) ≡ g (current b.log d)
 
 -- no task is moved
@@ -71,13 +72,13 @@ Every key due = Unit {0}
 abbrev pub Only : TaskKey → ℕ → TaskKey → ℕ → Type 0
 Only key due k from = (k ≡ key) × (from ≡ due)
 
-abbrev pub Keeps : {S : Type 0} → (S → Item → Read → Type 0) → Txn S Logged → Txn S Logged → Type 0
+abbrev pub Keeps : {S : Type 0} → Sights S → Txn S Logged → Txn S Logged → Type 0
 Keeps = KeepsFor Every
 
-abbrev pub Does : {S E A : Type 0} → (S → Item → Read → Type 0) → (E → Option AppFault) → Txn S Logged → Txn S Logged → Act A → Result A E → Type 0
+abbrev pub Does : {S E A : Type 0} → Sights S → (E → Option AppFault) → Txn S Logged → Txn S Logged → Act A → Result A E → Type 0
 Does = DoesFor Every
 
-abbrev pub Leads : {S C : Type 0} → (S → Item → Read → Type 0) → Txn S Logged → Txn S Logged → Act C → Act C → Type 0
+abbrev pub Leads : {S C : Type 0} → Sights S → Txn S Logged → Txn S Logged → Act C → Act C → Type 0
 Leads = LeadsFor Every
 
 -- c is what an object was and is

@@ -1,3 +1,4 @@
+pub mod Sights
 pub mod Layers
 pub mod Current
 pub mod Knowing

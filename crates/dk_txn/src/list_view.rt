@@ -65,8 +65,9 @@ fn copy_read(read: &Read) -> Result<Read, NoMemory>
 impl View for ListView {
     ghost use Rattle.std.specs.Prelude.{◌≡◌};
     ghost use Rattle.dk_txn.specs.Listing.{read_in};
+    ghost use Rattle.dk_txn.specs.Sights.{steady};
 
-    ghost gave = { λ view item read. read ≡ read_in view.reads.items item };
+    ghost sights = { steady (λ view item read. read ≡ read_in view.reads.items item) };
 
     fn read(&mut self, item: &Item) -> Result<Read, NoMemory> {
         for (known, read) in &self.reads {

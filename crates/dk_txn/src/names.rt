@@ -50,7 +50,7 @@ impl<'a, V: View> Txn<'a, V> {
 
     /// What a name was bound to before the run, and what it is bound to now.
     fn known_name(&mut self, name: &Name) -> Result<Change<ObjectId>, NoMemory>
-        ensures keeps { Keeps V.gave self.old self.new }
+        ensures keeps { Keeps V.sights self.old self.new }
         ensures same_changes { SameChanges self.old.log self.new.log }
         ensures known { IfOk result (KnownName self.new.log name.now) }
     {
@@ -70,7 +70,7 @@ impl<'a, V: View> Txn<'a, V> {
 
     /// The object that the name is bound to (`DataManager.getBinding`). Refuses 1.
     pub fn bound(&mut self, name: &Name) -> Result<ObjectId, Refusal>
-        ensures does { Does V.gave refusal_fault self.old self.new (act.bound name.now) result }
+        ensures does { Does V.sights refusal_fault self.old self.new (act.bound name.now) result }
         ensures refused { OnErr result (SameChanges self.old.log self.new.log) }
     {
         let known = self.known_name(name)?;
@@ -79,7 +79,7 @@ impl<'a, V: View> Txn<'a, V> {
 
     /// What the name is bound to, where it is bound: `bound` for a caller to whom both are right. Refuses 7 alone.
     pub fn binding(&mut self, name: &Name) -> Result<Option<ObjectId>, Refusal>
-        ensures does { Does V.gave refusal_fault self.old self.new (bindings.binding name.now) result }
+        ensures does { Does V.sights refusal_fault self.old self.new (bindings.binding name.now) result }
         ensures same_changes { SameChanges self.old.log self.new.log }
     {
         let known = self.known_name(name)?;
@@ -89,7 +89,7 @@ impl<'a, V: View> Txn<'a, V> {
     /// Binds the name to the object, whatever it was bound to (`DataManager.setBinding`). The object is not looked at.
     /// Refuses 6.
     pub fn bind(&mut self, name: &Name, id: ObjectId) -> Result<(), Refusal>
-        ensures does { Does V.gave refusal_fault self.old self.new (act.bind name.now id) result }
+        ensures does { Does V.sights refusal_fault self.old self.new (act.bind name.now id) result }
         ensures refused { OnErr result (SameChanges self.old.log self.new.log) }
     {
         if is_reserved_name(self.log.mode(), name) {
@@ -106,7 +106,7 @@ impl<'a, V: View> Txn<'a, V> {
 
     /// Takes the name's binding away (`DataManager.removeBinding`). Refuses 6, 1.
     pub fn unbind(&mut self, name: &Name) -> Result<(), Refusal>
-        ensures does { Does V.gave refusal_fault self.old self.new (act.unbind name.now) result }
+        ensures does { Does V.sights refusal_fault self.old self.new (act.unbind name.now) result }
         ensures refused { OnErr result (SameChanges self.old.log self.new.log) }
     {
         if is_reserved_name(self.log.mode(), name) {
@@ -126,7 +126,7 @@ impl<'a, V: View> Txn<'a, V> {
 
     /// The least name above the given one that was bound before the run and that the run has not touched.
     fn next_standing(&mut self, after: Option<&Name>) -> Result<Option<Name>, NoMemory>
-        ensures keeps { Keeps V.gave self.old self.new }
+        ensures keeps { Keeps V.sights self.old self.new }
         ensures same_changes { SameChanges self.old.log self.new.log }
         ensures next { IfOk result (NextStanding self.new.log (option_copied after.entry)) }
     {
@@ -150,7 +150,7 @@ impl<'a, V: View> Txn<'a, V> {
     /// The least bound name above the given one, or the first (`DataManager.nextBoundName`). Names that begin with `$` are
     /// shown. Refuses 7 alone.
     pub fn next_bound(&mut self, after: Option<&Name>) -> Result<Option<Name>, Refusal>
-        ensures does { Does V.gave refusal_fault self.old self.new (act.next_bound (option_copied after.entry)) result }
+        ensures does { Does V.sights refusal_fault self.old self.new (act.next_bound (option_copied after.entry)) result }
         ensures refused { OnErr result (SameChanges self.old.log self.new.log) }
     {
         let standing = self.next_standing(after)?;

@@ -16,7 +16,7 @@ impl<'a, V: View> Txn<'a, V> {
 
     /// What an object was before the run, and what it is now.
     fn known_object(&mut self, id: ObjectId) -> Result<Change<Object>, NoMemory>
-        ensures keeps { Keeps V.gave self.old self.new }
+        ensures keeps { Keeps V.sights self.old self.new }
         ensures same_changes { SameChanges self.old.log self.new.log }
         ensures known { IfOk result (KnownObject self.new.log id) }
     {
@@ -32,7 +32,7 @@ impl<'a, V: View> Txn<'a, V> {
 
     /// The same of an object that stands and that may be touched.
     fn changeable(&mut self, id: ObjectId) -> Result<Change<Object>, Refusal>
-        ensures keeps { Keeps V.gave self.old self.new }
+        ensures keeps { Keeps V.sights self.old self.new }
         ensures same_changes { SameChanges self.old.log self.new.log }
         ensures ok { IfOk result (CanChange self.new.log id) }
         ensures err { IfErr result (RefusesChange self.new.log id) }
@@ -51,7 +51,7 @@ impl<'a, V: View> Txn<'a, V> {
 
     /// The object (`DataManager.getBinding` and `ManagedReference.get` read by it). Refuses 2.
     pub fn get(&mut self, id: ObjectId) -> Result<Object, Refusal>
-        ensures does { Does V.gave refusal_fault self.old self.new (act.get id) result }
+        ensures does { Does V.sights refusal_fault self.old self.new (act.get id) result }
         ensures same_changes { SameChanges self.old.log self.new.log }
         ensures length { (bytes : List ℕ) → IfErr result (TellsLength bytes) }
     {
@@ -62,7 +62,7 @@ impl<'a, V: View> Txn<'a, V> {
     /// A new object (`DataManager.createReference`), whose id is the run's number and its place among the objects that the
     /// run made. Refuses 6, 4, 8.
     pub fn create(&mut self, kind: u16, bytes: Blob) -> Result<ObjectId, Refusal>
-        ensures does { Does V.gave refusal_fault self.old self.new (act.create kind bytes) result }
+        ensures does { Does V.sights refusal_fault self.old self.new (act.create kind bytes) result }
         ensures refused { OnErr result (SameChanges self.old.log self.new.log) }
         ensures length { IfErr result (TellsLength bytes) }
     {
@@ -80,7 +80,7 @@ impl<'a, V: View> Txn<'a, V> {
 
     /// Gives an object these bytes, under its old kind. Refuses 4, 2, 6.
     pub fn save(&mut self, id: ObjectId, bytes: Blob) -> Result<(), Refusal>
-        ensures does { Does V.gave refusal_fault self.old self.new (act.save id bytes) result }
+        ensures does { Does V.sights refusal_fault self.old self.new (act.save id bytes) result }
         ensures refused { OnErr result (SameChanges self.old.log self.new.log) }
         ensures length { IfErr result (TellsLength bytes) }
     {
@@ -102,7 +102,7 @@ impl<'a, V: View> Txn<'a, V> {
 
     /// Writes an object as it is, so that it gets a new stamp (`DataManager.markForUpdate`). Refuses 2, 6.
     pub fn mark(&mut self, id: ObjectId) -> Result<(), Refusal>
-        ensures does { Does V.gave refusal_fault self.old self.new (act.mark id) result }
+        ensures does { Does V.sights refusal_fault self.old self.new (act.mark id) result }
         ensures refused { OnErr result (SameChanges self.old.log self.new.log) }
     {
         let known = self.changeable(id)?;
@@ -112,7 +112,7 @@ impl<'a, V: View> Txn<'a, V> {
 
     /// Takes an object away (`DataManager.removeObject`). Refuses 2, 6.
     pub fn remove(&mut self, id: ObjectId) -> Result<(), Refusal>
-        ensures does { Does V.gave refusal_fault self.old self.new (act.remove id) result }
+        ensures does { Does V.sights refusal_fault self.old self.new (act.remove id) result }
         ensures refused { OnErr result (SameChanges self.old.log self.new.log) }
     {
         let known = self.changeable(id)?;

@@ -22,7 +22,7 @@ impl<'a, V: View> Txn<'a, V> {
 
     /// Whether a task is pending.
     fn is_pending(&mut self, key: TaskKey) -> Result<bool, NoMemory>
-        ensures keeps { Keeps V.gave self.old self.new }
+        ensures keeps { Keeps V.sights self.old self.new }
         ensures same_changes { SameChanges self.old.log self.new.log }
         ensures known { IfOk result (KnownTask self.new.log key) }
         ensures asked { IfOk result (λ _. map.get self.old.log.tasks key ≡ None → IsAsked self.new.log.reads (ask.Task key)) }
@@ -45,7 +45,7 @@ impl<'a, V: View> Txn<'a, V> {
         period: u64,
     ) -> Result<TaskKey, Refusal>
         requires { delay ≤ DELAY_MOST_MS }
-        ensures does { Does V.gave refusal_fault self.old self.new (act.scheduled kind arg delay period) result }
+        ensures does { Does V.sights refusal_fault self.old self.new (act.scheduled kind arg delay period) result }
         ensures refused { OnErr result (SameChanges self.old.log self.new.log) }
         ensures length { IfErr result (TellsLength arg) }
     {
@@ -64,7 +64,7 @@ impl<'a, V: View> Txn<'a, V> {
 
     /// A once-task that is due at the run's moment and the delay, in ms (`TaskManager.scheduleTask`). Refuses 4, 5, 8.
     pub fn schedule(&mut self, kind: u16, arg: Blob, delay: u64) -> Result<TaskKey, Refusal>
-        ensures does { Does V.gave refusal_fault self.old self.new (act.schedule kind arg delay) result }
+        ensures does { Does V.sights refusal_fault self.old self.new (act.schedule kind arg delay) result }
         ensures refused { OnErr result (SameChanges self.old.log self.new.log) }
         ensures length { IfErr result (TellsLength arg) }
     {
@@ -86,7 +86,7 @@ impl<'a, V: View> Txn<'a, V> {
         delay: u64,
         period: u64,
     ) -> Result<TaskKey, Refusal>
-        ensures does { Does V.gave refusal_fault self.old self.new (act.schedule_periodic kind arg delay period) result }
+        ensures does { Does V.sights refusal_fault self.old self.new (act.schedule_periodic kind arg delay period) result }
         ensures refused { OnErr result (SameChanges self.old.log self.new.log) }
         ensures length { IfErr result (TellsLength arg) }
     {
@@ -101,7 +101,7 @@ impl<'a, V: View> Txn<'a, V> {
 
     /// Takes a pending task away (`PeriodicTaskHandle.cancel`). Refuses 2.
     pub fn cancel(&mut self, key: TaskKey) -> Result<(), Refusal>
-        ensures does { Does V.gave refusal_fault self.old self.new (act.cancel key) result }
+        ensures does { Does V.sights refusal_fault self.old self.new (act.cancel key) result }
         ensures refused { OnErr result (SameChanges self.old.log self.new.log) }
     {
         if !self.is_pending(key)? {
@@ -113,7 +113,7 @@ impl<'a, V: View> Txn<'a, V> {
 
     /// A message to a connection, of which nothing else is looked at (`ClientSession.send`). Refuses 4, by its body, and 8.
     pub fn send(&mut self, to: ConnNo, out: Out) -> Result<(), Refusal>
-        ensures does { Does V.gave refusal_fault self.old self.new (act.send to out) result }
+        ensures does { Does V.sights refusal_fault self.old self.new (act.send to out) result }
         ensures refused { OnErr result (SameChanges self.old.log self.new.log) }
         ensures length { IfErr result (TellsLength (act.body_of out)) }
     {
@@ -141,7 +141,7 @@ impl<'a, V: View> Txn<'a, V> {
     pub fn own_task(&mut self, key: TaskKey, due: u64, period: u64) -> Result<bool, Refusal>
         requires due { due ≤ MOMENT_MOST_MS + DELAY_MOST_MS }
         requires period { period ≤ PERIOD_MOST_MS }
-        ensures does { DoesFor (Only key due) V.gave refusal_fault self.old self.new (own_act key due period) result }
+        ensures does { DoesFor (Only key due) V.sights refusal_fault self.old self.new (own_act key due period) result }
         ensures refused { OnErr result (SameChanges self.old.log self.new.log) }
         ensures asked { IfOk result (λ _. map.get self.old.log.tasks key ≡ None → IsAsked self.new.log.reads (ask.Task key)) }
     {

@@ -62,7 +62,7 @@ impl<'a, V: View> Txn<'a, V> {
 
     /// Asks the view for an item once, and then answers as it did.
     pub(crate) fn ask(&mut self, item: Item) -> Result<Answer, NoMemory>
-        ensures keeps { Keeps V.gave self.old self.new }
+        ensures keeps { Keeps V.sights self.old self.new }
         ensures same_changes { SameChanges self.old.log self.new.log }
         ensures answers { IfOk result (λ said. (d : DurableWorld) → Agrees d self.new.log.reads → answer d item ≡ said) }
         ensures asked { IfOk result (λ _. IsAsked self.new.log.reads item) }

@@ -5,15 +5,14 @@ use dk_types::{Item, NoMemory, Read};
 
 /// A world, or a history of worlds, that answers reads. The answers may come from several moments.
 pub trait View {
-    ghost use Rattle.dk_types.specs.declared.item.Item.{Item};
-    ghost use Rattle.dk_types.specs.declared.item.Read.{Read};
+    ghost use Rattle.dk_txn.specs.Sights.{Sights};
 
-    /// Which reads it may have given.
-    ghost gave: { Self → Item → Read → Type 0 };
+    /// Which reads it may have given, and which view it is after calls.
+    ghost sights: { Sights Self };
 
-    /// The answer to an item, and what was seen of it. It is one of those that the view may have given, and what was one
-    /// of them stays one.
+    /// The answer to an item, and what was seen of it. It is one of those that the view may have given; and the view
+    /// is what calls make of it, so that what was one of them stays one.
     fn read(&mut self, item: &Item) -> Result<Read, NoMemory>
-        ensures gives { IfOk result (λ read. gave self.new item.now read) }
-        ensures keeps { (i : Item) (r : Read) → gave self.old i r → gave self.new i r };
+        ensures gives { IfOk result (λ read. sights.gave self.new item.now read) }
+        ensures becomes { sights.becomes self.old self.new };
 }

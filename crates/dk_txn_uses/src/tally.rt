@@ -13,7 +13,7 @@ const TALLY_KIND: u16 = 1;
 
 /// Begins a tally.
 pub fn start<V: View>(txn: &mut Txn<'_, V>, name: &Name, bytes: Blob) -> Result<(), Halt>
-    ensures { Does V.gave halt_fault txn.old txn.new (rules.start name.now bytes) result }
+    ensures { Does V.sights halt_fault txn.old txn.new (rules.start name.now bytes) result }
 {
     let id = txn.create(TALLY_KIND, bytes)?;
     txn.bind(name, id)?;
@@ -28,7 +28,7 @@ pub fn raise<V: View>(
     to: ConnNo,
     told: Out,
 ) -> Result<(), Halt>
-    ensures { Does V.gave halt_fault txn.old txn.new (rules.raise name.now bytes to told) result }
+    ensures { Does V.sights halt_fault txn.old txn.new (rules.raise name.now bytes to told) result }
 {
     let id = txn.bound(name)?;
     let had = txn.get(id)?;
@@ -42,7 +42,7 @@ pub fn raise<V: View>(
 
 /// Takes away at most so many tallies, in the order of their names.
 pub fn sweep<V: View>(txn: &mut Txn<'_, V>, most: u32) -> Result<(), Halt>
-    ensures { Does V.gave halt_fault txn.old txn.new (rules.sweep most None) result }
+    ensures { Does V.sights halt_fault txn.old txn.new (rules.sweep most None) result }
 {
     let mut cursor: Option<Name> = None;
     for i in 0..most {

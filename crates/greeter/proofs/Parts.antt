@@ -15,6 +15,7 @@ use Rattle.dk_overlay.proofs.Tests.{Some_injective}
 use Rattle.dk_game.specs.declared.halt.Halt.TheVariants as halt
 use Rattle.dk_game.specs.Halted.{halt_fault}
 use Rattle.greeter.specs.Rules.{guest_name, greet, known}
+use Rattle.dk_txn.specs.Sights.{Sights}
 
 -- a guest is known by what its name is bound to
 pub known_as : (conn : ConnNo) (name : List ℕ) (s : Run) → known conn name s ≡ and_then (binding (guest_name name)) (greet conn name) s
@@ -22,5 +23,5 @@ unfolding known binding and_then
 known_as conn name s = refl
 
 -- a name that would be too long is refused
-pub turned_away : {S A : Type 0} {gave : S → Item → Read → Type 0} {a : Txn S Logged} → Does gave halt_fault a a (refuse {A = A} TOO_LONG) (Err (halt.Fault (Refused TOO_LONG)))
+pub turned_away : {S A : Type 0} {sights : Sights S} {a : Txn S Logged} → Does sights halt_fault a a (refuse {A = A} TOO_LONG) (Err (halt.Fault (Refused TOO_LONG)))
 turned_away {a = a} = record { keeps = keeps_all; does = λ s t d agrees. ap (λ r. (r, current a.log d)) (Some_injective _ _ t) }

@@ -25,7 +25,7 @@ fn guest_key(alloc: Global, name: &Name) -> Result<Option<Name>, NoMemory>
 }
 
 fn say<V: View>(alloc: Global, txn: &mut Txn<'_, V>, conn: ConnNo, text: &[u8]) -> Result<(), Halt>
-    ensures { Does V.gave halt_fault txn.old txn.new (rules.say conn text.now) result }
+    ensures { Does V.sights halt_fault txn.old txn.new (rules.say conn text.now) result }
 {
     let body = Blob::copy_of(alloc, text)?;
     txn.send(conn, Out::Message(body))?;
@@ -40,7 +40,7 @@ fn welcome<V: View>(
     key: &Name,
 ) -> Result<(), Halt>
     requires { key.now ≡ rules.guest_name name.now }
-    ensures { Does V.gave halt_fault txn.old txn.new (rules.welcome conn name.now) result }
+    ensures { Does V.sights halt_fault txn.old txn.new (rules.welcome conn name.now) result }
 {
     let guest = ManagedRef::create(alloc, txn, &Guest { visits: 1 })?;
     txn.bind(key, guest.id())?;
@@ -53,7 +53,7 @@ fn welcome_back<V: View>(
     conn: ConnNo,
     id: ObjectId,
 ) -> Result<(), Halt>
-    ensures { Does V.gave halt_fault txn.old txn.new (rules.welcome_back conn id) result }
+    ensures { Does V.sights halt_fault txn.old txn.new (rules.welcome_back conn id) result }
 {
     let place = ManagedRef::<Guest>::of(id);
     let guest = place.get_for_update(alloc, txn)?;
@@ -69,7 +69,7 @@ fn greet<V: View>(
     key: &Name,
 ) -> Result<(), Halt>
     requires { key.now ≡ rules.guest_name name.now }
-    ensures { Does V.gave halt_fault txn.old txn.new (rules.known conn name.now) result }
+    ensures { Does V.sights halt_fault txn.old txn.new (rules.known conn name.now) result }
 {
     match txn.binding(key)? {
         None => welcome(alloc, txn, conn, name, key),
@@ -83,7 +83,7 @@ fn login<V: View>(
     conn: ConnNo,
     name: &Name,
 ) -> Result<(), Halt>
-    ensures { Does V.gave halt_fault txn.old txn.new (rules.login conn name.now) result }
+    ensures { Does V.sights halt_fault txn.old txn.new (rules.login conn name.now) result }
 {
     match guest_key(alloc, name)? {
         None => Err(Halt::Fault(AppFault::Refused(4))),

@@ -24,6 +24,7 @@ use Rattle.dk_game.specs.Halted.{halt_fault}
 use Rattle.sword_world.specs.Labels.{labels_from, labels}
 use Rattle.sword_world.specs.Rules.{player_name, player_found, known_player}
 use Rattle.sword_world.proofs.ListSteps.{rest_is}
+use Rattle.dk_txn.specs.Sights.{Sights}
 
 -- no fault is no outcome
 untold : {A : Type 0} (o : Option AppFault) → o ≡ None → (s : Result A AppFault) → failure o ≡ Some s → ⊥
@@ -35,42 +36,42 @@ pub known_as : (name : List ℕ) (s : Run) → known_player name s ≡ and_then 
 unfolding known_player binding and_then
 known_as name s = refl
 
-module _ {S : Type 0} {gave : S → Item → Read → Type 0} where
+module _ {S : Type 0} {sights : Sights S} where
   -- want of memory tells nothing
-  pub starves : {a : Txn S Logged} {A : Type 0} {f : Act A} {r : Result A Halt} → IsErrAnd r (λ h. h ≡ halt.NoMemory) → Does gave halt_fault a a f r
+  pub starves : {a : Txn S Logged} {A : Type 0} {f : Act A} {r : Result A Halt} → IsErrAnd r (λ h. h ≡ halt.NoMemory) → Does sights halt_fault a a f r
   starves {r = Err h} is = record { keeps = keeps_all; does = λ s t d agrees. absurd (untold (halt_fault h) (ap halt_fault is) s t) }
   starves {r = Ok x} is = absurd is
 
   -- a name that would be too long is refused
-  pub turned_away : {a : Txn S Logged} {A : Type 0} → Does gave halt_fault a a (refuse {A = A} TOO_LONG) (Err (halt.Fault (Refused TOO_LONG)))
+  pub turned_away : {a : Txn S Logged} {A : Type 0} → Does sights halt_fault a a (refuse {A = A} TOO_LONG) (Err (halt.Fault (Refused TOO_LONG)))
   turned_away {a = a} = record { keeps = keeps_all; does = λ s t d agrees. ap (λ r. (r, current a.log d)) (Some_injective _ _ t) }
 
   module _ {A : Type 0} (kind : ℕ) (read : List ℕ → Option A) (label : A → List ℕ) {a b : Txn S Logged} (ids : List ObjectId) (i : ℕ) (d : ObjectId) where
     -- what is left begins with the next object
-    labels_at : (so_far : List (List ℕ)) → i < length ids → Leads gave a b (labels_from kind read label [] ids) (labels_from kind read label so_far (drop i ids))
-        → Leads gave a b (labels_from kind read label [] ids) (and_then (get_as kind read (get_or ids i d)) (λ x. labels_from kind read label (so_far ++ label x ∷ []) (drop (i + 1) ids)))
-    labels_at so_far h before = subst (λ l. Leads gave a b (labels_from kind read label [] ids) (labels_from kind read label so_far l)) (rest_is ids i d h) before
+    labels_at : (so_far : List (List ℕ)) → i < length ids → Leads sights a b (labels_from kind read label [] ids) (labels_from kind read label so_far (drop i ids))
+        → Leads sights a b (labels_from kind read label [] ids) (and_then (get_as kind read (get_or ids i d)) (λ x. labels_from kind read label (so_far ++ label x ∷ []) (drop (i + 1) ids)))
+    labels_at so_far h before = subst (λ l. Leads sights a b (labels_from kind read label [] ids) (labels_from kind read label so_far l)) (rest_is ids i d h) before
 
     -- one more object tells its label
-    pub labels_more : {c : Txn S Logged} (so_far more : List (List ℕ)) (x : A) → i < length ids → Does gave refusal_fault b c (get_as kind read (get_or ids i d)) (Ok x) → more ≡ so_far ++ label x ∷ []
-        → Leads gave a b (labels_from kind read label [] ids) (labels_from kind read label so_far (drop i ids)) → Leads gave a c (labels_from kind read label [] ids) (labels_from kind read label more (drop (i + 1) ids))
+    pub labels_more : {c : Txn S Logged} (so_far more : List (List ℕ)) (x : A) → i < length ids → Does sights refusal_fault b c (get_as kind read (get_or ids i d)) (Ok x) → more ≡ so_far ++ label x ∷ []
+        → Leads sights a b (labels_from kind read label [] ids) (labels_from kind read label so_far (drop i ids)) → Leads sights a c (labels_from kind read label [] ids) (labels_from kind read label more (drop (i + 1) ids))
     labels_more {c = c} so_far more x h p is before =
-        subst (λ m. Leads gave a c (labels_from kind read label [] ids) (labels_from kind read label m (drop (i + 1) ids))) (sym is) (leads_then _ (labels_at so_far h before) p)
+        subst (λ m. Leads sights a c (labels_from kind read label [] ids) (labels_from kind read label m (drop (i + 1) ids))) (sym is) (leads_then _ (labels_at so_far h before) p)
 
     -- an object that is refused ends the list
-    pub labels_halt : {c : Txn S Logged} {e : Refusal} {r : Result (List (List ℕ)) Halt} (so_far : List (List ℕ)) → i < length ids → Does gave refusal_fault b c (get_as kind read (get_or ids i d)) (Err e)
-        → IsErrAnd r (λ h. halt_fault h ≡ refusal_fault e) → Leads gave a b (labels_from kind read label [] ids) (labels_from kind read label so_far (drop i ids)) → Does gave halt_fault a c (labels kind read label ids) r
+    pub labels_halt : {c : Txn S Logged} {e : Refusal} {r : Result (List (List ℕ)) Halt} (so_far : List (List ℕ)) → i < length ids → Does sights refusal_fault b c (get_as kind read (get_or ids i d)) (Err e)
+        → IsErrAnd r (λ h. halt_fault h ≡ refusal_fault e) → Leads sights a b (labels_from kind read label [] ids) (labels_from kind read label so_far (drop i ids)) → Does sights halt_fault a c (labels kind read label ids) r
     unfolding labels
     labels_halt so_far h p is before = leads_does (labels_at so_far h before) (halts _ p is)
 
     -- there is no memory for one more label
-    pub labels_starve : {c : Txn S Logged} {r : Result (List (List ℕ)) Halt} (so_far : List (List ℕ)) (x : A) → i < length ids → Does gave refusal_fault b c (get_as kind read (get_or ids i d)) (Ok x)
-        → IsErrAnd r (λ h. h ≡ halt.NoMemory) → Leads gave a b (labels_from kind read label [] ids) (labels_from kind read label so_far (drop i ids)) → Does gave halt_fault a c (labels kind read label ids) r
+    pub labels_starve : {c : Txn S Logged} {r : Result (List (List ℕ)) Halt} (so_far : List (List ℕ)) (x : A) → i < length ids → Does sights refusal_fault b c (get_as kind read (get_or ids i d)) (Ok x)
+        → IsErrAnd r (λ h. h ≡ halt.NoMemory) → Leads sights a b (labels_from kind read label [] ids) (labels_from kind read label so_far (drop i ids)) → Does sights halt_fault a c (labels kind read label ids) r
     unfolding labels
     labels_starve so_far x h p is before = leads_does (leads_then _ (labels_at so_far h before) p) (starves is)
 
     -- nothing is left to tell
     pub labels_done : (so_far : List (List ℕ)) → length ids ≤ i
-        → Leads gave a b (labels_from kind read label [] ids) (labels_from kind read label so_far (drop i ids)) → Does gave halt_fault a b (labels kind read label ids) (Ok so_far)
+        → Leads sights a b (labels_from kind read label [] ids) (labels_from kind read label so_far (drop i ids)) → Does sights halt_fault a b (labels kind read label ids) (Ok so_far)
     unfolding labels
-    labels_done so_far h before = leads_does (subst (λ l. Leads gave a b (labels_from kind read label [] ids) (labels_from kind read label so_far l)) (drop_all i ids h) before) give_does
+    labels_done so_far h before = leads_does (subst (λ l. Leads sights a b (labels_from kind read label [] ids) (labels_from kind read label so_far l)) (drop_all i ids h) before) give_does

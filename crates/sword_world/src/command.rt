@@ -49,7 +49,7 @@ fn names_of_others<V: View>(
     txn: &mut Txn<'_, V>,
     scene: &Scene,
 ) -> Result<Listed<Name>, Halt>
-    ensures { Does V.gave halt_fault txn.old txn.new (rules.names_of_others scene.now) result }
+    ensures { Does V.sights halt_fault txn.old txn.new (rules.names_of_others scene.now) result }
 {
     let others = others_of(alloc, scene.me.id(), scene.room.players.as_slice())?;
     labels_of::<Player, V>(alloc, txn, others.as_slice())
@@ -61,13 +61,13 @@ fn things_in<V: View>(
     txn: &mut Txn<'_, V>,
     scene: &Scene,
 ) -> Result<Listed<Name>, Halt>
-    ensures { Does V.gave halt_fault txn.old txn.new (rules.things_in scene.now) result }
+    ensures { Does V.sights halt_fault txn.old txn.new (rules.things_in scene.now) result }
 {
     labels_of::<Thing, V>(alloc, txn, scene.room.items.as_slice())
 }
 
 fn look<V: View>(alloc: Global, txn: &mut Txn<'_, V>, scene: &Scene) -> Result<Blob, Halt>
-    ensures { Does V.gave halt_fault txn.old txn.new (rules.look scene.now) result }
+    ensures { Does V.sights halt_fault txn.old txn.new (rules.look scene.now) result }
 {
     let names = names_of_others(alloc, txn, scene)?;
     let things = things_in(alloc, txn, scene)?;
@@ -75,7 +75,7 @@ fn look<V: View>(alloc: Global, txn: &mut Txn<'_, V>, scene: &Scene) -> Result<B
 }
 
 fn thing_at<V: View>(alloc: Global, txn: &mut Txn<'_, V>, item: ObjectId) -> Result<Thing, Halt>
-    ensures { Does V.gave halt_fault txn.old txn.new (rules.thing_at item) result }
+    ensures { Does V.sights halt_fault txn.old txn.new (rules.thing_at item) result }
 {
     let thing: ManagedRef<Thing> = ManagedRef::of(item);
     Ok(thing.get(alloc, txn)?)
@@ -88,7 +88,7 @@ fn pick_up<V: View>(
     scene: Scene,
     item: ObjectId,
 ) -> Result<Blob, Halt>
-    ensures { Does V.gave halt_fault txn.old txn.new (rules.pick_up scene item (drop 1 scene.room.items)) result }
+    ensures { Does V.sights halt_fault txn.old txn.new (rules.pick_up scene item (drop 1 scene.room.items)) result }
 {
     let Scene {
         me,
@@ -103,7 +103,7 @@ fn pick_up<V: View>(
 }
 
 fn take<V: View>(alloc: Global, txn: &mut Txn<'_, V>, scene: Scene) -> Result<Blob, Halt>
-    ensures { Does V.gave halt_fault txn.old txn.new (rules.take scene) result }
+    ensures { Does V.sights halt_fault txn.old txn.new (rules.take scene) result }
 {
     match scene.player.carried {
         Some(item) => {
@@ -124,7 +124,7 @@ fn put_down<V: View>(
     scene: Scene,
     item: ObjectId,
 ) -> Result<Blob, Halt>
-    ensures { Does V.gave halt_fault txn.old txn.new (rules.put_down scene item) result }
+    ensures { Does V.sights halt_fault txn.old txn.new (rules.put_down scene item) result }
 {
     let Scene {
         me,
@@ -140,7 +140,7 @@ fn put_down<V: View>(
 }
 
 fn drop_carried<V: View>(alloc: Global, txn: &mut Txn<'_, V>, scene: Scene) -> Result<Blob, Halt>
-    ensures { Does V.gave halt_fault txn.old txn.new (rules.drop scene) result }
+    ensures { Does V.sights halt_fault txn.old txn.new (rules.drop scene) result }
 {
     match scene.player.carried {
         Some(item) => put_down(alloc, txn, scene, item),
@@ -155,7 +155,7 @@ fn obey<V: View>(
     command: Command,
     scene: Scene,
 ) -> Result<Blob, Halt>
-    ensures { Does V.gave halt_fault txn.old txn.new (rules.obey command scene) result }
+    ensures { Does V.sights halt_fault txn.old txn.new (rules.obey command scene) result }
 {
     match command {
         Command::Look => look(alloc, txn, &scene),
@@ -172,7 +172,7 @@ pub fn answer<V: View>(
     name: &Name,
     command: Command,
 ) -> Result<(), Halt>
-    ensures { Does V.gave halt_fault txn.old txn.new (rules.answer conn name.now command) result }
+    ensures { Does V.sights halt_fault txn.old txn.new (rules.answer conn name.now command) result }
 {
     let scene = find_scene(alloc, txn, name)?;
     let text = obey(alloc, txn, command, scene)?;

@@ -45,7 +45,7 @@ fn first_room(alloc: Global, sword: ObjectId) -> Result<Room, NoMemory>
 }
 
 fn furnish<V: View>(alloc: Global, txn: &mut Txn<'_, V>, sword: ObjectId) -> Result<(), Halt>
-    ensures { Does V.gave halt_fault txn.old txn.new (rules.furnish sword) result }
+    ensures { Does V.sights halt_fault txn.old txn.new (rules.furnish sword) result }
 {
     let room = first_room(alloc, sword)?;
     let place = ManagedRef::create(alloc, txn, &room)?;
@@ -55,7 +55,7 @@ fn furnish<V: View>(alloc: Global, txn: &mut Txn<'_, V>, sword: ObjectId) -> Res
 }
 
 fn initialize<V: View>(alloc: Global, txn: &mut Txn<'_, V>) -> Result<(), Halt>
-    ensures { Does V.gave halt_fault txn.old txn.new rules.initialize result }
+    ensures { Does V.sights halt_fault txn.old txn.new rules.initialize result }
 {
     let thing = the_sword(alloc)?;
     let sword = ManagedRef::create(alloc, txn, &thing)?;
@@ -69,7 +69,7 @@ fn message<V: View>(
     name: &Name,
     body: &Blob,
 ) -> Result<(), Halt>
-    ensures { Does V.gave halt_fault txn.old txn.new (rules.message conn name.now body.now) result }
+    ensures { Does V.sights halt_fault txn.old txn.new (rules.message conn name.now body.now) result }
 {
     match Command::of(body) {
         None => Ok(()),

@@ -50,7 +50,7 @@ pub fn labels_of<T: Labelled, V: View>(
     txn: &mut Txn<'_, V>,
     ids: &[ObjectId],
 ) -> Result<Listed<Name>, Halt>
-    ensures { Does V.gave halt_fault txn.old txn.new (labels T.KIND T.of T.label ids.now) result }
+    ensures { Does V.sights halt_fault txn.old txn.new (labels T.KIND T.of T.label ids.now) result }
 {
     let mut labels = Vec::new(alloc);
     for id in ids {

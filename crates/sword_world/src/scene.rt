@@ -43,7 +43,7 @@ fn player_under<V: View>(
     txn: &mut Txn<'_, V>,
     key: &Name,
 ) -> Result<(ManagedRef<Player>, Player), Halt>
-    ensures { Does V.gave halt_fault txn.old txn.new (rules.player_under key.now) result }
+    ensures { Does V.sights halt_fault txn.old txn.new (rules.player_under key.now) result }
 {
     let id = txn.bound(key)?;
     let me = ManagedRef::of(id);
@@ -57,7 +57,7 @@ fn player_there<V: View>(
     txn: &mut Txn<'_, V>,
     name: &Name,
 ) -> Result<(ManagedRef<Player>, Player), Halt>
-    ensures { Does V.gave halt_fault txn.old txn.new (rules.player_there name.now) result }
+    ensures { Does V.sights halt_fault txn.old txn.new (rules.player_there name.now) result }
 {
     match player_key(alloc, name)? {
         None => Err(NAME_TOO_LONG),
@@ -70,7 +70,7 @@ fn room_there<V: View>(
     alloc: Global,
     txn: &mut Txn<'_, V>,
 ) -> Result<(ManagedRef<Room>, Room), Halt>
-    ensures { Does V.gave halt_fault txn.old txn.new rules.room_there result }
+    ensures { Does V.sights halt_fault txn.old txn.new rules.room_there result }
 {
     let name = room_name(alloc)?;
     let id = txn.bound(&name)?;
@@ -84,7 +84,7 @@ pub fn room_to_change<V: View>(
     alloc: Global,
     txn: &mut Txn<'_, V>,
 ) -> Result<(ManagedRef<Room>, Room), Halt>
-    ensures { Does V.gave halt_fault txn.old txn.new rules.room_to_change result }
+    ensures { Does V.sights halt_fault txn.old txn.new rules.room_to_change result }
 {
     let name = room_name(alloc)?;
     let id = txn.bound(&name)?;
@@ -95,7 +95,7 @@ pub fn room_to_change<V: View>(
 
 /// What a command of the player of a login name finds.
 pub fn find_scene<V: View>(alloc: Global, txn: &mut Txn<'_, V>, name: &Name) -> Result<Scene, Halt>
-    ensures { Does V.gave halt_fault txn.old txn.new (rules.scene name.now) result }
+    ensures { Does V.sights halt_fault txn.old txn.new (rules.scene name.now) result }
 {
     let (me, player) = player_there(alloc, txn, name)?;
     let (place, room) = room_there(alloc, txn)?;
@@ -113,7 +113,7 @@ pub fn find_last_scene<V: View>(
     txn: &mut Txn<'_, V>,
     name: &Name,
 ) -> Result<Scene, Halt>
-    ensures { Does V.gave halt_fault txn.old txn.new (rules.last_scene name.now) result }
+    ensures { Does V.sights halt_fault txn.old txn.new (rules.last_scene name.now) result }
 {
     let (me, player) = player_there(alloc, txn, name)?;
     let (place, room) = room_to_change(alloc, txn)?;

@@ -19,7 +19,7 @@ fn new_player<V: View>(
     key: &Name,
 ) -> Result<ObjectId, Halt>
     requires { key.now ≡ rules.player_name name.now }
-    ensures { Does V.gave halt_fault txn.old txn.new (rules.new_player name.now) result }
+    ensures { Does V.sights halt_fault txn.old txn.new (rules.new_player name.now) result }
 {
     let player = Player {
         name: name.clone()?,
@@ -37,7 +37,7 @@ fn known_player<V: View>(
     key: &Name,
 ) -> Result<ObjectId, Halt>
     requires { key.now ≡ rules.player_name name.now }
-    ensures { Does V.gave halt_fault txn.old txn.new (rules.known_player name.now) result }
+    ensures { Does V.sights halt_fault txn.old txn.new (rules.known_player name.now) result }
 {
     match txn.binding(key)? {
         Some(id) => Ok(id),
@@ -46,7 +46,7 @@ fn known_player<V: View>(
 }
 
 fn enter<V: View>(alloc: Global, txn: &mut Txn<'_, V>, player: ObjectId) -> Result<(), Halt>
-    ensures { Does V.gave halt_fault txn.old txn.new (rules.enter player) result }
+    ensures { Does V.sights halt_fault txn.old txn.new (rules.enter player) result }
 {
     let (place, found) = room_to_change(alloc, txn)?;
     let room = found.with_player(player)?;
@@ -56,7 +56,7 @@ fn enter<V: View>(alloc: Global, txn: &mut Txn<'_, V>, player: ObjectId) -> Resu
 
 fn log_in<V: View>(alloc: Global, txn: &mut Txn<'_, V>, name: &Name, key: &Name) -> Result<(), Halt>
     requires { key.now ≡ rules.player_name name.now }
-    ensures { Does V.gave halt_fault txn.old txn.new (rules.log_in name.now) result }
+    ensures { Does V.sights halt_fault txn.old txn.new (rules.log_in name.now) result }
 {
     let player = known_player(alloc, txn, name, key)?;
     enter(alloc, txn, player)
@@ -64,7 +64,7 @@ fn log_in<V: View>(alloc: Global, txn: &mut Txn<'_, V>, name: &Name, key: &Name)
 
 /// A login: the player of the name enters the room.
 pub fn login<V: View>(alloc: Global, txn: &mut Txn<'_, V>, name: &Name) -> Result<(), Halt>
-    ensures { Does V.gave halt_fault txn.old txn.new (rules.login name.now) result }
+    ensures { Does V.sights halt_fault txn.old txn.new (rules.login name.now) result }
 {
     match player_key(alloc, name)? {
         None => Err(NAME_TOO_LONG),
@@ -84,7 +84,7 @@ fn room_left(alloc: Global, me: ObjectId, player: &Player, room: Room) -> Result
 }
 
 fn leave<V: View>(alloc: Global, txn: &mut Txn<'_, V>, scene: Scene) -> Result<(), Halt>
-    ensures { Does V.gave halt_fault txn.old txn.new (rules.leave scene) result }
+    ensures { Does V.sights halt_fault txn.old txn.new (rules.leave scene) result }
 {
     let Scene {
         me,
@@ -102,7 +102,7 @@ fn leave<V: View>(alloc: Global, txn: &mut Txn<'_, V>, scene: Scene) -> Result<(
 
 /// The end of a session: the player leaves the room, and what it carries stays there.
 pub fn disconnect<V: View>(alloc: Global, txn: &mut Txn<'_, V>, name: &Name) -> Result<(), Halt>
-    ensures { Does V.gave halt_fault txn.old txn.new (rules.disconnect name.now) result }
+    ensures { Does V.sights halt_fault txn.old txn.new (rules.disconnect name.now) result }
 {
     let scene = find_last_scene(alloc, txn, name)?;
     leave(alloc, txn, scene)

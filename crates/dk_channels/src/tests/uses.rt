@@ -21,7 +21,7 @@ fn look_in<V: View>(
     session: &Session,
     greeting: &Blob,
 ) -> Result<(), Refusal>
-    ensures { Does V.gave refusal_fault txn.old txn.new (and_then (platform.join room.now.name session.now) (λ _. and_then (platform.channel_send room.now.name (Some session.now) greeting.now) (λ _. platform.leave room.now.name session.now))) result }
+    ensures { Does V.sights refusal_fault txn.old txn.new (and_then (platform.join room.now.name session.now) (λ _. and_then (platform.channel_send room.now.name (Some session.now) greeting.now) (λ _. platform.leave room.now.name session.now))) result }
 {
     join(alloc, txn, room, session)?;
     send(alloc, txn, room, Some(session), greeting)?;

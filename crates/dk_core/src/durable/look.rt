@@ -22,9 +22,10 @@ impl StampedWorld {
 
 impl View for WorldLook<'_> {
     ghost use Rattle.std.specs.Prelude.{◌≡◌};
+    ghost use Rattle.dk_txn.specs.Sights.{steady};
     ghost use Rattle.dk_core.specs.StampedWorlds.{read_now};
 
-    ghost gave = { λ look item read. read ≡ read_now look.world.now item };
+    ghost sights = { steady (λ look item read. read ≡ read_now look.world.now item) };
 
     fn read(&mut self, item: &Item) -> Result<Read, NoMemory> {
         self.world.read(item)

@@ -5,4 +5,4 @@ use Rattle.dk_bench.proofs.filler.fill.Given as goal
 
 -- all objects from the start are the rest of them from here
 abbrev pub invariant-loop-made : goal.invariant-loop-made
-invariant-loop-made g l = Leads g.V.View.gave l.fn.txn l.txn (fill l.fn.objects) (fill (l.fn.objects - l.made))
+invariant-loop-made g l = Leads g.V.View.sights l.fn.txn l.txn (fill l.fn.objects) (fill (l.fn.objects - l.made))

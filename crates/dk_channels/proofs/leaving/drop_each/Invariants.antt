@@ -7,7 +7,7 @@ use Rattle.dk_channels.proofs.leaving.drop_each.Given as goal
 -- what was left to do at first is what is left to do now, and what is found of all members is found of those that are left
 abbrev pub invariant-loop-member : goal.invariant-loop-member
 invariant-loop-member g l = record {
-  leads : Leads g.V.View.gave l.fn.txn l.txn (drop_each l.name l.members) (drop_each l.name (drop l.member-index l.members));
+  leads : Leads g.V.View.sights l.fn.txn l.txn (drop_each l.name l.members) (drop_each l.name (drop l.member-index l.members));
   kinds : FoundLater wrong_kind_of l.fn.txn.log l.txn.log l.members l.member-index;
   lengths : FoundLater (long_record_of l.name) l.fn.txn.log l.txn.log l.members l.member-index;
 }

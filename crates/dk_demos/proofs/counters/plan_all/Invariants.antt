@@ -5,4 +5,4 @@ use Rattle.dk_demos.proofs.counters.plan_all.Given as goal
 
 -- all tasks from the start are the rest of them from here
 abbrev pub invariant-loop-before : goal.invariant-loop-before
-invariant-loop-before g l = Leads g.V.View.gave l.fn.txn l.txn (plan_from l.fn.seed 0 l.fn.tasks) (plan_from l.fn.seed l.before (l.fn.tasks - l.before))
+invariant-loop-before g l = Leads g.V.View.sights l.fn.txn l.txn (plan_from l.fn.seed 0 l.fn.tasks) (plan_from l.fn.seed l.before (l.fn.tasks - l.before))

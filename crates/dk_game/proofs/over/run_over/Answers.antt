@@ -10,4 +10,4 @@ returns-clause-law g c =
     law_so (g.G.Rules.rules c.args.game.now) c.args.job.now c.args.number c.args.at c.begin-txn.result.log c.run_job.result c.begin-txn.ensures.nothing_done c.run_job.ensures.law
 
 pub returns-clause-given : goal.returns-clause-given
-returns-clause-given g c = given_back g.V.View.gave c.run_job.result (search rules) c.run_job.ensures.given
+returns-clause-given g c = given_back g.V.View.sights c.run_job.result (search rules) c.run_job.ensures.given

@@ -20,5 +20,8 @@ returns-clause-law g c =
 pub returns-clause-given : goal.returns-clause-given
 returns-clause-given g c =
     one_ok c.end.result c.end.ensures.reads (λ f reads.
-    subst (λ v. AllByRecursion (λ r. g.V.View.gave v r.0 r.1) f.reads.items) (sym c.end.ensures.view_stays)
-    (subst (λ rs. AllByRecursion (λ r. g.V.View.gave c.work_job.new.txn.view.now r.0 r.1) rs) (sym reads) (c.work_job.ensures.does.keeps.given (none_given _ c.requires.begun)).given))
+    subst (λ v. AllByRecursion (λ r. g.V.View.sights.gave v r.0 r.1) f.reads.items) (sym c.end.ensures.view_stays)
+    (subst (λ rs. AllByRecursion (λ r. g.V.View.sights.gave c.work_job.new.txn.view.now r.0 r.1) rs) (sym reads) (c.work_job.ensures.does.keeps.given (none_given _ c.requires.begun)).given))
+
+pub returns-clause-becomes : goal.returns-clause-becomes
+returns-clause-becomes g c = subst (g.V.View.sights.becomes c.args.txn.now.view.now) (sym c.end.ensures.view_stays) c.work_job.ensures.does.keeps.becomes

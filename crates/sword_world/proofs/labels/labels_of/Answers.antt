@@ -26,5 +26,5 @@ loop-id-preserved g c =
 
 pub returns : goal.returns
 returns g c =
-    subst (λ (ls : List (List ℕ)). Does g.V.View.gave halt_fault c.args.txn.now c.loop-id.txn (labels g.T.Managed.KIND g.T.Managed.of g.T.Labelled.label c.args.ids.now) (Ok ls)) (sym c.from_vec.ensures)
+    subst (λ (ls : List (List ℕ)). Does g.V.View.sights halt_fault c.args.txn.now c.loop-id.txn (labels g.T.Managed.KIND g.T.Managed.of g.T.Labelled.label c.args.ids.now) (Ok ls)) (sym c.from_vec.ensures)
     (labels_done g.T.Managed.KIND g.T.Managed.of g.T.Labelled.label c.args.ids.now c.loop-id.id-index no_id c.loop-id.labels.items c.loop-id-test.false c.loop-id.invariant)

@@ -5,13 +5,13 @@ use Rattle.dk_txn.proofs.Reading.{keeps_read, keeps_unread, reading_answers, rea
 use Rattle.dk_txn.proofs.txn.Txn+V.ask.Goals as goal
 
 pub returns-in_err-read-in-None-clause-keeps : goal.returns-in_err-read-in-None-clause-keeps
-returns-in_err-read-in-None-clause-keeps g c = keeps_unread refl c.read.ensures.keeps refl
+returns-in_err-read-in-None-clause-keeps g c = keeps_unread refl c.read.ensures.becomes refl
 
 pub returns-in_err-answer-in-None-clause-keeps : goal.returns-in_err-answer-in-None-clause-keeps
-returns-in_err-answer-in-None-clause-keeps g c = keeps_unread refl c.read.ensures.keeps refl
+returns-in_err-answer-in-None-clause-keeps g c = keeps_unread refl c.read.ensures.becomes refl
 
 pub returns-in_err-add_read-in-None-clause-keeps : goal.returns-in_err-add_read-in-None-clause-keeps
-returns-in_err-add_read-in-None-clause-keeps g c = keeps_unread refl c.read.ensures.keeps c.in_err-add_read-in-None.ensures.err
+returns-in_err-add_read-in-None-clause-keeps g c = keeps_unread refl c.read.ensures.becomes c.in_err-add_read-in-None.ensures.err
 
 pub returns-in-Some-clause-answers : goal.returns-in-Some-clause-answers
 returns-in-Some-clause-answers g c =
@@ -19,7 +19,7 @@ returns-in-Some-clause-answers g c =
     λ d agrees. agrees_read d c.args.self.now.log.reads c.args.item told.0 agrees told.1 ∙ sym told.2
 
 pub returns-in_ok-add_read-in-None-clause-keeps : goal.returns-in_ok-add_read-in-None-clause-keeps
-returns-in_ok-add_read-in-None-clause-keeps g c = keeps_read c.args.item c.in_ok-read-in-None.read refl c.in_ok-read-in-None.ensures.gives c.read.ensures.keeps c.in_ok-add_read-in-None.ensures.ok
+returns-in_ok-add_read-in-None-clause-keeps g c = keeps_read c.args.item c.in_ok-read-in-None.read refl c.in_ok-read-in-None.ensures.gives c.read.ensures.becomes c.in_ok-add_read-in-None.ensures.ok
 
 pub returns-in_ok-add_read-in-None-clause-answers : goal.returns-in_ok-add_read-in-None-clause-answers
 returns-in_ok-add_read-in-None-clause-answers g c = λ d agrees.
