@@ -41,9 +41,11 @@ use Rattle.dk_core.proofs.LawfulSteps.{steps_from}
 use Rattle.dk_core.specs.declared.world.Core.{Core}
 use Rattle.dk_core.specs.declared.claimed.Claimed.{Claimed}
 use Rattle.dk_core.specs.Claiming.{Claiming, without_run}
-use Rattle.dk_core.specs.Cores.{world_of, IsTracked, StandsFor, Stays, IsStanding, IsGranted}
+use Rattle.dk_core.specs.declared.prepared.Prepared.{Prepared}
+use Rattle.dk_core.specs.Rooms.{HasRoom}
+use Rattle.dk_core.specs.Cores.{world_of, IsTracked, StandsFor, Stays, IsStanding, IsGranted, KeepsReady}
 use Rattle.dk_core.specs.Marking.{IsTaskFreed}
-use Rattle.dk_core.specs.Answers.{Commits}
+use Rattle.dk_core.specs.Answers.{Commits, IsPrepared}
 use Rattle.dk_core.proofs.Having.{never, has_which}
 use Rattle.dk_core.proofs.Standing.{sound_of, entered}
 use Rattle.dk_core.proofs.Tracked.{tracked_less}
@@ -179,3 +181,18 @@ stood_with old world (r ∷ reads) is h = (h.0 ∙ ap (λ v. seen_now v r.0) is 
 -- it stands for some history still
 pub standing_still : (old new : Core) → IsStanding old → Stays old new → IsStanding new
 standing_still old new s stays = record { rules = s.rules; opened = s.opened; budget = s.budget; events = s.events ++ []; lawful = s.lawful; stands = stays s.rules s.opened s.budget s.events s.stands }
+
+seen_still : (old new : Stamped) → ((item : Item) → seen_now new item ≡ seen_now old item) → (reads : List (Item × Read)) → AllByRecursion (Stands old) reads → AllByRecursion (Stands new) reads
+seen_still old new seen [] h = tt
+seen_still old new seen (r ∷ reads) h = (h.0 ∙ sym (seen r.0), seen_still old new seen reads h.1)
+
+-- what was prepared is prepared still, where what was made ready is ready still
+pub prepared_still : (old new : Core) (claimed : Claimed) (f : Finished) (p : Prepared) → KeepsReady old new → IsPrepared old claimed f p → IsPrepared new claimed f p
+prepared_still old new claimed f p keeps is = record {
+  ready = record {
+    stand = seen_still old.world new.world keeps.seen f.reads.items is.ready.stand;
+    room = subst (λ r. HasRoom r f.effects) (sym keeps.room) is.ready.room;
+    messages = is.ready.messages;
+  };
+  entry = is.entry ∙ (λ i. record { seq = sym keeps.commits i + 1; run = claimed.run; effects = f.effects });
+}

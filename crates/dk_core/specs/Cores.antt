@@ -5,6 +5,7 @@ use Rattle.std.specs.FinMap.{FinMap, get}
 use Rattle.dk_types.specs.declared.number.RunNo.{RunNo}
 use Rattle.dk_types.specs.declared.number.ConnNo.{ConnNo}
 use Rattle.dk_types.specs.declared.number.TaskKey.{TaskKey}
+use Rattle.dk_types.specs.declared.item.Item.{Item}
 use Rattle.dk_types.specs.declared.job.Job.TheVariants as job
 use Rattle.dk_types.specs.declared.event.Event.{Event}
 use Rattle.dk_types.specs.Keys.{key_cmp, conn_cmp}
@@ -19,7 +20,7 @@ use Rattle.dk_model.specs.Sights.{stamp}
 use Rattle.dk_model.specs.Lawful.{AreLawful, IsWithinLimits}
 use Rattle.dk_tasks.specs.Tasks.{Kept}
 use Rattle.dk_connections.specs.Linked.{Linked, all_of, IsSwept}
-use Rattle.dk_core.specs.StampedWorlds.{durable_of, HasStamps}
+use Rattle.dk_core.specs.StampedWorlds.{durable_of, seen_now, HasStamps}
 use Rattle.dk_core.specs.declared.world.Core.{Core}
 use Rattle.dk_core.specs.declared.claimed.Claimed.{Claimed}
 
@@ -70,6 +71,12 @@ Adds old new more = (rules : Meaning) (d : DurableWorld) (budget : Option ℕ) (
 -- whatever history; no event is added
 abbrev pub Stays : Core → Core → Type 0
 Stays old new = (rules : Meaning) → AddsBy rules old new []
+
+-- what was made ready for a commit is ready still: each read sees what it saw, as many runs are committed, and the room of the stores is as it was
+pub record KeepsReady (old new : Core) : Type 0 where
+  pub seen : (item : Item) → seen_now new.world item ≡ seen_now old.world item
+  pub commits : new.world.commits ≡ old.world.commits
+  pub room : new.world.room ≡ old.world.room
 
 -- the core stands for some history of lawful rules
 pub record IsStanding (c : Core) : Type 0 where

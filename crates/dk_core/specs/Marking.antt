@@ -37,10 +37,11 @@ tasks_freed (job.Message conn name body) tasks = tasks
 tasks_freed (job.Channel conn name channel body) tasks = tasks
 tasks_freed (job.Disconnect conn name graceful) tasks = tasks
 
--- what a read answers and sees is as it was, and so are the claims and the moment
+-- what a read answers and sees is as it was, and so are the room, the claims and the moment
 pub record IsSame (old new : Core) : Type 0 where
   pub durable : durable_of new.world ≡ durable_of old.world
   pub seen : (item : Item) → seen_now new.world item ≡ seen_now old.world item
+  pub room : new.world.room ≡ old.world.room
   pub claims : new.claims ≡ old.claims
   pub moment : new.moment ≡ old.moment
 

@@ -3,7 +3,7 @@ ghost use Rattle.std.specs.Prelude.{◌≡◌, ℕ, ◌∷◌, [], All, IfOk};
 ghost use Rattle.dk_types.specs.declared.event.Event.TheVariants as event;
 ghost use Rattle.dk_model.specs.Lawful.{HasShortBody, IsInput};
 ghost use Rattle.dk_core.specs.Answers.{Connected, Posted, Hands};
-ghost use Rattle.dk_core.specs.Cores.{Adds, IsStanding};
+ghost use Rattle.dk_core.specs.Cores.{Adds, IsStanding, KeepsReady};
 
 use crate::answers::ConnectRefused;
 use crate::world::Core;
@@ -15,7 +15,8 @@ impl Core {
     /// Makes a connection, whose login waits.
     pub fn connect(&mut self, name: &Name) -> Result<ConnNo, ConnectRefused>
         requires standing { IsStanding self.old }
-        ensures { Connected self.old self.new name.now result }
+        ensures event { Connected self.old self.new name.now result }
+        ensures ready { KeepsReady self.old self.new }
     {
         // What holds of every name is seen where its bytes are.
         let _bytes = name.as_slice();
@@ -32,7 +33,8 @@ impl Core {
     /// Puts an input last in its connection's queue. A Disconnect takes no memory.
     pub fn post(&mut self, conn: ConnNo, input: Input) -> Result<(), PostRefused>
         requires within { IsInput input }
-        ensures { Posted self.old self.new conn input result }
+        ensures event { Posted self.old self.new conn input result }
+        ensures ready { KeepsReady self.old self.new }
     {
         self.connections.post(conn, input)
     }
@@ -40,6 +42,7 @@ impl Core {
     /// Hands a connection's first messages, `most` of them or all, none with a body that is too long; `end` says whether it is gone.
     pub fn hand(&mut self, conn: ConnNo, most: u32) -> Result<Handed, NoMemory>
         ensures hands { Hands self.old self.new conn most result }
+        ensures ready { KeepsReady self.old self.new }
         ensures bodies { IsStanding self.old → IfOk result (λ handed. All HasShortBody handed.outs) }
     {
         self.connections.hand(conn, most)
@@ -47,7 +50,8 @@ impl Core {
 
     /// Time goes on to a moment, in ms, and never back. It takes no memory.
     pub fn tick(&mut self, moment: u64)
-        ensures { (pass : ℕ) → Adds self.old self.new (event.Tick pass moment ∷ []) }
+        ensures event { (pass : ℕ) → Adds self.old self.new (event.Tick pass moment ∷ []) }
+        ensures ready { KeepsReady self.old self.new }
     {
         self.moment = self.moment.max(moment.min(MOMENT_MOST_MS));
     }

@@ -2,7 +2,7 @@
 ghost use Rattle.std.specs.Prelude.{◌≡◌, ◌∷◌, [], Some, IfOk, IfSome};
 ghost use Rattle.dk_types.specs.declared.event.Event.TheVariants as event;
 ghost use Rattle.dk_core.specs.Answers.{Claims};
-ghost use Rattle.dk_core.specs.Cores.{Adds, IsGranted};
+ghost use Rattle.dk_core.specs.Cores.{Adds, IsGranted, KeepsReady};
 ghost use Rattle.dk_core.specs.Picking.{job_of, IsDueTask, IsFirstRun, IsPick, IsReadyInput, IsThere};
 ghost use Rattle.dk_core.specs.Marking.{IsMarked, IsFreed, IsTaskFreed};
 ghost use Rattle.dk_core.specs.declared.choice.Choice.TheVariants as choose;
@@ -19,7 +19,8 @@ impl Core {
     /// Claims the job that is to be run next, for a pass: the first run; else a task or an input by turns. None where
     /// nothing can be run.
     pub fn claim(&mut self, pass: u32) -> Result<Option<Claimed>, ClaimRefused>
-        ensures { Claims self.old self.new pass result }
+        ensures event { Claims self.old self.new pass result }
+        ensures ready { KeepsReady self.old self.new }
     {
         let Some(choice) = self.pick() else {
             return Ok(None);
@@ -48,7 +49,8 @@ impl Core {
     /// Gives a claim back: its job can be run again where it still waits. It takes no memory.
     pub fn release(&mut self, claimed: Claimed)
         requires granted { IsGranted self.old claimed }
-        ensures { Adds self.old self.new (event.Release claimed.pass claimed.run ∷ []) }
+        ensures event { Adds self.old self.new (event.Release claimed.pass claimed.run ∷ []) }
+        ensures ready { KeepsReady self.old self.new }
     {
         self.claims.release(claimed.run);
         self.unmark(&claimed.job);

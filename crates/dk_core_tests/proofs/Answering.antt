@@ -2,14 +2,12 @@
 use Rattle.std.proofs.Common.{◌≡◌, ℕ, suc, ◌+◌, ◌-◌, ◌<◌, [], arith}
 use Rattle.dk_types.specs.declared.number.ConnNo.{ConnNo}
 use Rattle.dk_types.specs.declared.job.Out.TheVariants as out
-use Rattle.dk_types.specs.declared.item.Item.{Item}
-use Rattle.dk_types.specs.declared.item.Read.{Read}
 use Rattle.dk_model.specs.Runs.{and_then, send}
 use Rattle.dk_overlay.specs.Logged.{Logged}
 use Rattle.dk_txn.specs.declared.txn.Txn.{Txn}
 use Rattle.dk_txn.specs.Does.{Leads}
-use Rattle.dk_core_tests.specs.Twins.{answer}
 use Rattle.dk_txn.specs.Sights.{Sights}
+use Rattle.dk_core_tests.specs.Twins.{answer}
 
 -- what is left at a turn begins with a message
 pub at_turn : {S : Type 0} {sights : Sights S} {a b : Txn S Logged} (conn : ConnNo) (messages i : ℕ) → i < messages

@@ -27,12 +27,7 @@ use Rattle.dk_core.proofs.Opened.{read_at}
 use Rattle.dk_core.proofs.Standing.{sound_of}
 use Rattle.dk_workers.specs.Working.{AreReadsNow, IsStandingFor}
 
--- reads that a look gave are those of the world, where it keeps what the world reads
-pub reads_now : (w v : Stamped) → ((item : Item) (read : Read) → read ≡ read_now w item → read ≡ read_now v item) → (reads : List (Item × Read)) → AllByRecursion (λ r. r.1 ≡ read_now v r.0) reads → AreReadsNow w reads
-reads_now w v kept [] given = tt
-reads_now w v kept (r ∷ reads) given = (given.0 ∙ sym (kept r.0 (read_now w r.0) refl), reads_now w v kept reads given.1)
-
--- one of them does not differ from what is seen
+-- a read of the world as it stands does not differ from what is seen
 none_differs : (w : Stamped) (before : List (Item × Read)) (item : Item) (read : Read) (behind : List (Item × Read)) → AreReadsNow w (before ++ (item, read) ∷ behind) → read.seen ≡ seen_now w item
 none_differs w [] item read behind all = ap (λ (r : Read). r.seen) all.0
 none_differs w (r ∷ before) item read behind all = none_differs w before item read behind all.1

@@ -22,8 +22,8 @@ impl StampedWorld {
 
 impl View for WorldLook<'_> {
     ghost use Rattle.std.specs.Prelude.{◌≡◌};
-    ghost use Rattle.dk_core.specs.StampedWorlds.{read_now};
     ghost use Rattle.dk_txn.specs.Sights.{steady};
+    ghost use Rattle.dk_core.specs.StampedWorlds.{read_now};
 
     ghost sights = { steady (λ look item read. read ≡ read_now look.world.now item) };
 

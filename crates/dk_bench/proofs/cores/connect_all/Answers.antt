@@ -5,4 +5,4 @@ pub connect-requires : goal.connect-requires
 connect-requires g c = record { standing = standing_of (g.G.Rules.rules c.args.game.now) _ (g.G.Rules.lawful c.args.game.now) c.sessions.invariant }
 
 pub sessions-preserved : goal.sessions-preserved
-sessions-preserved g c = entered (g.G.Rules.rules c.args.game.now) (g.G.Rules.lawful c.args.game.now) _ _ _ c.sessions.invariant (c.in-Ok.ensures 0)
+sessions-preserved g c = entered (g.G.Rules.rules c.args.game.now) (g.G.Rules.lawful c.args.game.now) _ _ _ c.sessions.invariant (c.in-Ok.ensures.event 0)

@@ -1,8 +1,9 @@
-use Rattle.std.proofs.Common.{sym, subst, ◌∙◌, ◌≤◌}
+use Rattle.std.proofs.Common.{sym, ap, subst, ◌∙◌, ◌≤◌}
 use Rattle.dk_types.specs.declared.limits.TheConstants.{MOMENT_MOST_MS}
 use Rattle.dk_txn.specs.Knowing.{JobFits}
+use Rattle.dk_core.specs.declared.durable.look.WorldLook.{WorldLook}
 use Rattle.dk_workers.specs.Working.{AreReadsNow}
-use Rattle.dk_workers.proofs.Honest.{claim_within, reads_now}
+use Rattle.dk_workers.proofs.Honest.{claim_within}
 use Rattle.dk_workers.proofs.working.run_claimed.Goals as goal
 
 pub run_over-requires-clause-moment : goal.run_over-requires-clause-moment
@@ -17,5 +18,5 @@ run_over-requires-clause-fits g c =
 
 pub returns-clause-now : goal.returns-clause-now
 returns-clause-now g c =
-    subst (λ w. AreReadsNow w c.in_ok-finished.finished.reads.items) c.look-look.ensures
-    (reads_now c.look-look.result.world.now c.run_over.new.view.world.now c.run_over.ensures.kept c.in_ok-finished.finished.reads.items c.in_ok-finished.ensures.given)
+    let same = ap (λ (look : WorldLook). look.world.now) c.run_over.ensures.becomes in
+    subst (λ w. AreReadsNow w c.in_ok-finished.finished.reads.items) (same ∙ c.look-look.ensures) c.in_ok-finished.ensures.given

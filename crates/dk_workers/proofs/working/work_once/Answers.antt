@@ -10,7 +10,7 @@ pub end_claimed-requires-clause-standing : goal.end_claimed-requires-clause-stan
 end_claimed-requires-clause-standing g c =
     let rules = g.G.Rules.rules c.args.game.now in
     let lawful = g.G.Rules.lawful c.args.game.now in
-    let claims = subst (λ o. Claims c.args.core.now c.claim.new.self c.args.pass (Ok o)) c.in-Ok-Some.field-0-is (subst (Claims c.args.core.now c.claim.new.self c.args.pass) c.in-Ok-Some.is c.claim.ensures) in
+    let claims = subst (λ o. Claims c.args.core.now c.claim.new.self c.args.pass (Ok o)) c.in-Ok-Some.field-0-is (subst (Claims c.args.core.now c.claim.new.self c.args.pass) c.in-Ok-Some.is c.claim.ensures.event) in
     standing_then rules c.args.core.now c.claim.new.self (event.Claim c.args.pass (reply.Granted c.in-Ok-Some.claimed.run c.in-Ok-Some.claimed.at c.in-Ok-Some.claimed.job) ∷ []) c.requires.standing
     (λ d budget events s. claims.0 rules d budget events lawful s)
 
@@ -19,7 +19,7 @@ returns-in-Err g c =
     let rules = g.G.Rules.rules c.args.game.now in
     let lawful = g.G.Rules.lawful c.args.game.now in
     let claimed = c.in-Ok-Some.claimed in
-    let claims = subst (λ o. Claims c.args.core.now c.claim.new.self c.args.pass (Ok o)) c.in-Ok-Some.field-0-is (subst (Claims c.args.core.now c.claim.new.self c.args.pass) c.in-Ok-Some.is c.claim.ensures) in
+    let claims = subst (λ o. Claims c.args.core.now c.claim.new.self c.args.pass (Ok o)) c.in-Ok-Some.field-0-is (subst (Claims c.args.core.now c.claim.new.self c.args.pass) c.in-Ok-Some.is c.claim.ensures.event) in
     inr record {
       run = claimed.run;
       at = claimed.at;

@@ -5,20 +5,20 @@ use Rattle.dk_core.specs.Marking.{IsMarked}
 use Rattle.dk_core.proofs.Granted.{with_claims, claims_none, claims_spent, claims_exhausted, claims_granted, granted_there}
 use Rattle.dk_core.proofs.world.Core.claim.Goals as goal
 
-pub returns-in_default : goal.returns-in_default
-returns-in_default c = claims_none c.args.self.now c.args.pass c.in_default.ensures.pick
+pub returns-in_default-clause-event : goal.returns-in_default-clause-event
+returns-in_default-clause-event c = claims_none c.args.self.now c.args.pass c.in_default.ensures.pick
 
-pub returns-then-not-has_left : goal.returns-then-not-has_left
-returns-then-not-has_left c = claims_spent c.args.self.now c.args.pass c.in-Some.choice c.in-Some.ensures.pick c.in-Some.ensures.there c.granted.result (sym c.if-not-has_left.ensures) c.granted.ensures
+pub returns-then-not-has_left-clause-event : goal.returns-then-not-has_left-clause-event
+returns-then-not-has_left-clause-event c = claims_spent c.args.self.now c.args.pass c.in-Some.choice c.in-Some.ensures.pick c.in-Some.ensures.there c.granted.result (sym c.if-not-has_left.ensures) c.granted.ensures
 
-pub returns-then-next-ge-NUMBERS_END : goal.returns-then-next-ge-NUMBERS_END
-returns-then-next-ge-NUMBERS_END c =
+pub returns-then-next-ge-NUMBERS_END-clause-event : goal.returns-then-next-ge-NUMBERS_END-clause-event
+returns-then-next-ge-NUMBERS_END-clause-event c =
     let next = c.next-next.ensures in
     let end = c.if-next-ge-NUMBERS_END.true in
     claims_exhausted c.args.self.now c.args.pass c.in-Some.choice c.in-Some.ensures.pick c.in-Some.ensures.there c.next-next.result (sym c.if-not-has_left.ensures) (omega (arith, next, end)) next
 
-pub returns : goal.returns
-returns c =
+pub returns-clause-event : goal.returns-clause-event
+returns-clause-event c =
     let next = c.next-next.ensures in
     let end = c.if-next-ge-NUMBERS_END.false in
     let now = c.args.self.now in

@@ -4,8 +4,8 @@ use Rattle.dk_types.specs.declared.event.ConnectReply.TheVariants as connected
 use Rattle.dk_core.proofs.Entering.{is_new, stays_so, connects}
 use Rattle.dk_core.proofs.world.Core.connect.Goals as goal
 
-pub returns-then-next-ge-NUMBERS_END : goal.returns-then-next-ge-NUMBERS_END
-returns-then-next-ge-NUMBERS_END c pass =
+pub returns-then-next-ge-NUMBERS_END-clause-event : goal.returns-then-next-ge-NUMBERS_END-clause-event
+returns-then-next-ge-NUMBERS_END-clause-event c pass =
     let next = c.next-next.ensures in
     let end = c.if-next-ge-NUMBERS_END.true in
     stays_so c.args.self.now (event.Connect pass c.args.name.now (connected.Exhausted c.next-next.result)) c.as_slice-bytes.ensures.name (λ rules. (omega (arith, next, end), next, refl)) (λ rules. refl)
@@ -13,7 +13,7 @@ returns-then-next-ge-NUMBERS_END c pass =
 pub connect-requires : goal.connect-requires
 connect-requires c = record { absent = rw c.next-next.ensures (is_new c.args.self.now c.requires.standing) }
 
-pub returns : goal.returns
-returns c = λ pass. rw c.next-next.ensures
+pub returns-clause-event : goal.returns-clause-event
+returns-clause-event c = λ pass. rw c.next-next.ensures
     (connects c.args.self.now c.args.name.now pass c.connect.new.self c.draw.new.self c.as_slice-bytes.ensures.name (rw c.next-next.ensures at c.if-next-ge-NUMBERS_END.false) c.draw.ensures
     (rw c.next-next.ensures at c.in_ok-connect.ensures.linked) (rw c.next-next.ensures at c.in_ok-connect.ensures.world) c.in_ok-connect.ensures.swept)

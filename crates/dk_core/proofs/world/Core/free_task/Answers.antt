@@ -7,7 +7,7 @@ use Rattle.dk_core.proofs.world.Core.free_task.Goals as goal
 
 pub returns-else-is_some : goal.returns-else-is_some
 returns-else-is_some c = record {
-  same = record { durable = refl; seen = λ _. refl; claims = refl; moment = refl };
+  same = record { durable = refl; seen = λ _. refl; room = refl; claims = refl; moment = refl };
   after_task = refl;
   tasks = rw c.in-Task.is (sym (Changed-absent keys_total exact_keys (with_claim false) c.args.self.now.world.tasks c.in-Task.key (gone c.task.result _ _ c.task.ensures (sym c.if-is_some.ensures))));
   connections = refl;

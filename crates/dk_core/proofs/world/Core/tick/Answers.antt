@@ -2,5 +2,5 @@ use Rattle.std.proofs.Common.{max, ap, ◌∙◌}
 use Rattle.dk_core.proofs.Entering.{ticks}
 use Rattle.dk_core.proofs.world.Core.tick.Goals as goal
 
-pub returns : goal.returns
-returns c pass = ticks c.args.self.now c.args.moment pass c.max-self.result (c.max-self.ensures ∙ ap (max c.args.self.now.moment) c.min.ensures)
+pub returns-clause-event : goal.returns-clause-event
+returns-clause-event c pass = ticks c.args.self.now c.args.moment pass c.max-self.result (c.max-self.ensures ∙ ap (max c.args.self.now.moment) c.min.ensures)

@@ -12,7 +12,7 @@ pub unreachable-requires : goal.unreachable-requires
 unreachable-requires c =
     let old = c.args.self.now in
     let arm = c.in-Err-Exhausted in
-    let told = subst (Connected old.core c.connect.new.self c.args.name.now) arm.is c.connect.ensures in
+    let told = subst (Connected old.core c.connect.new.self c.args.name.now) arm.is c.connect.ensures.event in
     connect_draws old (line.Login c.args.name.now) c.connect.new.self c.args.name.now arm.field-0-0 c.requires
     (subst (λ e. Connected old.core c.connect.new.self c.args.name.now (Err e)) arm.field-0-is told)
 
@@ -22,5 +22,5 @@ returns c =
     let new : Play = record { core = c.connect.new.self; means = c.insert.new.self; opened = c.push.new.self; events = c.push-2.new.self } in
     let name = c.args.name.now in
     let found = rw c.in_ok-clone.ensures.cases at c.in_ok-insert.ensures.updates.0 in
-    login_entered old new name c.in-Ok.conn c.in-Ok.ensures (means_of-Updates old.means.entries new.means.entries name c.in-Ok.conn found) c.in_ok-push.ensures.items
+    login_entered old new name c.in-Ok.conn c.in-Ok.ensures.event (means_of-Updates old.means.entries new.means.entries name c.in-Ok.conn found) c.in_ok-push.ensures.items
     (c.in_ok-push-2.ensures.items ∙ ap (λ (n : List ℕ). old.events.items ++ event.Connect 0 n (reply.Number c.in-Ok.conn) ∷ []) c.in_ok-clone-2.ensures.cases)
