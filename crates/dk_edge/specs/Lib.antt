@@ -4,4 +4,3 @@ pub mod MemorySource
 pub mod MemorySink
 pub mod Links
 pub mod Listening
-pub mod MemoryListener

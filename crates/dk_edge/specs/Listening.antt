@@ -19,3 +19,7 @@ IsBound l = (port : ℕ) × (l.binding ≡ Bound port)
 abbrev pub after_accept : {A : Type 0} → Option A → Listening → Listening
 after_accept (Some link) l = record l { given = l.given + 1 }
 after_accept None l = record l { ended = true }
+
+-- these together
+abbrev pub listening_at : Binding → ℕ → Bool → Listening
+listening_at binding given ended = record { binding = binding; given = given; ended = ended }

@@ -1,7 +1,7 @@
 //! A listener over peers in memory.
 ghost use Rattle.std.specs.Prelude.{◌≡◌, ◌≤◌, false, IfSome};
-ghost use Rattle.dk_edge.specs.Listening.{after_accept};
-ghost use Rattle.dk_edge.specs.MemoryListener.{listening_of};
+ghost use Rattle.dk_types.specs.declared.limits.TheConstants.{NUMBERS_END};
+ghost use Rattle.dk_edge.specs.Listening.{after_accept, listening_at};
 
 use crate::fault_plan::FaultPlan;
 use crate::listener::{Binding, Listener};
@@ -55,9 +55,7 @@ impl MemoryListener {
 
     // The streams of the next peer, if one comes.
     fn next(&mut self) -> Option<(MemorySource, MemorySink)>
-        ensures given { self.new.given ≡ (after_accept result (listening_of self.old)).given }
-        ensures ended { self.new.ended ≡ (after_accept result (listening_of self.old)).ended }
-        ensures binding { self.new.binding ≡ self.old.binding }
+        ensures listening { listening_at self.new.binding self.new.given self.new.ended ≡ after_accept result (listening_at self.old.binding self.old.given self.old.ended) }
         ensures plan { self.new.plan ≡ self.old.plan }
         ensures fresh { IfSome result (λ p. (p.0.plan.faults ≡ 0) × (p.1.plan.faults ≡ 0)) }
     {
@@ -87,7 +85,7 @@ impl Listener for MemoryListener {
 
     type Whole = MemoryLink;
 
-    ghost listening = { listening_of };
+    ghost listening = { λ l. listening_at l.binding l.given l.ended };
 
     ghost counted = { λ l. l.plan.faults };
 
