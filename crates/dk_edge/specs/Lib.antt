@@ -1,3 +1,5 @@
 pub mod Streams
 pub mod MemorySource
 pub mod MemorySink
+pub mod Links
+pub mod Listening

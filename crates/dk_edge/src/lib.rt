@@ -5,14 +5,28 @@
 //! a trusted edge: they tell nothing of their bytes, and count each fault.
 #![tactic(auto)]
 
+pub use clock::Clock;
+pub use fixed_clock::FixedClock;
+pub use link::Link;
+pub use listener::{Binding, Listener};
+pub use memory_link::MemoryLink;
+pub use memory_listener::{MemoryListener, Peer};
 pub use memory_sink::MemorySink;
 pub use memory_source::MemorySource;
 pub use sink::Sink;
 pub use source::Source;
 pub use std_streams::{StdSink, StdSource};
+pub use system_clock::SystemClock;
 
+pub mod clock;
+pub mod fixed_clock;
+pub mod link;
+pub mod listener;
+pub mod memory_link;
+pub mod memory_listener;
 pub mod memory_sink;
 pub mod memory_source;
 pub mod sink;
 pub mod source;
 pub mod std_streams;
+pub mod system_clock;

@@ -1,0 +1,121 @@
+//! A link over bytes in memory.
+ghost use Rattle.std.specs.Prelude.{◌≡◌, ◌<◌, ◌≤◌, Some, true, false};
+
+use crate::link::Link;
+use crate::memory_sink::MemorySink;
+use crate::memory_source::MemorySource;
+use crate::sink::Sink;
+use crate::source::Source;
+use dk_types::Failed;
+use futures::task::{Context, Poll};
+
+/// Takes from a source in memory and puts to a sink in memory, which say at which calls they fail. It puts at most
+/// `piece` bytes at a call. Where it waits, each ready answer comes after a pending one that asks for another poll.
+#[derive(Debug, Drop)]
+pub struct MemoryLink {
+    source: MemorySource,
+    sink: MemorySink,
+    piece: usize,
+    waits: bool,
+    take_is_due: bool,
+    put_is_due: bool,
+    ghost some: { 0 < piece },
+}
+
+impl MemoryLink {
+    /// A link that is ready at each poll, and puts all bytes.
+    pub fn new(source: MemorySource, sink: MemorySink) -> MemoryLink
+        ensures source { result.source ≡ source }
+        ensures sink { result.sink ≡ sink }
+        ensures ready { result.waits ≡ false }
+    {
+        MemoryLink {
+            source,
+            sink,
+            piece: usize::MAX,
+            waits: false,
+            take_is_due: false,
+            put_is_due: false,
+        }
+    }
+
+    /// A link that puts at most `piece` bytes at a call, and waits before each ready answer.
+    pub fn waiting(source: MemorySource, sink: MemorySink, piece: usize) -> MemoryLink
+        requires { 0 < piece }
+        ensures source { result.source ≡ source }
+        ensures sink { result.sink ≡ sink }
+        ensures piece { result.piece ≡ piece }
+        ensures waits { result.waits ≡ true }
+    {
+        MemoryLink {
+            source,
+            sink,
+            piece,
+            waits: true,
+            take_is_due: false,
+            put_is_due: false,
+        }
+    }
+
+    /// Where the bytes come from.
+    pub fn source(&self) -> &MemorySource
+        ensures { result.now ≡ self.now.source }
+    {
+        &self.source
+    }
+
+    /// Where the bytes went.
+    pub fn sink(&self) -> &MemorySink
+        ensures { result.now ≡ self.now.sink }
+    {
+        &self.sink
+    }
+}
+
+impl Link for MemoryLink {
+    ghost remaining = { λ l. Some l.source.left };
+
+    ghost contents = { λ l. Some l.sink.contents };
+
+    ghost take_counted = { λ l. l.source.plan.faults };
+
+    ghost put_counted = { λ l. l.sink.plan.faults };
+
+    fn poll_take(
+        &mut self,
+        context: &mut Context<'_>,
+        into: &mut [u8],
+    ) -> Poll<Result<usize, Failed>> {
+        if self.waits && !self.take_is_due {
+            self.take_is_due = true;
+            return context.yield_now();
+        }
+        self.take_is_due = false;
+        Poll::Ready(self.source.take(into))
+    }
+
+    fn poll_put(
+        &mut self,
+        context: &mut Context<'_>,
+        bytes: &[u8],
+    ) -> Poll<Result<usize, Failed>> {
+        if self.waits && !self.put_is_due {
+            self.put_is_due = true;
+            return context.yield_now();
+        }
+        self.put_is_due = false;
+        let count = bytes.len().min(self.piece);
+        match self.sink.put(&bytes[..count]) {
+            Ok(()) => Poll::Ready(Ok(count)),
+            Err(failed) => Poll::Ready(Err(failed)),
+        }
+    }
+
+    fn take_faults(&self) -> u64 {
+        self.source.faults()
+    }
+
+    fn put_faults(&self) -> u64 {
+        self.sink.faults()
+    }
+}
