@@ -12,13 +12,13 @@ chained_more : {A : Type 0} (Fits Other : Option A → A → Type 0) → ((befor
 chained_more Fits Other more before [] are = tt
 chained_more Fits Other more before (x ∷ xs) are = (more before x are.0, chained_more Fits Other more (Some x) xs are.1)
 
-list_more : {A : Type 0} (Fits Other : Option A → A → Type 0) → ((before : Option A) (x : A) → Fits before x → Other before x) → (xs : List A) → IsList Fits xs → IsList Other xs
+pub list_more : {A : Type 0} (Fits Other : Option A → A → Type 0) → ((before : Option A) (x : A) → Fits before x → Other before x) → (xs : List A) → IsList Fits xs → IsList Other xs
 list_more Fits Other more xs is = record { count = is.count; each = chained_more Fits Other more None xs is.each }
 
-object_more : (before : Option (ObjectId × Object)) (item : ObjectId × Object) → IsObjectItem 1 before item → IsObjectItem 2 before item
+pub object_more : (before : Option (ObjectId × Object)) (item : ObjectId × Object) → IsObjectItem 1 before item → IsObjectItem 2 before item
 object_more before item is = record { id = is.id; above = is.above; kind = is.kind; bytes = omega (arith, is.bytes) }
 
-pending_more : (before : Option Pending) (task : Pending) → IsPendingItem 1 before task → IsPendingItem 2 before task
+pub pending_more : (before : Option Pending) (task : Pending) → IsPendingItem 1 before task → IsPendingItem 2 before task
 pending_more before task is = record { key = is.key; above = is.above; due = is.due; period = is.period; kind = is.kind; arg = omega (arith, is.arg) }
 
 effects_more : (effects : Effects) → AreEffects 1 effects → AreEffects 2 effects

@@ -78,7 +78,7 @@ header_in bytes = record { game = game_in bytes; epoch = epoch_in bytes; format 
 
 -- from `!` to `~`
 abbrev pub is_visible : ℕ → Bool
-is_visible byte = not (nat_lt byte 33) && not (nat_lt 126 byte)
+is_visible byte = nat_le 33 byte && nat_le byte 126
 
 -- The place of the first field that no header has: the letters, the format, the epoch, the id's length, the id, the zeros behind it.
 abbrev pub header_fault : List ℕ → Option ℕ

@@ -1,0 +1,11 @@
+pub mod Readings
+pub mod Going
+pub mod Fronts
+pub mod Gates
+pub mod Falling
+pub mod Steps
+pub mod Scans
+pub mod Blanks
+pub mod HeaderBytes
+pub mod Lookings
+pub mod Anew

@@ -1,0 +1,118 @@
+//! The calls that change a file, each run of them ended by a sync.
+ghost use Rattle.std.specs.Prelude.{◌≡◌, ◌+◌, ◌<◌, ◌≤◌, ◌^◌, ℕ, List, [], ◌∷◌, ◌++◌, length, take, OnOk, OnErr, IsTrue};
+ghost use Rattle.dk_types.specs.Faults.{HasRisen};
+ghost use Rattle.dk_disk.specs.Disk.{settled, overwritten, after_write};
+ghost use Rattle.dk_disk.specs.Opening.{IsOpen};
+ghost use Rattle.dk_disk.specs.Past.{now};
+ghost use Rattle.dk_journal.specs.Moments.{Runs, IsFrontSafe, HasOrNot, NeverFalls, IsWriting, IsClearing, AreBlankOr};
+ghost use Rattle.dk_journal.specs.Standing.{Stands, IsAtRest, IsReady, behind_gate};
+
+use dk_disk::Home;
+use dk_types::{Failed, Side};
+
+// A write behind bytes that are safe leaves them safe.
+fn write<M: Home>(home: &mut M, side: Side, at: u64, bytes: &[u8]) -> Result<(), Failed>
+    requires is_open { IsOpen (M.opening home.old) }
+    requires no_gap { IsTrue M.tells → at ≤ length (now (M.past home.old) side).reads }
+    ensures run { IsTrue M.tells → (front : List ℕ) → length front ≤ at → IsFrontSafe front (now (M.past home.old) side) → Runs side (IsFrontSafe front) (M.past home.old) (M.past home.new) }
+    ensures written { IsTrue M.tells → OnOk result (now (M.past home.new) side ≡ after_write at bytes.now (now (M.past home.old) side)) }
+    ensures opening { M.opening home.new ≡ M.opening home.old }
+    ensures steady { OnOk result (M.counted home.new ≡ M.counted home.old) }
+    ensures cause { OnErr result (HasRisen (M.counted home.old) (M.counted home.new)) }
+{
+    home.write_at(side, at, bytes)
+}
+
+// Writes a length, a payload and a closed gate from this place on, and syncs.
+fn put_behind<M: Home>(home: &mut M, side: Side, at: u64, payload: &[u8]) -> Result<(), Failed>
+    requires is_open { IsOpen (M.opening home.old) }
+    requires size { length payload.now < 2 ^ 32 }
+    requires range { at ≤ 2 ^ 40 }
+    requires at_rest { IsTrue M.tells → IsAtRest side at (M.past home.old) }
+    ensures run { IsTrue M.tells → Runs side (IsFrontSafe (take at (now (M.past home.old) side).reads)) (M.past home.old) (M.past home.new) }
+    ensures done { IsTrue M.tells → OnOk result (now (M.past home.new) side ≡ settled (overwritten at (behind_gate payload.now) (now (M.past home.old) side).reads)) }
+    ensures opening { M.opening home.new ≡ M.opening home.old }
+    ensures steady { OnOk result (M.counted home.new ≡ M.counted home.old) }
+    ensures cause { OnErr result (HasRisen (M.counted home.old) (M.counted home.new)) }
+{
+    let size = payload.len() as u64;
+    let field = (size as u32).to_be_bytes();
+    write(home, side, at, &field)?;
+    write(home, side, at + 4, payload)?;
+    write(home, side, at + 4 + size, &[0])?;
+    home.sync(side)?;
+    Ok(())
+}
+
+// Puts a record behind the closed gate, which stands right before this place, and opens the gate.
+pub(crate) fn put_record<M: Home>(
+    home: &mut M,
+    side: Side,
+    at: u64,
+    payload: &[u8],
+) -> Result<(), Failed>
+    requires is_open { IsOpen (M.opening home.old) }
+    requires size { length payload.now < 2 ^ 32 }
+    requires range { (65 ≤ at) × (at ≤ 2 ^ 40) }
+    requires at_rest { IsTrue M.tells → IsAtRest side at (M.past home.old) }
+    ensures run { IsTrue M.tells → (header : List ℕ) (payloads : List (List ℕ)) → Stands side at (M.past home.old) header payloads → Runs side (HasOrNot header payloads payload.now) (M.past home.old) (M.past home.new) }
+    ensures falls { IsTrue M.tells → (header : List ℕ) (payloads : List (List ℕ)) → Stands side at (M.past home.old) header payloads → NeverFalls header side (M.past home.old).clock (M.past home.new) }
+    ensures done { IsTrue M.tells → OnOk result ((header : List ℕ) (payloads : List (List ℕ)) → Stands side at (M.past home.old) header payloads → Stands side (at + 5 + length payload.now) (M.past home.new) header (payloads ++ payload.now ∷ [])) }
+    ensures rests { IsTrue M.tells → OnOk result (IsAtRest side (at + 5 + length payload.now) (M.past home.new)) }
+    ensures opening { M.opening home.new ≡ M.opening home.old }
+    ensures steady { OnOk result (M.counted home.new ≡ M.counted home.old) }
+    ensures cause { OnErr result (HasRisen (M.counted home.old) (M.counted home.new)) }
+{
+    let gate = at - 1;
+    put_behind(home, side, at, payload)?;
+    home.write_at(side, gate, &[1])?;
+    home.sync(side)?;
+    Ok(())
+}
+
+// Cuts a file to nothing, and syncs.
+fn clear<M: Home>(home: &mut M, side: Side) -> Result<(), Failed>
+    requires { IsOpen (M.opening home.old) }
+    ensures run { IsTrue M.tells → Runs side (IsClearing (now (M.past home.old) side)) (M.past home.old) (M.past home.new) }
+    ensures done { IsTrue M.tells → OnOk result (now (M.past home.new) side ≡ settled []) }
+    ensures opening { M.opening home.new ≡ M.opening home.old }
+    ensures steady { OnOk result (M.counted home.new ≡ M.counted home.old) }
+    ensures cause { OnErr result (HasRisen (M.counted home.old) (M.counted home.new)) }
+{
+    home.cut(side, 0)?;
+    home.sync(side)?;
+    Ok(())
+}
+
+// Writes, and syncs.
+fn put<M: Home>(home: &mut M, side: Side, at: u64, bytes: &[u8]) -> Result<(), Failed>
+    requires is_open { IsOpen (M.opening home.old) }
+    requires no_gap { IsTrue M.tells → at ≤ length (now (M.past home.old) side).reads }
+    ensures run { IsTrue M.tells → Runs side (IsWriting at bytes.now (now (M.past home.old) side)) (M.past home.old) (M.past home.new) }
+    ensures done { IsTrue M.tells → OnOk result (now (M.past home.new) side ≡ settled (overwritten at bytes.now (now (M.past home.old) side).reads)) }
+    ensures opening { M.opening home.new ≡ M.opening home.old }
+    ensures steady { OnOk result (M.counted home.new ≡ M.counted home.old) }
+    ensures cause { OnErr result (HasRisen (M.counted home.old) (M.counted home.new)) }
+{
+    home.write_at(side, at, bytes)?;
+    home.sync(side)?;
+    Ok(())
+}
+
+/// Makes a blank file anew: an open gate with these bytes behind it. The gate is opened once they are on the disk, so
+/// until then a stop leaves a blank file.
+pub fn write_anew<M: Home>(home: &mut M, side: Side, behind: &[u8]) -> Result<(), Failed>
+    requires is_open { IsOpen (M.opening home.old) }
+    requires ready { IsTrue M.tells → IsReady side (M.past home.old) }
+    ensures run { IsTrue M.tells → (most : ℕ) → length (now (M.past home.old) side).reads ≤ most → 1 + length behind.now ≤ most → Runs side (AreBlankOr most (1 ∷ behind.now)) (M.past home.old) (M.past home.new) }
+    ensures done { IsTrue M.tells → OnOk result (now (M.past home.new) side ≡ settled (1 ∷ behind.now)) }
+    ensures opening { M.opening home.new ≡ M.opening home.old }
+    ensures steady { OnOk result (M.counted home.new ≡ M.counted home.old) }
+    ensures cause { OnErr result (HasRisen (M.counted home.old) (M.counted home.new)) }
+{
+    clear(home, side)?;
+    put(home, side, 0, &[0])?;
+    put(home, side, 1, behind)?;
+    put(home, side, 0, &[1])?;
+    Ok(())
+}
