@@ -5,11 +5,11 @@ use Rattle.std.proofs.lemmas.Bool.{leb-true, ne_eqb}
 use Rattle.dk_types.specs.declared.number.RunNo.{RunNo}
 use Rattle.dk_types.specs.declared.durable.Durable.{Durable}
 use Rattle.dk_types.specs.declared.limits.TheConstants.{NUMBERS_END}
-use Rattle.dk_wire.specs.Fields.{IsU64}
-use Rattle.dk_wire.specs.Exact.{IsExact}
-use Rattle.dk_wire.proofs.Composing.{then_exact, last_exact, checked_exact}
-use Rattle.dk_wire.proofs.NextLaws.{next_u64_exact}
-use Rattle.dk_wire.proofs.ListLaws.{list_exact}
+use Rattle.dk_types.specs.Fields.{IsU64}
+use Rattle.dk_types.specs.Exact.{IsExact}
+use Rattle.dk_types.proofs.Composing.{then_exact, last_exact, checked_exact}
+use Rattle.dk_types.proofs.NextLaws.{next_u64_exact}
+use Rattle.dk_types.proofs.ListLaws.{list_exact}
 use Rattle.dk_model.specs.Validity.{next_of}
 use Rattle.dk_model.specs.Images.{IsImageValue, image_spelling, image_at, agrees_with, last_of}
 use Rattle.dk_entry.specs.ItemLaws.{object_exact, binding_exact}

@@ -1,7 +1,8 @@
 //! The form of an image.
 ghost use Rattle.std.specs.Prelude.{◌≡◌, ◌<◌, ◌≤◌, ◌^◌, ◌↔◌, ℕ, length, IfOk, IsErrOf};
-ghost use Rattle.dk_wire.specs.Fields.{u64_spelling};
-ghost use Rattle.dk_wire.specs.Payload.{Gives, Decodes, next_u64, checked};
+ghost use Rattle.dk_types.specs.Fields.{u64_spelling};
+ghost use Rattle.dk_wire.specs.Payload.{Gives, Decodes};
+ghost use Rattle.dk_types.specs.Payload.{next_u64, checked};
 ghost use Rattle.dk_model.specs.Validity.{next_of};
 ghost use Rattle.dk_model.specs.Entries.{IsFormat};
 ghost use Rattle.dk_model.specs.Images.{IsImageValue, image_spelling, image_at, agrees_with, last_of};

@@ -1,7 +1,7 @@
 //! Laws of images. Each is the contract of a function that does nothing.
 ghost use Rattle.std.specs.Prelude.{ℕ};
 ghost use Rattle.dk_types.specs.declared.durable.Durable.{Durable};
-ghost use Rattle.dk_wire.specs.Exact.{IsPrefixFree};
+ghost use Rattle.dk_types.specs.Exact.{IsPrefixFree};
 ghost use Rattle.dk_model.specs.Images.{IsImageValue, image_spelling};
 
 /// A world has one image in a format, and no image begins another of its format.

@@ -5,7 +5,7 @@ use Rattle.dk_types.specs.declared.side.Side.{Side}
 use Rattle.dk_disk.specs.Disk.{Disk, IsImage, settled, overwritten, after_write, after_failed_write}
 use Rattle.dk_disk.specs.Past.{Past, now}
 use Rattle.dk_disk.proofs.Images.{settled_image, settled_only, failed_write_image}
-use Rattle.dk_wire.specs.Fields.{blob_spelling}
+use Rattle.dk_types.specs.Fields.{blob_spelling}
 use Rattle.dk_wire.proofs.LengthLaws.{length-blob}
 use Rattle.dk_model.specs.Stores.{records, Reads, end_of}
 use Rattle.dk_journal.specs.Moments.{IsFrontSafe, HasOrNot, IsBetween}

@@ -11,7 +11,7 @@ use Rattle.std.specs.Cmp.Lexicographic.{pointwise}
 use Rattle.std.proofs.lemmas.Slice.Eq.{bytes_eq-Decides}
 use Rattle.dk_types.specs.GameIds.{IsVisible, IsGameId}
 use Rattle.dk_types.specs.declared.limits.TheConstants.{NUMBERS_END}
-use Rattle.dk_wire.specs.Fields.{u16_spelling, u64_spelling}
+use Rattle.dk_types.specs.Fields.{u16_spelling, u64_spelling}
 use Rattle.dk_wire.proofs.LengthLaws.{length-u16, length-u64}
 use Rattle.dk_model.specs.Stores.{StoreHeader, letters, header_fields, header_spelling, format_in, epoch_in, game_length_in, game_in, header_in, header_fault, is_visible, IsHeader}
 use Rattle.dk_model.specs.Entries.{IsFormat}

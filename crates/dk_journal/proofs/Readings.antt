@@ -2,10 +2,10 @@
 use Rattle.std.proofs.Common.{◌≡◌, ◌≢◌, ◌⊎◌, inl, inr, ℕ, ◌+◌, ◌<◌, ◌^◌, List, [], ◌∷◌, ◌++◌, length, take, drop, refl, sym, ◌∙◌, ap, arith, append_assoc, length-append, take-append-drop, lit<}
 use Rattle.std.proofs.lemmas.List.{append_cancel_left, append-nil, take_at}
 use Rattle.std.proofs.lemmas.Bool.{cases_eq}
-use Rattle.dk_wire.specs.Fields.{IsBlob, blob_spelling}
-use Rattle.dk_wire.specs.Reading.{blob_at}
-use Rattle.dk_wire.proofs.FieldLaws.{blob_exact}
-use Rattle.dk_wire.proofs.ExactLaws.{prefix_free}
+use Rattle.dk_types.specs.Fields.{IsBlob, blob_spelling}
+use Rattle.dk_types.specs.Reading.{blob_at}
+use Rattle.dk_types.proofs.FieldLaws.{blob_exact}
+use Rattle.dk_types.proofs.ExactLaws.{prefix_free}
 use Rattle.dk_model.specs.Stores.{records, AreSized, Reads, end_of}
 
 -- payloads with their lengths are told apart, whatever follows them

@@ -3,7 +3,7 @@ use Rattle.std.proofs.Common.{◌≡◌, ◌≢◌, ℕ, ◌+◌, ◌-◌, ◌<�
 use Rattle.std.proofs.lemmas.List.{take_at, drop-drop, length-take}
 use Rattle.std.specs.Int.{w32, to_be_bytes, from_be_bytes}
 use Rattle.std.proofs.lemmas.Nat.{from_be_bytes-to_be_bytes_4}
-use Rattle.dk_wire.specs.Fields.{blob_spelling, u32_spelling}
+use Rattle.dk_types.specs.Fields.{blob_spelling, u32_spelling}
 use Rattle.dk_wire.proofs.LengthLaws.{length-blob}
 use Rattle.dk_model.specs.Stores.{records, Reads, end_of}
 use Rattle.dk_journal.specs.Scanning.{IsScanned, IsCutOff}

@@ -7,7 +7,7 @@ use Rattle.dk_disk.specs.Disk.{Disk, settled, overwritten, after_write, after_fa
 use Rattle.dk_disk.specs.Past.{Past, now, other_side, Elapses, Stays, Becomes, MayBecome}
 use Rattle.dk_disk.proofs.Images.{overwritten_length}
 use Rattle.dk_journal.specs.Moments.{Runs, IsFrontSafe, HasOrNot, NeverFalls, IsBetween}
-use Rattle.dk_wire.specs.Fields.{blob_spelling}
+use Rattle.dk_types.specs.Fields.{blob_spelling}
 use Rattle.dk_wire.proofs.LengthLaws.{length-blob}
 use Rattle.dk_journal.specs.Standing.{Stands, IsAtRest, behind_gate}
 use Rattle.dk_journal.proofs.Going.{begun, goes_on, weakened}

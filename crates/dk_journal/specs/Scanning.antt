@@ -1,6 +1,6 @@
 -- How far a journal's file was read.
 use Rattle.std.specs.Prelude.{◌≡◌, ◌<◌, ◌^◌, ℕ, List, [], ◌∷◌, ◌++◌, length, take, drop}
-use Rattle.dk_wire.specs.Fields.{blob_spelling}
+use Rattle.dk_types.specs.Fields.{blob_spelling}
 use Rattle.dk_model.specs.Stores.{records, AreSized, end_of}
 
 -- These records are at the front of the file, and the gate behind them lies at this place, within the file.

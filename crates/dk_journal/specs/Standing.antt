@@ -3,7 +3,7 @@ use Rattle.std.specs.Prelude.{◌≡◌, ℕ, ◌+◌, ◌≤◌, true, List, []
 use Rattle.dk_types.specs.declared.side.Side.{Side}
 use Rattle.dk_disk.specs.Disk.{settled}
 use Rattle.dk_disk.specs.Past.{Past, now}
-use Rattle.dk_wire.specs.Fields.{blob_spelling}
+use Rattle.dk_types.specs.Fields.{blob_spelling}
 use Rattle.dk_model.specs.Stores.{Reads, end_of, is_blank}
 
 -- The file has these payloads with nothing pending, and the journal's length is the place behind its closed gate.

@@ -3,7 +3,7 @@ ghost use Rattle.std.specs.Prelude.{◌≡◌, ◌+◌, ◌<◌, ◌≤◌, ◌^
 ghost use Rattle.dk_types.specs.Faults.{HasRisen};
 ghost use Rattle.dk_disk.specs.Opening.{IsOpen};
 ghost use Rattle.dk_disk.specs.Past.{now, Stays};
-ghost use Rattle.dk_wire.specs.Fields.{u32_spelling};
+ghost use Rattle.dk_types.specs.Fields.{u32_spelling};
 ghost use Rattle.dk_model.specs.Stores.{Reads};
 ghost use Rattle.dk_journal.specs.Moments.{Looks};
 ghost use Rattle.dk_journal.specs.Scanning.{IsScanned, IsCutOff};

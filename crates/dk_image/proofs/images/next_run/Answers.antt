@@ -1,5 +1,5 @@
 use Rattle.std.proofs.Common.{◌≡◌, sym, ◌∙◌, ap, arith}
-use Rattle.dk_wire.specs.Fields.{u64_spelling}
+use Rattle.dk_types.specs.Fields.{u64_spelling}
 use Rattle.dk_model.specs.Validity.{next_of}
 use Rattle.dk_image.proofs.images.next_run.Goals as goal
 

@@ -2,7 +2,7 @@ use Rattle.std.proofs.Common.{◌≡◌, ◌∙◌, arith}
 use Rattle.std.specs.Int.{w32, from_be_bytes}
 use Rattle.std.proofs.lemmas.Nat.{be_bytes_4}
 use Rattle.byteorder.specs.Endian.{big_number}
-use Rattle.dk_wire.specs.Fields.{u32_spelling}
+use Rattle.dk_types.specs.Fields.{u32_spelling}
 use Rattle.dk_journal.proofs.scan.number_of.Goals as goal
 
 pub returns : goal.returns
