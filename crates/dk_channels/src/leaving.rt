@@ -14,8 +14,9 @@ use crate::channel::{Channel, record_of};
 use crate::lists::{is_member, without_channel, without_member};
 use crate::saving::save_both;
 use dk_model::Mode;
-use dk_refs::{ChannelRecord, Delivery, Managed, ManagedRef, SessionRecord};
-use dk_refs::{own_record, record_if_connected};
+use dk_refs::{
+    ChannelRecord, Delivery, Managed, ManagedRef, SessionRecord, own_record, record_if_connected,
+};
 use dk_txn::{Refusal, Txn, View};
 use dk_types::{Blob, Listed, Name, NoMemory, Session};
 use std::alloc::Global;

@@ -8,11 +8,11 @@ use dk_core::Core;
 use dk_game::Game;
 use dk_inspect::inspect_text;
 use dk_script::transcript_of;
-use dk_workers::{Ran, Step as Worked, work_once};
 use dk_types::limits::BODY_MOST_BYTES;
 use dk_types::{
     Blob, ClaimReply, ConnNo, ConnectReply, Durable, Event, Input, Listed, Name, NoMemory,
 };
+use dk_workers::{Ran, Step as Worked, work_once};
 use std::alloc::Global;
 use std::test::Fail;
 

@@ -3,13 +3,12 @@ ghost use Rattle.std.specs.Prelude.{◌≡◌, ◌≤◌, false, IfSome};
 ghost use Rattle.dk_types.specs.declared.limits.TheConstants.{NUMBERS_END};
 ghost use Rattle.dk_edge.specs.Listening.{after_accept, listening_at};
 
-use dk_types::FaultPlan;
 use crate::listener::{Binding, Listener};
 use crate::memory_link::MemoryLink;
 use crate::memory_sink::MemorySink;
 use crate::memory_source::MemorySource;
-use dk_types::Failed;
 use dk_types::limits::NUMBERS_END;
+use dk_types::{Failed, FaultPlan};
 use std::alloc::Global;
 use std::collections::VecDeque;
 

@@ -5,8 +5,7 @@
 //! and the trait of a game's rules. The laws of the definitions are the contracts of `dk_laws`.
 #![tactic(auto)]
 
-pub use dk_types::Mode;
-pub use dk_types::limits as limits;
+pub use dk_types::{Mode, limits as limits};
 pub use records::{ChannelRecord, Delivery, SessionRecord};
 pub use rules::Rules;
 pub use script::Line;

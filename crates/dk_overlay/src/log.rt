@@ -16,10 +16,9 @@ use crate::names::NameChanges;
 use crate::objects::ObjectChanges;
 use crate::reads::Reads;
 use crate::tasks::TaskChanges;
-use dk_types::Mode;
 use dk_types::{
-    Answer, ConnNo, Effects, Item, Listed, Name, NoMemory, Object, ObjectId, Out, Read, RunNo,
-    TaskKey,
+    Answer, ConnNo, Effects, Item, Listed, Mode, Name, NoMemory, Object, ObjectId, Out, Read,
+    RunNo, TaskKey,
 };
 use std::alloc::Global;
 use std::marker::Model;

@@ -5,8 +5,8 @@
 //! `docs/TRANSACTIONS.md`.
 #![tactic(auto)]
 
-pub use opening::{close_record, open_record};
 pub use dk_refs::{is_recorded, own_record, record_if_connected, session_name};
+pub use opening::{close_record, open_record};
 pub use records::{find, is_connected};
 pub use sending::send;
 

@@ -7,8 +7,8 @@ ghost use Rattle.dk_txn.specs.Refusals.{refusal_fault};
 ghost use Rattle.dk_refs.specs.Telling.{TellsKindOf, TellsLengthIn, kind_under};
 ghost use Rattle.dk_sessions.specs.Openings as opening;
 
-use dk_refs::recorded::{session_name, too_long};
 use dk_refs::own_records::own_record;
+use dk_refs::recorded::{session_name, too_long};
 use dk_refs::{ManagedRef, SessionRecord};
 use dk_txn::{Mode, Refusal, Txn, View};
 use dk_types::{ConnNo, Listed, Name, Session};

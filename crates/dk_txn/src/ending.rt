@@ -41,7 +41,12 @@ fn failed_outs(alloc: Global, job: &Job) -> Result<Vec<(ConnNo, Out)>, NoMemory>
 /// Does to a run's own task, which is pending, what its occurrence does: a once-task is taken away, and a
 /// periodic one gets its next due moment. `due` is the moment that it is due before the run, `period` its
 /// period or 0, in ms.
-pub(crate) fn pass_own_task(log: &mut Log, key: TaskKey, due: u64, period: u64) -> Result<(), NoMemory>
+pub(crate) fn pass_own_task(
+    log: &mut Log,
+    key: TaskKey,
+    due: u64,
+    period: u64,
+) -> Result<(), NoMemory>
     ensures ok { OnOk result (Fits due period → log.new ≡ passing_own log.old key due period) }
     ensures err { OnErr result (log.new ≡ log.old) }
 {

@@ -8,8 +8,8 @@ ghost use Rattle.dk_model.specs.Steps.{own_task as own_act};
 ghost use Rattle.dk_overlay.specs.Asked.{IsAsked};
 ghost use Rattle.dk_txn.specs.Refusals.{refusal_fault, TellsLength};
 
-use crate::ending::pass_own_task;
 use crate::checks::{body_len, is_bad_period, is_too_long, too_long};
+use crate::ending::pass_own_task;
 use crate::refusal::Refusal;
 use crate::txn::Txn;
 use crate::view::View;

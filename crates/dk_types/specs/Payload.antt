@@ -55,4 +55,3 @@ whole reading bytes = do
   x ← reading (record { at = 0; bytes = bytes })
   end ← next_end x.1
   Ok x.0
-

@@ -6,8 +6,8 @@
 //! format of a store or of a session.
 #![tactic(auto)]
 
-pub use form::{Form, decode, encode, put_list, take_list};
 pub use dk_types::WireRefused;
+pub use form::{Form, decode, encode, put_list, take_list};
 pub use payload::PayloadRefused;
 pub use reader::Reader;
 pub use writer::Writer;

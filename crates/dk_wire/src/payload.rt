@@ -5,8 +5,7 @@ ghost use Rattle.dk_types.specs.Payload.{next_u8, next_u16, next_u32, next_u64, 
 ghost use Rattle.dk_wire.specs.Payload.{Gives, Misses, told_of};
 
 use crate::reader::Reader;
-use dk_types::WireRefused;
-use dk_types::{Blob, Name, NoMemory, ObjectId, TaskKey};
+use dk_types::{Blob, Name, NoMemory, ObjectId, TaskKey, WireRefused};
 use std::alloc::{AllocError, AllocFailed, Global};
 
 /// Why a payload is no spelling of a value.

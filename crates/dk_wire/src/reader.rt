@@ -6,8 +6,7 @@ ghost use Rattle.dk_types.specs.Fields.{IsU8, IsU16, IsU32, IsU64, IsBlob, IsId,
 ghost use Rattle.dk_types.specs.Reading.{Reads, u8_at, u16_at, u32_at, u64_at, name_at, blob_at, id_at, end_at};
 ghost use Rattle.dk_types.specs.Exact.{TakesFront};
 
-use dk_types::WireRefused;
-use dk_types::{Blob, Name, ObjectId};
+use dk_types::{Blob, Name, ObjectId, WireRefused};
 use std::alloc::Global;
 use std::marker::Model;
 

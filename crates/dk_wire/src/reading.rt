@@ -4,10 +4,9 @@ ghost use Rattle.dk_types.specs.Rest.{Rest, IsBytes, moved};
 ghost use Rattle.dk_types.specs.Reading.{Reads, Refuses, bytes_at, text_of, u8_at, u16_at, u32_at, u64_at, name_at, blob_at, id_at};
 
 use crate::reader::Reader;
-use dk_types::WireRefused;
 use byteorder::{BigEndian, ByteOrder};
 use dk_types::limits::NUMBERS_END;
-use dk_types::{Blob, Name, NameRefused, ObjectId, RunNo};
+use dk_types::{Blob, Name, NameRefused, ObjectId, RunNo, WireRefused};
 use std::alloc::Global;
 
 impl<'a> Reader<'a> {
