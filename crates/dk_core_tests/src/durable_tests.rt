@@ -61,11 +61,14 @@ fn act<V: View>(alloc: Global, txn: &mut Txn<'_, V>, deed: Deed, name: &Name) ->
             let id = txn.create(1, empty(alloc)).ok()?;
             txn.bind(name, id).ok()
         }
-        Deed::Schedules => txn
-            .schedule_periodic(3, empty(alloc), 10, 10)
-            .ok()
-            .map(|_| ()),
-        Deed::Recurs => txn.own_task(SCHEDULED, 10, 10).ok().map(|_| ()),
+        Deed::Schedules => {
+            txn.schedule_periodic(3, empty(alloc), 10, 10).ok()?;
+            Some(())
+        }
+        Deed::Recurs => {
+            txn.own_task(SCHEDULED, 10, 10).ok()?;
+            Some(())
+        }
         Deed::Leaves => txn.unbind(name).ok(),
     }
 }
@@ -76,6 +79,11 @@ fn run_over<V: View>(alloc: Global, view: &mut V, row: &Row, name: &Name) -> Res
     Ok(txn.end(&Job::Initialize, Ok(()))?)
 }
 
+fn run(alloc: Global, world: &StampedWorld, row: &Row, name: &Name) -> Result<Finished, Fail> {
+    let mut look = world.look();
+    run_over(alloc, &mut look, row, name)
+}
+
 /// A run of the row, committed.
 fn commit(
     rt: &impl Abort,
@@ -84,8 +92,7 @@ fn commit(
     row: &Row,
     name: &Name,
 ) -> Result<u64, Fail> {
-    let mut look = world.look();
-    let finished = run_over(alloc, &mut look, row, name)?;
+    let finished = run(alloc, world, row, name)?;
     assert!(rt; world.commits() < 1000);
     match world.reserve_for(&finished) {
         Ok(()) => Ok(world.commit(finished, RunNo(row.run))),
@@ -116,8 +123,8 @@ fn assert_seen(rt: &impl Abort, world: &StampedWorld, row: &Row, name: &Name) ->
         (Item::NextAfter(None), Seen::Next(next)),
         (Item::Task(SCHEDULED), at(row.task)),
     ];
-    for (item, wanted) in &rows {
-        assert!(rt; seen(world, item)? == *wanted, "{item:?} after run {}", row.run);
+    for (item, wanted) in rows.as_slice() {
+        assert!(rt; seen(world, item)? == *wanted, "{item:?}");
     }
     Ok(())
 }
@@ -136,7 +143,7 @@ fn each_commit_stamps_what_it_wrote(rt: HostRuntime) -> Result<(), Fail> {
     let name = hall(alloc)?;
     let mut world = StampedWorld::new(alloc);
     let mut seq = 0u64;
-    for row in &ROWS {
+    for row in ROWS.as_slice() {
         seq = seq.saturating_add(1);
         assert_eq!(rt; commit(&rt, alloc, &mut world, row, &name)?, seq);
         assert_seen(&rt, &world, row, &name)?;
