@@ -68,15 +68,32 @@ fn gives_up<V: View>(
     Ok(txn.end(claimed.job(), Err(AppFault::Game(1)))?)
 }
 
+fn fails(
+    rt: &impl Abort,
+    alloc: Global,
+    core: &Core,
+    claimed: &Claimed,
+) -> Result<Finished, Fail> {
+    let mut look = core.look();
+    gives_up(rt, alloc, &mut look, claimed)
+}
+
+/// Whether a claim finds nothing that can be run.
+fn is_idle(core: &mut Core) -> bool {
+    match core.claim(PASS) {
+        Ok(None) => true,
+        Ok(Some(_)) | Err(_) => false,
+    }
+}
+
 #[test]
 fn a_failed_run_leaves_no_task(rt: HostRuntime) -> Result<(), Fail> {
     let alloc = rt.alloc();
     let mut core = opened(alloc, &Twins, 0, None)?;
     let first = claim(&Twins, &mut core)?;
-    let mut look = core.look();
-    let finished = gives_up(&rt, alloc, &mut look, &first)?;
+    let finished = fails(&rt, alloc, &core, &first)?;
     assert_eq!(rt; commit(&Twins, &mut core, first, finished)?, 1);
     assert_eq!(rt; core.pending_len(), 0);
-    assert!(rt; core.claim(PASS).is_ok_and(|claimed| claimed.is_none()));
+    assert!(rt; is_idle(&mut core));
     Ok(())
 }

@@ -61,24 +61,27 @@ fn act<V: View>(alloc: Global, txn: &mut Txn<'_, V>, deed: Deed, name: &Name) ->
             let id = txn.create(1, empty(alloc)).ok()?;
             txn.bind(name, id).ok()
         }
-        Deed::Schedules => txn
-            .schedule_periodic(3, empty(alloc), 10, 10)
-            .ok()
-            .map(|_| ()),
-        Deed::Recurs => txn.own_task(SCHEDULED, 10, 10).ok().map(|_| ()),
+        Deed::Schedules => {
+            txn.schedule_periodic(3, empty(alloc), 10, 10).ok()?;
+            Some(())
+        }
+        Deed::Recurs => {
+            txn.own_task(SCHEDULED, 10, 10).ok()?;
+            Some(())
+        }
         Deed::Leaves => txn.unbind(name).ok(),
     }
 }
 
-fn run_over<V: View>(
-    alloc: Global,
-    view: &mut V,
-    row: &Row,
-    name: &Name,
-) -> Result<Finished, Fail> {
+fn run_over<V: View>(alloc: Global, view: &mut V, row: &Row, name: &Name) -> Result<Finished, Fail> {
     let mut txn = Txn::begin(alloc, view, RunNo(row.run), 0);
     act(alloc, &mut txn, row.deed, name).ok_or("a call")?;
     Ok(txn.end(&Job::Initialize, Ok(()))?)
+}
+
+fn run(alloc: Global, world: &StampedWorld, row: &Row, name: &Name) -> Result<Finished, Fail> {
+    let mut look = world.look();
+    run_over(alloc, &mut look, row, name)
 }
 
 /// A run of the row, committed.
@@ -89,8 +92,7 @@ fn commit(
     row: &Row,
     name: &Name,
 ) -> Result<u64, Fail> {
-    let mut look = world.look();
-    let finished = run_over(alloc, &mut look, row, name)?;
+    let finished = run(alloc, world, row, name)?;
     assert!(rt; world.commits() < 1000);
     match world.reserve_for(&finished) {
         Ok(()) => Ok(world.commit(finished, RunNo(row.run))),
@@ -121,46 +123,18 @@ fn assert_seen(rt: &impl Abort, world: &StampedWorld, row: &Row, name: &Name) ->
         (Item::NextAfter(None), Seen::Next(next)),
         (Item::Task(SCHEDULED), at(row.task)),
     ];
-    for (item, wanted) in &rows {
-        assert!(rt;
-            seen(world, item)? == *wanted,
-            "{item:?} after run {}",
-            row.run
-        );
+    for (item, wanted) in rows.as_slice() {
+        assert!(rt; seen(world, item)? == *wanted, "{item:?}");
     }
     Ok(())
 }
 
 const ROWS: [Row; 4] = [
-    Row {
-        run: 0,
-        deed: Deed::Builds,
-        object: Some(1),
-        name: Some(1),
-        task: None,
-    },
-    Row {
-        run: 1,
-        deed: Deed::Schedules,
-        object: Some(1),
-        name: Some(1),
-        task: Some(2),
-    },
+    Row { run: 0, deed: Deed::Builds, object: Some(1), name: Some(1), task: None },
+    Row { run: 1, deed: Deed::Schedules, object: Some(1), name: Some(1), task: Some(2) },
     // A task that is due again keeps its stamp.
-    Row {
-        run: 4,
-        deed: Deed::Recurs,
-        object: Some(1),
-        name: Some(1),
-        task: Some(2),
-    },
-    Row {
-        run: 3,
-        deed: Deed::Leaves,
-        object: Some(1),
-        name: None,
-        task: Some(2),
-    },
+    Row { run: 4, deed: Deed::Recurs, object: Some(1), name: Some(1), task: Some(2) },
+    Row { run: 3, deed: Deed::Leaves, object: Some(1), name: None, task: Some(2) },
 ];
 
 #[test]
@@ -169,7 +143,7 @@ fn each_commit_stamps_what_it_wrote(rt: HostRuntime) -> Result<(), Fail> {
     let name = hall(alloc)?;
     let mut world = StampedWorld::new(alloc);
     let mut seq = 0u64;
-    for row in &ROWS {
+    for row in ROWS.as_slice() {
         seq = seq.saturating_add(1);
         assert_eq!(rt; commit(&rt, alloc, &mut world, row, &name)?, seq);
         assert_seen(&rt, &world, row, &name)?;
