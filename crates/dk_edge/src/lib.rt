@@ -17,6 +17,8 @@ pub use sink::Sink;
 pub use source::Source;
 pub use std_streams::{StdSink, StdSource};
 pub use system_clock::SystemClock;
+pub use tcp_link::TcpLink;
+pub use tcp_listen::{TcpListen, TcpSink, TcpSource};
 
 pub mod clock;
 mod fault_count;
@@ -32,5 +34,7 @@ pub mod sink;
 pub mod source;
 pub mod std_streams;
 pub mod system_clock;
+pub mod tcp_link;
+pub mod tcp_listen;
 #[cfg(test)]
 mod tests;
