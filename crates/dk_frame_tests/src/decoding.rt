@@ -10,43 +10,86 @@ use std::test::*;
 struct Row(&'static [u8], &'static str, Next);
 
 // alice logs in, looks and logs out.
-const SESSION: &[u8] =
-    b"\x00\x00\x00\x07\x01\x05alice\x00\x00\x00\x05\x02look\x00\x00\x00\x01\x04";
+const SESSION: &[u8] = b"\x00\x00\x00\x07\x01\x05alice\x00\x00\x00\x05\x02look\x00\x00\x00\x01\x04";
 
 const ROWS: [Row; 27] = [
     Row(b"", "", Next::Nothing),
     Row(b"\x00", "", Next::Begun { at: 0 }),
     Row(b"\x00\x00\x00\x00", "", Next::Bad { at: 0, why: Length }),
     Row(b"\x00\x10\x01\x02", "", Next::Bad { at: 0, why: Length }),
-    Row(b"\xFF\xFF\xFF\xFF\x01", "", Next::Bad { at: 0, why: Length }),
+    Row(
+        b"\xFF\xFF\xFF\xFF\x01",
+        "",
+        Next::Bad { at: 0, why: Length },
+    ),
     Row(b"\x00\x10\x01\x01", "", Next::Begun { at: 0 }),
-    Row(b"\x00\x00\x00\x01\x02", "", Next::Bad { at: 0, why: Opcode }),
-    Row(b"\x00\x00\x00\x01\x81", "", Next::Bad { at: 0, why: Opcode }),
-    Row(b"\x00\x00\x00\x02\x01\x00", "", Next::Bad { at: 0, why: Field }),
-    Row(b"\x00\x00\x00\x03\x01\x01\xFF", "", Next::Bad { at: 0, why: Field }),
-    Row(b"\x00\x00\x00\x03\x01\x02a", "", Next::Bad { at: 0, why: Field }),
-    Row(b"\x00\x00\x00\x08\x01\x05alice!", "", Next::Bad { at: 0, why: Field }),
-    Row(b"\x00\x00\x00\x07\x01\x05alice", "login alice;", Next::Nothing),
+    Row(
+        b"\x00\x00\x00\x01\x02",
+        "",
+        Next::Bad { at: 0, why: Opcode },
+    ),
+    Row(
+        b"\x00\x00\x00\x01\x81",
+        "",
+        Next::Bad { at: 0, why: Opcode },
+    ),
+    Row(
+        b"\x00\x00\x00\x02\x01\x00",
+        "",
+        Next::Bad { at: 0, why: Field },
+    ),
+    Row(
+        b"\x00\x00\x00\x03\x01\x01\xFF",
+        "",
+        Next::Bad { at: 0, why: Field },
+    ),
+    Row(
+        b"\x00\x00\x00\x03\x01\x02a",
+        "",
+        Next::Bad { at: 0, why: Field },
+    ),
+    Row(
+        b"\x00\x00\x00\x08\x01\x05alice!",
+        "",
+        Next::Bad { at: 0, why: Field },
+    ),
+    Row(
+        b"\x00\x00\x00\x07\x01\x05alice",
+        "login alice;",
+        Next::Nothing,
+    ),
     // A later login is told at its opcode, and a length at its fourth byte.
     Row(
         b"\x00\x00\x00\x07\x01\x05alice\x00\x00\x00\x07\x01",
         "login alice;",
-        Next::Bad { at: 11, why: Opcode },
+        Next::Bad {
+            at: 11,
+            why: Opcode,
+        },
     ),
     Row(
         b"\x00\x00\x00\x07\x01\x05alice\x00\x00\x00\x00",
         "login alice;",
-        Next::Bad { at: 11, why: Length },
+        Next::Bad {
+            at: 11,
+            why: Length,
+        },
     ),
     Row(
         b"\x00\x00\x00\x07\x01\x05alice\x00\x00\x00\x05\x05",
         "login alice;",
-        Next::Bad { at: 11, why: Opcode },
+        Next::Bad {
+            at: 11,
+            why: Opcode,
+        },
     ),
     Row(
         b"\x00\x00\x00\x07\x01\x05alice\x00\x00\x00\x05\x00",
         "login alice;",
-        Next::Bad { at: 11, why: Opcode },
+        Next::Bad {
+            at: 11,
+            why: Opcode,
+        },
     ),
     Row(
         b"\x00\x00\x00\x07\x01\x05alice\x00\x00\x00\x02\x04\x00",
@@ -81,7 +124,10 @@ const ROWS: [Row; 27] = [
     Row(
         b"\x00\x00\x00\x07\x01\x05alice\x00\x00\x00\x01\x02\x00\x00\x00\x01\x07",
         "login alice;message 0;",
-        Next::Bad { at: 16, why: Opcode },
+        Next::Bad {
+            at: 16,
+            why: Opcode,
+        },
     ),
     Row(
         b"\x00\x00\x00\x07\x01\x05alice\x00\x00\x00\x05\x02look\x00\x00\x00\x01\x04",
@@ -147,11 +193,41 @@ fn a_body_has_its_limit(rt: HostRuntime) -> Result<(), Fail> {
     let field = Next::Bad { at: 11, why: Field };
     // The head, the bytes behind it, what comes of them, and a length of pieces.
     for (head, body, frames, next, least) in [
-        (b"\x00\x10\x00\x01\x02".as_slice(), most, "login alice;message 1048576;", Next::Nothing, 4_096),
-        (b"\x00\x10\x00\x02\x02".as_slice(), most + 1, "login alice;", field, 1),
-        (b"\x00\x10\x00\x03\x03\x01a".as_slice(), most, "login alice;channel a 1048576;", Next::Nothing, 1_000),
-        (b"\x00\x10\x00\x04\x03\x01a".as_slice(), most + 1, "login alice;", field, 65_536),
-        (b"\x00\x10\x00\x01\x02".as_slice(), most - 1, "login alice;", Next::Begun { at: 11 }, 4_097),
+        (
+            b"\x00\x10\x00\x01\x02".as_slice(),
+            most,
+            "login alice;message 1048576;",
+            Next::Nothing,
+            4_096,
+        ),
+        (
+            b"\x00\x10\x00\x02\x02".as_slice(),
+            most + 1,
+            "login alice;",
+            field,
+            1,
+        ),
+        (
+            b"\x00\x10\x00\x03\x03\x01a".as_slice(),
+            most,
+            "login alice;channel a 1048576;",
+            Next::Nothing,
+            1_000,
+        ),
+        (
+            b"\x00\x10\x00\x04\x03\x01a".as_slice(),
+            most + 1,
+            "login alice;",
+            field,
+            65_536,
+        ),
+        (
+            b"\x00\x10\x00\x01\x02".as_slice(),
+            most - 1,
+            "login alice;",
+            Next::Begun { at: 11 },
+            4_097,
+        ),
     ] {
         let stream = with_body(alloc, head, body)?;
         for piece in [least, 2_000_000] {

@@ -10,10 +10,7 @@ use std::test::*;
 fn frame(alloc: Global, out: &Out) -> Result<Blob, Fail> {
     match out {
         Out::Message(body) | Out::Channel { body, .. }
-            if body.as_slice().len() as u64 > FRAME_BODY_MOST_BYTES =>
-        {
-            Err("too long")?
-        }
+            if body.as_slice().len() as u64 > FRAME_BODY_MOST_BYTES => { Err("too long")? }
         _ => Ok(encode_out(alloc, out)?),
     }
 }
@@ -21,7 +18,10 @@ fn frame(alloc: Global, out: &Out) -> Result<Blob, Fail> {
 #[test]
 fn each_message_is_one_frame(rt: HostRuntime) -> Result<(), Fail> {
     let alloc = rt.alloc();
-    let look = Blob::copy_of(alloc, b"You are in a plain room.\nOn the floor: a shiny sword.\n")?;
+    let look = Blob::copy_of(
+        alloc,
+        b"You are in a plain room.\nOn the floor: a shiny sword.\n",
+    )?;
     let town = Name::new(alloc, b"town")?;
     let body = Blob::copy_of(alloc, b"hi")?;
     for (out, bytes) in [
@@ -29,8 +29,7 @@ fn each_message_is_one_frame(rt: HostRuntime) -> Result<(), Fail> {
         (Out::Refused, b"\x00\x00\x00\x01\x82".as_slice()),
         (
             Out::Message(look),
-            b"\x00\x00\x00\x37\x83You are in a plain room.\nOn the floor: a shiny sword.\n"
-                .as_slice(),
+            b"\x00\x00\x00\x37\x83You are in a plain room.\nOn the floor: a shiny sword.\n".as_slice(),
         ),
         (
             Out::Channel {

@@ -62,7 +62,12 @@ fn push_frame(text: &mut String, frame: &ClientFrame) -> Result<(), AllocError> 
         ClientFrame::Login(name) => write!(text, "login {};", name.as_str()),
         ClientFrame::Message(body) => write!(text, "message {};", body.as_slice().len()),
         ClientFrame::Channel { channel, body } => {
-            write!(text, "channel {} {};", channel.as_str(), body.as_slice().len())
+            write!(
+                text,
+                "channel {} {};",
+                channel.as_str(),
+                body.as_slice().len()
+            )
         }
         ClientFrame::Logout => write!(text, "logout;"),
     }
