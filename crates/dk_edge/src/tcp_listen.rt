@@ -1,0 +1,128 @@
+//! A listener of the system.
+ghost use Rattle.std.specs.Prelude.{◌≡◌, ◌≤◌, false};
+ghost use Rattle.dk_types.specs.declared.limits.TheConstants.{NUMBERS_END};
+ghost use Rattle.dk_edge.specs.Listening.{listening_at};
+
+use crate::fault_count::FaultCount;
+use crate::listener::{Binding, Listener};
+use crate::std_streams::{StdSink, StdSource};
+use crate::tcp_link::TcpLink;
+use dk_types::Failed;
+use dk_types::limits::NUMBERS_END;
+use std::io;
+use std::net::{Ipv4Addr, Net, OpenListener, OpenStream, TcpListener};
+
+/// A source over one handle of a connection.
+pub type TcpSource<S> = StdSource<S>;
+
+/// A sink over another handle of it.
+pub type TcpSink<S> = StdSink<S>;
+
+/// Listens at a port of 127.0.0.1. It gives links for as long as they come, up to 2^62 of them.
+#[derive(Drop)]
+pub struct TcpListen<'a, R: Net> {
+    rt: &'a R,
+    listener: Option<R::Listener>,
+    binding: Binding,
+    given: u64,
+    ended: bool,
+    faults: FaultCount,
+    ghost few: { given ≤ NUMBERS_END },
+}
+
+impl<'a, R: Net> TcpListen<'a, R> {
+    pub fn new(rt: &'a R) -> TcpListen<'a, R>
+        ensures binding { result.binding ≡ Binding.NotCalled }
+        ensures given { result.given ≡ 0 }
+        ensures ended { result.ended ≡ false }
+        ensures faults { result.faults.count ≡ 0 }
+    {
+        TcpListen {
+            rt,
+            listener: None,
+            binding: Binding::NotCalled,
+            given: 0,
+            ended: false,
+            faults: FaultCount::new(),
+        }
+    }
+
+    // The next connection.
+    fn next(&self) -> io::Result<R::Stream> {
+        match &self.listener {
+            Some(listener) => Ok(listener.accept()?.0),
+            None => Err(io::Error::from(io::ErrorKind::NotConnected)),
+        }
+    }
+
+    // The next connection by two handles.
+    fn next_pair(&self) -> io::Result<(R::Stream, R::Stream)> {
+        let stream = self.next()?;
+        let other = stream.try_clone()?;
+        Ok((stream, other))
+    }
+
+    // The next connection, set not to block.
+    fn next_whole(&self) -> io::Result<R::Stream> {
+        let stream = self.next()?;
+        stream.set_nonblocking(true)?;
+        Ok(stream)
+    }
+}
+
+impl<'a, R: Net> Listener for TcpListen<'a, R> {
+    type In = TcpSource<R::Stream>;
+
+    type Out = TcpSink<R::Stream>;
+
+    type Whole = TcpLink<R::Stream>;
+
+    ghost listening = { λ l. listening_at l.binding l.given l.ended };
+
+    ghost counted = { λ l. l.faults.count };
+
+    fn bind(&mut self, port: u16) -> Result<(), Failed> {
+        match TcpListener::bind(self.rt, (Ipv4Addr::LOCALHOST, port)) {
+            Ok(listener) => {
+                self.listener = Some(listener);
+                self.binding = Binding::Bound(port);
+                Ok(())
+            }
+            Err(_) => {
+                self.binding = Binding::Refused(port);
+                self.faults.rise();
+                Err(Failed)
+            }
+        }
+    }
+
+    fn accept(&mut self) -> Result<Option<(Self::In, Self::Out)>, Failed> {
+        if self.given == NUMBERS_END {
+            self.ended = true;
+            return Ok(None);
+        }
+        let Ok((one, other)) = self.next_pair() else {
+            self.faults.rise();
+            return Err(Failed);
+        };
+        self.given += 1;
+        Ok(Some((StdSource::new(one), StdSink::new(other))))
+    }
+
+    fn accept_link(&mut self) -> Result<Option<Self::Whole>, Failed> {
+        if self.given == NUMBERS_END {
+            self.ended = true;
+            return Ok(None);
+        }
+        let Ok(stream) = self.next_whole() else {
+            self.faults.rise();
+            return Err(Failed);
+        };
+        self.given += 1;
+        Ok(Some(TcpLink::new(stream)))
+    }
+
+    fn faults(&self) -> u64 {
+        self.faults.count
+    }
+}
