@@ -1,7 +1,7 @@
 //! A spawner that makes no thread.
 ghost use Rattle.std.specs.Prelude.{◌≡◌};
 
-use crate::fault_count::FaultCount;
+use dk_types::FaultCount;
 use crate::spawner::{Activity, Crew, Spawner};
 use dk_types::Failed;
 

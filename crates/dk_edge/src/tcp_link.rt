@@ -1,7 +1,7 @@
 //! A link over a stream of the system that does not block.
 ghost use Rattle.std.specs.Prelude.{◌≡◌, None};
 
-use crate::fault_count::FaultCount;
+use dk_types::FaultCount;
 use crate::link::Link;
 use dk_types::Failed;
 use futures::task::{Context, Poll};

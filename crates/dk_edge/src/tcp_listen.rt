@@ -3,7 +3,7 @@ ghost use Rattle.std.specs.Prelude.{◌≡◌, ◌≤◌, false};
 ghost use Rattle.dk_types.specs.declared.limits.TheConstants.{NUMBERS_END};
 ghost use Rattle.dk_edge.specs.Listening.{listening_at};
 
-use crate::fault_count::FaultCount;
+use dk_types::FaultCount;
 use crate::listener::{Binding, Listener};
 use crate::std_streams::{StdSink, StdSource};
 use crate::tcp_link::TcpLink;
