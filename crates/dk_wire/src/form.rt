@@ -2,7 +2,8 @@
 //!
 //! A format above names a type of its own for each record and implements `Form` for it: `put` and `take` are its fields
 //! one after another, `reading` says the same with `do`, and `exact` is a lemma for each field, out of
-//! `Composing` of dk_types. Lists, `encode` and `decode` then come with their laws. `dk_records` is a whole one.
+//! `Composing` of dk_types. Lists, `encode` and `decode` then come with their laws. `scores` in `dk_value_tests` is a
+//! whole one.
 ghost use Rattle.std.specs.Prelude.{◌≡◌, ◌++◌, ℕ, List, Option, None, Result, Ok, OnOk, IfOk, MatchResult};
 ghost use Rattle.std.specs.Option.{option_copied};
 ghost use Rattle.dk_types.specs.Rest.{Rest};
