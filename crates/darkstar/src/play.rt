@@ -11,10 +11,10 @@ ghost use Rattle.dk_model.specs.Phases.{phases_of};
 ghost use Rattle.dk_model.specs.Transcripts.{IsPlayed};
 ghost use Rattle.dk_model.specs.Sendings.{IsTerse};
 
-use state::Play;
 use dk_game::Game;
 use dk_model::Line;
 use dk_types::{Event, NoMemory};
+use state::Play;
 use std::alloc::Global;
 
 mod entering;

@@ -176,7 +176,11 @@ fn scripts_are_answered_as_worked(rt: HostRuntime) -> Result<(), Fail> {
     let rows = [
         ("", Status::Ok, EMPTY),
         ("login alice\nsend alice look\n", Status::Ok, LOOK),
-        ("login alice\nsend alice LooK\nsend alice dance", Status::Ok, DANCE),
+        (
+            "login alice\nsend alice LooK\nsend alice dance",
+            Status::Ok,
+            DANCE,
+        ),
         (
             "login alice\nsend alice take\nsend alice look\nsend alice take\nsend alice drop\nsend alice drop\n",
             Status::Ok,
@@ -184,9 +188,21 @@ fn scripts_are_answered_as_worked(rt: HostRuntime) -> Result<(), Fail> {
         ),
         ("# twice\nlogin alice\n\nlogin alice\n", Status::Ok, TWICE),
         // What waits at a login that is refused is dropped.
-        ("login alice\nlogin alice\nsend alice look\n", Status::Ok, TWICE),
-        ("login alice\nlogin bob\nsend alice look\n", Status::Ok, PAIR),
-        ("login alice\nlogin bob\nsend bob look\n", Status::Ok, SECOND),
+        (
+            "login alice\nlogin alice\nsend alice look\n",
+            Status::Ok,
+            TWICE,
+        ),
+        (
+            "login alice\nlogin bob\nsend alice look\n",
+            Status::Ok,
+            PAIR,
+        ),
+        (
+            "login alice\nlogin bob\nsend bob look\n",
+            Status::Ok,
+            SECOND,
+        ),
         ("login alice\nsync\n", Status::NotYet, ""),
         ("login alice\nsend bob look\n", Status::NotYet, ""),
         ("send bob look\n", Status::NotYet, ""),

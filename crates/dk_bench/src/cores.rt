@@ -7,8 +7,8 @@ use crate::stores::nanoseconds;
 use dk_core::Core;
 use dk_demos::Counters;
 use dk_game::Game;
-use dk_workers::{Step, work_once};
 use dk_types::{Durable, Listed, Name};
+use dk_workers::{Step, work_once};
 use std::alloc::Global;
 use std::time::{Clock, Instant};
 

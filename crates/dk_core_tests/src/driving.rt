@@ -6,9 +6,9 @@ ghost use Rattle.dk_workers.specs.Working.{IsStandingFor};
 
 use dk_core::{Changed, Claimed, Core, Handed, PostRefused, PrepareRefused};
 use dk_game::Game;
-use dk_workers::{Ran, Step, work_once};
 use dk_txn::Finished;
 use dk_types::{Blob, ConnNo, Durable, Input, Listed, Name, RunNo};
+use dk_workers::{Ran, Step, work_once};
 use std::alloc::Global;
 use std::process::Abort;
 use std::test::Fail;

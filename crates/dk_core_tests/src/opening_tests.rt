@@ -56,7 +56,10 @@ fn only_job(alloc: Global, world: &StampedWorld) -> Result<Job, Fail> {
 #[test]
 fn recorded_sessions_are_ended(rt: HostRuntime) -> Result<(), Fail> {
     let alloc = rt.alloc();
-    assert_eq!(rt; open_connections(alloc, &StampedWorld::new(alloc))?.len(), 0);
+    assert_eq!(rt;
+        open_connections(alloc, &StampedWorld::new(alloc))?.len(),
+        0
+    );
     // Of two names with one number the lesser counts. A number beyond the largest run counts for none.
     for (alice, bob, conn, name) in [(3, 3, 3, "alice"), (6, 5, 5, "bob")] {
         let end = Job::Disconnect {
@@ -64,7 +67,10 @@ fn recorded_sessions_are_ended(rt: HostRuntime) -> Result<(), Fail> {
             name: text(alloc, name)?,
             graceful: false,
         };
-        assert!(rt; only_job(alloc, &alice_and_bob(alloc, alice, bob)?)? == end, "{name}");
+        assert!(rt;
+            only_job(alloc, &alice_and_bob(alloc, alice, bob)?)? == end,
+            "{name}"
+        );
     }
     Ok(())
 }

@@ -8,8 +8,8 @@ ghost use Rattle.darkstar.specs.Plays.{IsGoing, Serves, ServesNext};
 
 use super::state::Play;
 use dk_game::Game;
-use dk_workers::{Ran, Step, work_once};
 use dk_types::{ClaimReply, Event, NoMemory};
+use dk_workers::{Ran, Step, work_once};
 use std::alloc::Global;
 
 impl Play {
