@@ -68,12 +68,7 @@ fn gives_up<V: View>(
     Ok(txn.end(claimed.job(), Err(AppFault::Game(1)))?)
 }
 
-fn fails(
-    rt: &impl Abort,
-    alloc: Global,
-    core: &Core,
-    claimed: &Claimed,
-) -> Result<Finished, Fail> {
+fn fails(rt: &impl Abort, alloc: Global, core: &Core, claimed: &Claimed) -> Result<Finished, Fail> {
     let mut look = core.look();
     gives_up(rt, alloc, &mut look, claimed)
 }

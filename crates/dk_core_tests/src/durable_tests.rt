@@ -73,7 +73,12 @@ fn act<V: View>(alloc: Global, txn: &mut Txn<'_, V>, deed: Deed, name: &Name) ->
     }
 }
 
-fn run_over<V: View>(alloc: Global, view: &mut V, row: &Row, name: &Name) -> Result<Finished, Fail> {
+fn run_over<V: View>(
+    alloc: Global,
+    view: &mut V,
+    row: &Row,
+    name: &Name,
+) -> Result<Finished, Fail> {
     let mut txn = Txn::begin(alloc, view, RunNo(row.run), 0);
     act(alloc, &mut txn, row.deed, name).ok_or("a call")?;
     Ok(txn.end(&Job::Initialize, Ok(()))?)
@@ -130,11 +135,35 @@ fn assert_seen(rt: &impl Abort, world: &StampedWorld, row: &Row, name: &Name) ->
 }
 
 const ROWS: [Row; 4] = [
-    Row { run: 0, deed: Deed::Builds, object: Some(1), name: Some(1), task: None },
-    Row { run: 1, deed: Deed::Schedules, object: Some(1), name: Some(1), task: Some(2) },
+    Row {
+        run: 0,
+        deed: Deed::Builds,
+        object: Some(1),
+        name: Some(1),
+        task: None,
+    },
+    Row {
+        run: 1,
+        deed: Deed::Schedules,
+        object: Some(1),
+        name: Some(1),
+        task: Some(2),
+    },
     // A task that is due again keeps its stamp.
-    Row { run: 4, deed: Deed::Recurs, object: Some(1), name: Some(1), task: Some(2) },
-    Row { run: 3, deed: Deed::Leaves, object: Some(1), name: None, task: Some(2) },
+    Row {
+        run: 4,
+        deed: Deed::Recurs,
+        object: Some(1),
+        name: Some(1),
+        task: Some(2),
+    },
+    Row {
+        run: 3,
+        deed: Deed::Leaves,
+        object: Some(1),
+        name: None,
+        task: Some(2),
+    },
 ];
 
 #[test]
