@@ -37,6 +37,8 @@ pub(crate) enum Step<'a> {
     Tick(u64),
     /// Jobs are run until none is left, and each client is handed its messages.
     Sync,
+    /// The server stops, and starts again on what is durable.
+    Restart,
 }
 
 /// Who connected, and what happened.
@@ -82,6 +84,18 @@ fn opened<G: Game>(alloc: Global, _game: &G) -> Result<Core, Fail>
         names: Listed::from_vec(Vec::new(alloc)),
         tasks: Listed::from_vec(Vec::new(alloc)),
     };
+    match Core::open(alloc, durable, None) {
+        Ok(core) => Ok(core),
+        Err(_) => Err(Fail::from("a core")),
+    }
+}
+
+/// A core on the durable world of another.
+fn reopen<G: Game>(alloc: Global, _game: &G, core: &Core) -> Result<Core, Fail>
+    requires { IsStandingFor (G.rules _game.now) core.now }
+    ensures { IfOk result (IsStandingFor (G.rules _game.now)) }
+{
+    let durable = core.durable()?;
     match Core::open(alloc, durable, None) {
         Ok(core) => Ok(core),
         Err(_) => Err(Fail::from("a core")),
@@ -236,6 +250,10 @@ fn take<G: Game>(
         Step::Sync => {
             drain(alloc, game, core, told)?;
             hand_all(game, core, told)
+        }
+        Step::Restart => {
+            *core = reopen(alloc, game, core)?;
+            Ok(())
         }
     }
 }

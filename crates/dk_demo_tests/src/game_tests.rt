@@ -117,6 +117,25 @@ fn channels_send_on_and_are_heard(rt: HostRuntime) -> Result<(), Fail> {
 }
 
 #[test]
+fn a_restart_tells_each_session_of_its_end(rt: HostRuntime) -> Result<(), Fail> {
+    let rows = [Row {
+        steps: &[
+            Step::Sync,
+            Step::Login("alice"),
+            Step::Login("bob"),
+            Step::Sync,
+            Step::Restart,
+            Step::Sync,
+            Step::Login("alice"),
+            Step::Sync,
+        ],
+        transcript: "phase 0\nclaim 0 at 0 initialize\ncommit 1 run 0 ok\nopen 1 alice\nopen 2 bob\nclaim 3 at 0 login alice\ncommit 2 run 3 ok\nclaim 4 at 0 login bob\ncommit 3 run 4 ok\nto 1 alice accepted\nto 2 bob accepted\nclaim 5 at 0 disconnect alice\ncommit 4 run 5 ok\nclaim 6 at 0 disconnect bob\ncommit 5 run 6 ok\nopen 7 alice\nclaim 8 at 0 login alice\ncommit 6 run 8 ok\nto 7 alice accepted\ndone commits 6 tasks 0\n",
+        inspected: "{\"commits\":6,\"game\":\"channels\",\"last_run\":8,\"names\":[[\"$c.Bar\",\"0.1\"],[\"$c.Foo\",\"0.0\"],[\"$s.alice\",\"8.0\"]],\"objects\":[[\"0.0\",65282,\"00000000000105616c6963650000000000000007\"],[\"0.1\",65282,\"01000000000105616c6963650000000000000007\"],[\"8.0\",65281,\"00000000000000070000000203466f6f03426172\"]],\"tasks\":[]}\n",
+    }];
+    assert_rows(&rt, rt.alloc(), &Channels, rows.as_slice())
+}
+
+#[test]
 fn a_sword_lies_in_a_room(rt: HostRuntime) -> Result<(), Fail> {
     let rows = [Row {
         steps: &[Step::Sync],
