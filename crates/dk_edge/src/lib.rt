@@ -1,8 +1,8 @@
-//! The streams at the edge of the program: bytes in and bytes out.
+//! The edge of the program: streams, links, listeners, clocks and crews.
 //!
-//! The layers above are generic over `Source` and `Sink` and cite what these say of the bytes and of
-//! faults. Streams in memory tell their bytes and fail where a test says so. The standard streams are
-//! a trusted edge: they tell nothing of their bytes, and count each fault.
+//! The layers above are generic over the traits and cite what these say of bytes, links and faults. What stands in memory
+//! tells its bytes and fails where a test says so. What stands over the system is a trusted edge: it tells nothing of its
+//! bytes, and counts each fault.
 #![tactic(auto)]
 
 pub use clock::Clock;

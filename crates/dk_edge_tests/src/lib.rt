@@ -1,0 +1,11 @@
+//! Links, listeners and clocks at work: in memory, and over the loopback of the system.
+//!
+//! Nothing stands on this crate.
+#![tactic(auto)]
+
+#[cfg(test)]
+mod clocks;
+#[cfg(test)]
+mod links;
+#[cfg(test)]
+mod listeners;
