@@ -204,10 +204,10 @@ impl Tasks {
         ensures tasks { self.new.tasks ≡ changed_at (with_due due) key self.old.tasks }
         ensures spare { self.new.spare ≡ self.old.spare }
     {
-        let Some((was, claimed)) = set_due(&mut self.tasks, key, due) else {
+        let Some((was, held)) = set_due(&mut self.tasks, key, due) else {
             unreachable!()
         };
-        if claimed {
+        if held {
             return;
         }
         self.places.remove(&Place { due: was, key });

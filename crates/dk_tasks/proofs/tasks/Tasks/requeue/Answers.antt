@@ -5,30 +5,30 @@ use Rattle.dk_tasks.specs.declared.stored.Place.{Place}
 use Rattle.dk_tasks.proofs.Changes.{kept_changed, pending_found}
 use Rattle.dk_tasks.proofs.Moves.{moved_held, moved_room, moved_free}
 use Rattle.dk_tasks.proofs.tasks.Tasks.requeue.Goals as goal
-use Rattle.dk_tasks.proofs.tasks.Tasks.requeue.Goals.{Then-claimed, After-insert}
+use Rattle.dk_tasks.proofs.tasks.Tasks.requeue.Goals.{Then-held, After-insert}
 
 pub unreachable-requires : goal.unreachable-requires
 unreachable-requires c = absurd (pending_found _ (ap (λ s. s.tasks) c.self.view_is) c.self.invariant.0.ordered c.args.key c.requires.pending (sym c.in_default.ensures.moved))
 
 -- where a run has the task
-held : (c : Then-claimed) → IsInStep c.set_due.new.tasks.entries c.self.inside.places.entries
+held : (c : Then-held) → IsInStep c.set_due.new.tasks.entries c.self.inside.places.entries
     × (min c.set_due.new.tasks.spare (c.self.inside.places.spare - held_count c.set_due.new.tasks.entries) ≡ c.args.self.now.spare) × (held_count c.set_due.new.tasks.entries ≤ c.self.inside.places.spare)
 held c =
     let m = c.in-Some.ensures.moved in
-    moved_held _ _ c.self.invariant.0 c.args.key m.0 m.1 c.args.due _ m.3 _ _ _ (ap (λ s. s.spare) c.self.view_is) c.self.invariant.1 _ c.in-Some.ensures.spare (sym (ap (λ w. w.1) m.2) ∙ c.if-claimed.true)
+    moved_held _ _ c.self.invariant.0 c.args.key m.0 m.1 c.args.due _ m.3 _ _ _ (ap (λ s. s.spare) c.self.view_is) c.self.invariant.1 _ c.in-Some.ensures.spare (sym (ap (λ w. w.1) m.2) ∙ c.if-held.true)
 
 pub invariant_of-self : goal.invariant_of-self
 invariant_of-self c = let h = held c in (h.0, h.2)
 
-pub returns-then-claimed : goal.returns-then-claimed
-returns-then-claimed c =
+pub returns-then-held : goal.returns-then-held
+returns-then-held c =
     let m = c.in-Some.ensures.moved in
     record { tasks = kept_changed _ (ap (λ s. s.tasks) c.self.view_is) c.self.invariant.0.ordered c.args.key (with_due c.args.due) m.0 (due_at c.args.due m.0) m.1 refl _ m.3; spare = (held c).1 }
 
 pub insert-requires : goal.insert-requires
 insert-requires c =
     let m = c.in-Some.ensures.moved in
-    let free : m.0.claimed ≡ false = sym (ap (λ w. w.1) m.2) ∙ c.if-claimed.false in
+    let free : m.0.claimed ≡ false = sym (ap (λ w. w.1) m.2) ∙ c.if-held.false in
     let q : Place = record { due = c.in-Some.was; key = c.args.key } in
     let at : q ≡ place_of c.args.key m.0 = λ i. record { due = (m.2 i).0; key = c.args.key } in
     record {
@@ -41,7 +41,7 @@ free : (c : After-insert) → IsInStep c.set_due.new.tasks.entries c.insert.new.
     × (min c.set_due.new.tasks.spare (c.insert.new.self.spare - held_count c.set_due.new.tasks.entries) ≡ c.args.self.now.spare) × (held_count c.set_due.new.tasks.entries ≤ c.insert.new.self.spare)
 free c =
     let m = c.in-Some.ensures.moved in
-    let free : m.0.claimed ≡ false = sym (ap (λ w. w.1) m.2) ∙ c.if-claimed.false in
+    let free : m.0.claimed ≡ false = sym (ap (λ w. w.1) m.2) ∙ c.if-held.false in
     let q : Place = record { due = c.in-Some.was; key = c.args.key } in
     let at : q ≡ place_of c.args.key m.0 = λ i. record { due = (m.2 i).0; key = c.args.key } in
     moved_free _ _ c.self.invariant.0 c.args.key m.0 m.1 c.args.due _ m.3 _ _ _ (ap (λ s. s.spare) c.self.view_is) c.self.invariant.1 _ c.in-Some.ensures.spare free q at _ c.remove.ensures.value _ c.remove.ensures.spare
