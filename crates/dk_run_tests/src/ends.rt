@@ -90,17 +90,22 @@ pub fn outcome(alloc: Global, finished: &Finished) -> Option<String> {
     format!(in alloc; "{outcome:?}").ok()
 }
 
-/// How many of each effect there are, where there are any, and how many items are touched.
+/// How many of each effect there are, where there are any.
 fn effects(alloc: Global, finished: &Finished) -> Result<String, AllocError> {
     let effects = finished.effects();
+    let counts = [
+        ("written", effects.written.as_slice().len()),
+        ("removed", effects.removed.as_slice().len()),
+        ("bound", effects.bound.as_slice().len()),
+        ("unbound", effects.unbound.as_slice().len()),
+        ("added", effects.added.as_slice().len()),
+        ("dropped", effects.dropped.as_slice().len()),
+        ("requeued", effects.requeued.as_slice().len()),
+    ];
     let mut text = String::new(alloc);
-    count(&mut text, "written", effects.written.as_slice().len())?;
-    count(&mut text, "removed", effects.removed.as_slice().len())?;
-    count(&mut text, "bound", effects.bound.as_slice().len())?;
-    count(&mut text, "unbound", effects.unbound.as_slice().len())?;
-    count(&mut text, "added", effects.added.as_slice().len())?;
-    count(&mut text, "dropped", effects.dropped.as_slice().len())?;
-    count(&mut text, "requeued", effects.requeued.as_slice().len())?;
+    for (of, len) in counts {
+        count(&mut text, of, len)?;
+    }
     Ok(text)
 }
 
@@ -167,15 +172,26 @@ fn items(alloc: Global, items: &[Item]) -> Result<String, AllocError> {
 }
 
 fn push_item(text: &mut String, item: &Item) -> Result<(), AllocError> {
-    let alloc = *text.allocator();
-    let part = match item {
-        Item::Object(id) => format!(in alloc; "object {}.{} ", id.run.0, id.k)?,
-        Item::Bound(name) => format!(in alloc; "bound {} ", name.as_str())?,
-        Item::NextAfter(None) => format!(in alloc; "next - ")?,
-        Item::NextAfter(Some(name)) => format!(in alloc; "next {} ", name.as_str())?,
-        Item::Task(key) => format!(in alloc; "task {}.{} ", key.run.0, key.k)?,
-    };
+    let part = item_text(*text.allocator(), item)?;
     text.push_str(part.as_str())
+}
+
+fn item_text(alloc: Global, item: &Item) -> Result<String, AllocError> {
+    match item {
+        Item::Object(id) => numbered(alloc, "object", id.run.0, id.k),
+        Item::Bound(name) => named(alloc, "bound", name.as_str()),
+        Item::NextAfter(None) => named(alloc, "next", "-"),
+        Item::NextAfter(Some(name)) => named(alloc, "next", name.as_str()),
+        Item::Task(key) => numbered(alloc, "task", key.run.0, key.k),
+    }
+}
+
+fn numbered(alloc: Global, of: &str, run: u64, k: u32) -> Result<String, AllocError> {
+    format!(in alloc; "{of} {run}.{k} ")
+}
+
+fn named(alloc: Global, of: &str, name: &str) -> Result<String, AllocError> {
+    format!(in alloc; "{of} {name} ")
 }
 
 /// The tasks that are due again, and when.

@@ -38,34 +38,54 @@ fn main(rt: HostRuntime) -> io::Result<()> {
     Ok(())
 }
 
-/// Holds the rows of a section over the world that it gives.
-fn hold_section<W: Write>(alloc: Global, out: &mut W, section: &Section) -> io::Result<()> {
+/// What a section gives.
+fn given_by<W: Write>(alloc: Global, out: &mut W, section: &Section) -> io::Result<Given> {
     let mut given = Given::new(alloc);
     hold(alloc, out, &mut given, section.given.as_slice())?;
-    let Given {
-        reads,
-        at,
-        of_jobs,
-        asked,
-    } = given;
-    let mut view = Counting::new(reads);
+    Ok(given)
+}
+
+/// Holds the rows of a section over the world that it gives.
+fn hold_section<W: Write>(alloc: Global, out: &mut W, section: &Section) -> io::Result<()> {
+    let given = given_by(alloc, out, section)?;
+    let (at, of_jobs, asked) = (given.at, given.of_jobs, given.asked);
+    let mut view = Counting::new(given.reads);
+    let rows = section.rows.as_slice();
     let held = if of_jobs {
-        hold(
-            alloc,
-            out,
-            &mut Plays::new(&mut view, at),
-            section.rows.as_slice(),
-        )?
+        hold_jobs(alloc, out, &mut view, at, rows)?
     } else {
-        hold(
-            alloc,
-            out,
-            &mut Run::new(alloc, &mut view, at),
-            section.rows.as_slice(),
-        )?
+        hold_calls(alloc, out, &mut view, at, rows)?
     };
-    if asked.is_some_and(|asked| asked != view.asked()) {
-        writeln!(out, "asked for {}", view.asked())?;
-    }
+    tell_asked(out, asked, view.asked())?;
     writeln!(out, "{held} rows: {}", section.title)
+}
+
+fn hold_jobs<W: Write>(
+    alloc: Global,
+    out: &mut W,
+    view: &mut Counting,
+    at: u64,
+    rows: &[String],
+) -> io::Result<u64> {
+    let mut plays = Plays::new(view, at);
+    hold(alloc, out, &mut plays, rows)
+}
+
+fn hold_calls<W: Write>(
+    alloc: Global,
+    out: &mut W,
+    view: &mut Counting,
+    at: u64,
+    rows: &[String],
+) -> io::Result<u64> {
+    let mut run = Run::new(alloc, view, at);
+    hold(alloc, out, &mut run, rows)
+}
+
+/// Tells how often the view was asked where that is not as it was to be.
+fn tell_asked<W: Write>(out: &mut W, told: Option<u64>, asked: u64) -> io::Result<()> {
+    match told {
+        Some(told) if told != asked => writeln!(out, "asked for {asked}, not {told}"),
+        _ => Ok(()),
+    }
 }
