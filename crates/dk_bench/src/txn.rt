@@ -14,7 +14,9 @@ struct AnyObject {
 }
 
 impl View for AnyObject {
-    ghost gave = { λ view item read. Unit {0} };
+    ghost use Rattle.dk_txn.specs.Sights.{steady};
+
+    ghost sights = { steady (λ view item read. Unit {0}) };
 
     fn read(&mut self, item: &Item) -> Result<Read, NoMemory> {
         let answer = match item {
