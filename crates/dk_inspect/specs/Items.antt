@@ -1,13 +1,11 @@
--- A durable world as a JSON value.
-use Rattle.std.specs.Prelude.{ℕ, Option, Some, None, List, map, codes}
+-- The items of a durable world as JSON values.
+use Rattle.std.specs.Prelude.{ℕ, List, [], ◌∷◌, ◌++◌, flat_map}
 use Rattle.hex.specs.Hex.{encode_lower}
-use Rattle.serde_json.specs.Data.{Data, unsigned, null, number, string, array, object, no_items, item, no_members, member}
-use Rattle.serde_json.specs.View.{items_of}
-use Rattle.dk_types.specs.declared.number.RunNo.{RunNo}
+use Rattle.serde_json.specs.Data.{Data, unsigned, number, string, array, no_items, item}
+use Rattle.serde_json.specs.Written.{compact_text}
 use Rattle.dk_types.specs.declared.number.ObjectId.{ObjectId}
 use Rattle.dk_types.specs.declared.object.Object.{Object}
 use Rattle.dk_types.specs.declared.durable.Pending.{Pending}
-use Rattle.dk_types.specs.declared.durable.Durable.{Durable}
 use Rattle.dk_inspect.specs.Texts.{place_text}
 
 -- the name that an object or a task has
@@ -26,21 +24,11 @@ object_data e = array (item (place_data e.0.run.0 e.0.k) (item (number (unsigned
 abbrev pub task_data : Pending → Data
 task_data p = array (item (place_data p.key.run.0 p.key.k) (item (number (unsigned p.due)) (item (number (unsigned p.period)) (item (number (unsigned p.kind)) (item (string (encode_lower p.arg)) no_items)))))
 
--- the largest committed run
-abbrev pub last_data : Option RunNo → Data
-last_data None = null
-last_data (Some run) = number (unsigned run.0)
+-- an item behind a comma
+abbrev pub later_text : {A : Type 0} → (A → Data) → A → List ℕ
+later_text told x = 44 ∷ compact_text (told x)
 
--- the items of a list
-abbrev pub list_data : {A : Type 0} → (A → Data) → List A → Data
-list_data told items = array (items_of (map told items))
-
--- the world
-unfoldable pub world_data : List ℕ → Durable → Data
-world_data game world = object (
-    member (codes "commits") (number (unsigned world.commits)) (
-    member (codes "game") (string game) (
-    member (codes "last_run") (last_data world.last) (
-    member (codes "names") (list_data name_data world.names) (
-    member (codes "objects") (list_data object_data world.objects) (
-    member (codes "tasks") (list_data task_data world.tasks) no_members))))))
+-- items between brackets
+abbrev pub list_text : {A : Type 0} → (A → Data) → List A → List ℕ
+list_text told [] = 91 ∷ 93 ∷ []
+list_text told (x ∷ xs) = 91 ∷ (compact_text (told x) ++ (flat_map (later_text told) xs ++ 93 ∷ []))

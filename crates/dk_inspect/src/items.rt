@@ -1,7 +1,8 @@
-//! The items of a world as JSON values.
-ghost use Rattle.std.specs.Prelude.{◌≡◌, [], ◌∷◌, ◌++◌, map, string_bytes, IfOk, OnOk};
-ghost use Rattle.serde_json.specs.Data.{array};
-ghost use Rattle.serde_json.specs.View.{view, items_of};
+//! The items of a world, each written as one JSON value.
+ghost use Rattle.std.specs.Prelude.{◌≡◌, ◌++◌, flat_map, false, string_bytes, IfOk, OnOk};
+ghost use Rattle.serde_json.specs.View.{view};
+ghost use Rattle.serde_json.specs.Written.{compact_text, has_float};
+ghost use Rattle.dk_inspect.specs.Items.{later_text, list_text};
 ghost use Rattle.dk_inspect.specs.Texts.{place_text};
 
 use dk_types::{Name, NoMemory, Object, ObjectId, Pending};
@@ -16,7 +17,8 @@ pub(crate) trait Shown {
 
     /// It as JSON.
     fn show(&self, alloc: Global) -> Result<Value, NoMemory>
-        ensures { IfOk result (λ value. view value ≡ shown self.now) };
+        ensures view { IfOk result (λ value. view value ≡ shown self.now) }
+        ensures whole { IfOk result (λ value. has_float (view value) ≡ false) };
 }
 
 /// `RUN.K`, by which objects and tasks are named.
@@ -63,21 +65,45 @@ impl Shown for Pending {
     }
 }
 
-fn push(values: &mut Vec<Value>, value: Value) -> Result<(), NoMemory>
-    ensures { OnOk result (values.new.items ≡ values.old.items ++ value ∷ []) }
+fn push_shown<T: Shown>(alloc: Global, out: &mut String, item: &T) -> Result<(), NoMemory>
+    ensures { OnOk result (string_bytes out.new ≡ string_bytes out.old ++ compact_text (T.shown item.now)) }
 {
-    values.push(value)?;
+    let value = item.show(alloc)?;
+    let text = value.to_string(alloc)?;
+    out.push_str(text.as_str())?;
+    Ok(())
+}
+
+/// Each item after a comma.
+fn push_later<T: Shown>(alloc: Global, out: &mut String, items: &[T]) -> Result<(), NoMemory>
+    ensures { OnOk result (string_bytes out.new ≡ string_bytes out.old ++ flat_map (later_text T.shown) items.now) }
+{
+    for item in items {
+        out.push_str(",")?;
+        push_shown(alloc, out, item)?;
+    }
     Ok(())
 }
 
 /// The items as a JSON array, in their order.
-pub(crate) fn list_of<T: Shown>(alloc: Global, items: &[T]) -> Result<Value, NoMemory>
-    ensures { IfOk result (λ value. view value ≡ array (items_of (map T.shown items.now))) }
+pub(crate) fn push_list<T: Shown>(
+    alloc: Global,
+    out: &mut String,
+    items: &[T],
+) -> Result<(), NoMemory>
+    ensures { OnOk result (string_bytes out.new ≡ string_bytes out.old ++ list_text T.shown items.now) }
 {
-    let mut values = Vec::new(alloc);
-    for item in items {
-        let value = item.show(alloc)?;
-        push(&mut values, value)?;
+    match items.split_first() {
+        None => {
+            out.push_str("[]")?;
+            Ok(())
+        }
+        Some((first, later)) => {
+            out.push_str("[")?;
+            push_shown(alloc, out, first)?;
+            push_later(alloc, out, later)?;
+            out.push_str("]")?;
+            Ok(())
+        }
     }
-    Ok(Value::Array(values))
 }

@@ -1,12 +1,11 @@
 //! The whole text.
-ghost use Rattle.std.specs.Prelude.{◌≡◌, IfOk};
-ghost use Rattle.serde_json.specs.View.{view};
-ghost use Rattle.dk_inspect.specs.Items.{last_data, world_data};
-ghost use Rattle.dk_inspect.specs.Texts.{world_text};
+ghost use Rattle.std.specs.Prelude.{◌≡◌, ◌++◌, decimal, string_bytes, IfOk, OnOk};
+ghost use Rattle.json.specs.Print.{quoted};
+ghost use Rattle.dk_inspect.specs.Texts.{last_text, world_text};
 
-use crate::items::list_of;
+use crate::items::push_list;
 use dk_types::{Blob, Durable, GameId, NoMemory, RunNo};
-use serde_json::{Map, Value, put};
+use serde_json::Value;
 use std::alloc::Global;
 
 /// The game's id as text.
@@ -19,39 +18,52 @@ fn id_text(game: &GameId) -> &str
     }
 }
 
+fn push_game(alloc: Global, out: &mut String, game: &GameId) -> Result<(), NoMemory>
+    ensures { OnOk result (string_bytes out.new ≡ string_bytes out.old ++ quoted game.now) }
+{
+    let value = Value::try_from_str(alloc, id_text(game))?;
+    let text = value.to_string(alloc)?;
+    out.push_str(text.as_str())?;
+    Ok(())
+}
+
+fn push_number(out: &mut String, number: u64) -> Result<(), NoMemory>
+    ensures { OnOk result (string_bytes out.new ≡ string_bytes out.old ++ decimal number) }
+{
+    write!(out, "{number}")?;
+    Ok(())
+}
+
 /// The largest committed run, or null.
-fn last_value(last: Option<RunNo>) -> Value
-    ensures { view result ≡ last_data last }
+fn push_last(out: &mut String, last: Option<RunNo>) -> Result<(), NoMemory>
+    ensures { OnOk result (string_bytes out.new ≡ string_bytes out.old ++ last_text last) }
 {
     match last {
-        None => Value::Null,
-        Some(run) => Value::from(run.0),
+        None => {
+            out.push_str("null")?;
+            Ok(())
+        }
+        Some(run) => push_number(out, run.0),
     }
 }
 
-fn world_value(alloc: Global, game: &GameId, durable: &Durable) -> Result<Value, NoMemory>
-    ensures { IfOk result (λ value. view value ≡ world_data game.now durable.now) }
-{
-    let mut members = Map::new(alloc);
-    put(&mut members, alloc, "commits", Value::from(durable.commits))?;
-    let id = Value::try_from_str(alloc, id_text(game))?;
-    put(&mut members, alloc, "game", id)?;
-    put(&mut members, alloc, "last_run", last_value(durable.last))?;
-    let names = list_of(alloc, durable.names.as_slice())?;
-    put(&mut members, alloc, "names", names)?;
-    let objects = list_of(alloc, durable.objects.as_slice())?;
-    put(&mut members, alloc, "objects", objects)?;
-    let tasks = list_of(alloc, durable.tasks.as_slice())?;
-    put(&mut members, alloc, "tasks", tasks)?;
-    Ok(Value::Object(members))
-}
-
-/// What `inspect` writes of a durable world: one compact JSON object, and the line's end.
+/// What `inspect` writes of a durable world: one compact JSON object, and the line's end. Its items are written one by one.
 pub fn inspect_text(alloc: Global, game: &GameId, durable: &Durable) -> Result<Blob, NoMemory>
     ensures { IfOk result (λ text. text ≡ world_text game.now durable.now) }
 {
-    let value = world_value(alloc, game, durable)?;
-    let mut text = value.to_vec(alloc)?;
-    text.push(b'\n')?;
-    Ok(Blob::from_vec(text))
+    let mut out = String::new(alloc);
+    out.push_str("{\"commits\":")?;
+    push_number(&mut out, durable.commits)?;
+    out.push_str(",\"game\":")?;
+    push_game(alloc, &mut out, game)?;
+    out.push_str(",\"last_run\":")?;
+    push_last(&mut out, durable.last)?;
+    out.push_str(",\"names\":")?;
+    push_list(alloc, &mut out, durable.names.as_slice())?;
+    out.push_str(",\"objects\":")?;
+    push_list(alloc, &mut out, durable.objects.as_slice())?;
+    out.push_str(",\"tasks\":")?;
+    push_list(alloc, &mut out, durable.tasks.as_slice())?;
+    out.push_str("}\n")?;
+    Ok(Blob::from_vec(out.into_bytes()))
 }
