@@ -18,6 +18,7 @@ pub trait Link {
 
     /// The counts of faults, one for each direction. None falls, and each stays at 2^64 - 1.
     ghost take_counted: { Self → ℕ };
+
     ghost put_counted: { Self → ℕ };
 
     /// Puts some of the bytes that are left at the front of `into`, and answers how many. Ok 0 is the end. A call that
@@ -39,11 +40,7 @@ pub trait Link {
 
     /// Appends some of the bytes, from the first on, and answers how many: at least one where there are some. A call
     /// that failed appended some of them, or none.
-    fn poll_put(
-        &mut self,
-        context: &mut Context<'_>,
-        bytes: &[u8],
-    ) -> Poll<Result<usize, Failed>>
+    fn poll_put(&mut self, context: &mut Context<'_>, bytes: &[u8]) -> Poll<Result<usize, Failed>>
         ensures bytes { PollPuts (contents self.old) (contents self.new) bytes.now result }
         ensures count { Counts (put_counted self.old) (put_counted self.new) result }
         ensures most { IfReady result (λ _. put_counted self.new ≤ COUNT_END) }

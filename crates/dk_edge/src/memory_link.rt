@@ -94,11 +94,7 @@ impl Link for MemoryLink {
         Poll::Ready(self.source.take(into))
     }
 
-    fn poll_put(
-        &mut self,
-        context: &mut Context<'_>,
-        bytes: &[u8],
-    ) -> Poll<Result<usize, Failed>> {
+    fn poll_put(&mut self, context: &mut Context<'_>, bytes: &[u8]) -> Poll<Result<usize, Failed>> {
         if self.waits && !self.put_is_due {
             self.put_is_due = true;
             return context.yield_now();
