@@ -53,11 +53,7 @@ impl<S: Read + Write + Drop> Link for TcpLink<S> {
         }
     }
 
-    fn poll_put(
-        &mut self,
-        context: &mut Context<'_>,
-        bytes: &[u8],
-    ) -> Poll<Result<usize, Failed>> {
+    fn poll_put(&mut self, context: &mut Context<'_>, bytes: &[u8]) -> Poll<Result<usize, Failed>> {
         if bytes.is_empty() {
             return Poll::Ready(Ok(0));
         }

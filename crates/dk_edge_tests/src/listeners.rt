@@ -20,15 +20,32 @@ fn peer(alloc: Global, byte: u8) -> Result<Peer, Fail> {
 fn a_listener_gives_its_peers_in_order(rt: HostRuntime) -> Result<(), Fail> {
     let alloc = rt.alloc();
     let peers = vec![in alloc; peer(alloc, 1)?, peer(alloc, 2)?]?;
-    let mut listener = MemoryListener::new(alloc, peers, [3].to_vec(alloc)?);
+    let mut listener = MemoryListener::new(alloc, peers, Vec::new(alloc));
     listener.bind(80)?;
     let (first, _) = listener.accept()?.ok_or("a link")?;
-    assert_eq!(rt; first.left(), [1].as_slice());
-    assert!(rt; listener.accept().is_err());
-    assert_eq!(rt; listener.faults(), 1);
     let second = listener.accept_link()?.ok_or("a link")?;
+    assert_eq!(rt; first.left(), [1].as_slice());
     assert_eq!(rt; second.source().left(), [2].as_slice());
-    assert!(rt; listener.accept_link()?.is_none());
+    Ok(())
+}
+
+#[test]
+fn a_listener_without_peers_gives_none(rt: HostRuntime) -> Result<(), Fail> {
+    let alloc = rt.alloc();
+    let mut listener = MemoryListener::new(alloc, Vec::new(alloc), Vec::new(alloc));
+    listener.bind(80)?;
+    assert!(rt; listener.accept()?.is_none());
+    Ok(())
+}
+
+#[test]
+fn a_listener_fails_at_the_named_call(rt: HostRuntime) -> Result<(), Fail> {
+    let alloc = rt.alloc();
+    let peers = vec![in alloc; peer(alloc, 1)?]?;
+    let mut listener = MemoryListener::new(alloc, peers, [2].to_vec(alloc)?);
+    listener.bind(80)?;
+    assert!(rt; listener.accept_link().is_err());
+    assert_eq!(rt; listener.faults(), 1);
     Ok(())
 }
 
