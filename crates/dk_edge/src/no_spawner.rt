@@ -1,9 +1,8 @@
 //! A spawner that makes no thread.
 ghost use Rattle.std.specs.Prelude.{◌≡◌};
 
-use dk_types::FaultCount;
 use crate::spawner::{Activity, Crew, Spawner};
-use dk_types::Failed;
+use dk_types::{Failed, FaultCount};
 
 /// Fails every call.
 #[derive(Debug, Drop)]

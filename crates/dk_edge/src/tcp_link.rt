@@ -1,9 +1,8 @@
 //! A link over a stream of the system that does not block.
 ghost use Rattle.std.specs.Prelude.{◌≡◌, None};
 
-use dk_types::FaultCount;
 use crate::link::Link;
-use dk_types::Failed;
+use dk_types::{Failed, FaultCount};
 use futures::task::{Context, Poll};
 use std::io::{ErrorKind, Read, Write};
 

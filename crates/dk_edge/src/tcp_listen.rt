@@ -3,12 +3,11 @@ ghost use Rattle.std.specs.Prelude.{◌≡◌, ◌≤◌, false};
 ghost use Rattle.dk_types.specs.declared.limits.TheConstants.{NUMBERS_END};
 ghost use Rattle.dk_edge.specs.Listening.{listening_at};
 
-use dk_types::FaultCount;
 use crate::listener::{Binding, Listener};
 use crate::std_streams::{StdSink, StdSource};
 use crate::tcp_link::TcpLink;
-use dk_types::Failed;
 use dk_types::limits::NUMBERS_END;
+use dk_types::{Failed, FaultCount};
 use std::io;
 use std::net::{Ipv4Addr, Net, OpenListener, OpenStream, TcpListener};
 
