@@ -6,6 +6,7 @@ mod channels;
 mod cores;
 mod disk;
 mod filler;
+mod inspecting;
 mod stores;
 mod tasks;
 mod txn;
@@ -13,7 +14,9 @@ mod txn;
 use channels::{Doing, on_channel};
 use cores::{CoreWork, on_core};
 use disk::{folder_appends, memory_calls};
-use dk_turn_books::{empty_turns_anew, locked_adds, tally_in_threads};
+use dk_turn_uses::{empty_turns_anew, locked_adds, tally_in_threads};
+use first_path::first_path;
+use inspecting::inspect_objects;
 use std::env;
 use std::fs::File;
 use std::process::ExitCode;
@@ -45,12 +48,14 @@ enum Subcommand {
     FolderAppends,
     /// The same on a home in memory.
     MemoryCalls,
+    /// The text of a world of so many objects. Its nanoseconds are told.
+    InspectObjects,
 }
 
 fn main(rt: HostRuntime) -> ExitCode {
     let Some((subcommand, times)) = asked(&rt) else {
         let _ = rt.eprintln(
-            "dk_bench: locked-adds|empty-turns|tally|STORE-CALL|txn-calls|channel-sends|channel-join|channel-leave|core-tasks|core-counters|core-sessions|folder-appends|memory-calls TIMES",
+            "dk_bench: first-path|locked-adds|empty-turns|tally|STORE-CALL|txn-calls|channel-sends|channel-join|channel-leave|core-tasks|core-counters|core-sessions|folder-appends|memory-calls|inspect-objects TIMES",
         );
         return ExitCode::from(2);
     };
@@ -79,6 +84,7 @@ fn named(word: &str) -> Option<Subcommand> {
         "txn-calls" => Some(Subcommand::TxnCalls),
         "folder-appends" => Some(Subcommand::FolderAppends),
         "memory-calls" => Some(Subcommand::MemoryCalls),
+        "inspect-objects" => Some(Subcommand::InspectObjects),
         _ => stores::named(word)
             .map(Subcommand::Store)
             .or(channels::named(word).map(Subcommand::Channel))
@@ -101,5 +107,6 @@ fn run<R: AllocGlobal + Threads + Wait + Sync + Clock + Files<File = File> + Clo
         Subcommand::Core(work) => on_core(rt, work, times),
         Subcommand::FolderAppends => folder_appends(rt.alloc(), rt.clone().ok()?, times),
         Subcommand::MemoryCalls => memory_calls(rt.alloc(), times),
+        Subcommand::InspectObjects => inspect_objects(rt, times),
     }
 }
