@@ -14,8 +14,7 @@ mod txn;
 use channels::{Doing, on_channel};
 use cores::{CoreWork, on_core};
 use disk::{folder_appends, memory_calls};
-use dk_turn_uses::{empty_turns_anew, locked_adds, tally_in_threads};
-use first_path::first_path;
+use dk_turn_books::{empty_turns_anew, locked_adds, tally_in_threads};
 use inspecting::inspect_objects;
 use std::env;
 use std::fs::File;
@@ -55,7 +54,7 @@ enum Subcommand {
 fn main(rt: HostRuntime) -> ExitCode {
     let Some((subcommand, times)) = asked(&rt) else {
         let _ = rt.eprintln(
-            "dk_bench: first-path|locked-adds|empty-turns|tally|STORE-CALL|txn-calls|channel-sends|channel-join|channel-leave|core-tasks|core-counters|core-sessions|folder-appends|memory-calls|inspect-objects TIMES",
+            "dk_bench: locked-adds|empty-turns|tally|STORE-CALL|txn-calls|channel-sends|channel-join|channel-leave|core-tasks|core-counters|core-sessions|folder-appends|memory-calls|inspect-objects TIMES",
         );
         return ExitCode::from(2);
     };
