@@ -61,7 +61,7 @@ pub(crate) enum Told {
     Other,
 }
 
-fn claimable(job: &Job) -> Claimable {
+fn job_of(job: &Job) -> Claimable {
     match job {
         Job::Initialize => Claimable::First,
         Job::Task { key, .. } => Claimable::Task(key.k),
@@ -71,7 +71,7 @@ fn claimable(job: &Job) -> Claimable {
     }
 }
 
-fn told(out: Option<&Out>) -> Told {
+fn kind_of(out: Option<&Out>) -> Told {
     match out {
         Some(Out::Accepted) => Told::Accepted,
         Some(Out::Refused) => Told::Refused,
@@ -92,7 +92,7 @@ fn work_of(step: &Step) -> Work {
 }
 
 /// A worker's step.
-fn work<G: Game>(alloc: Global, game: &G, core: &mut Core) -> Result<Work, Fail>
+fn take_step<G: Game>(alloc: Global, game: &G, core: &mut Core) -> Result<Work, Fail>
     requires { IsStandingFor (G.rules game.now) core.old }
     ensures { IfOk result (λ _. IsStandingFor (G.rules game.now) core.new) }
 {
@@ -114,7 +114,7 @@ fn handed<G: Game>(
 {
     let handed = hand(game, core, conn, most)?;
     let outs = handed.outs.as_slice();
-    Ok((outs.len(), told(outs.last()), handed.end))
+    Ok((outs.len(), kind_of(outs.last()), handed.end))
 }
 
 /// The call of a row answers what the row says.
@@ -138,12 +138,12 @@ fn answer<G: Game>(
             assert!(rt; told == reply, "{row:?}");
         }
         Row::Works(wanted) => {
-            let worked = work(alloc, game, core)?;
+            let worked = take_step(alloc, game, core)?;
             assert!(rt; worked == wanted, "{row:?}");
         }
         Row::Claims(wanted) => {
             let claimed = claim(game, core)?;
-            assert!(rt; claimable(claimed.job()) == wanted, "{row:?}");
+            assert!(rt; job_of(claimed.job()) == wanted, "{row:?}");
         }
         Row::Hands(conn, most, count, last, end) => {
             let told = handed(game, core, ConnNo(conn), most)?;
