@@ -11,7 +11,7 @@ use futures::task::{Context, Poll};
 
 /// Takes from a source in memory and puts to a sink in memory, which say at which calls they fail. It puts at most
 /// `piece` bytes at a call. Where it waits, each ready answer comes after a pending one that asks for another poll.
-#[derive(Debug, Drop)]
+#[derive(Drop)]
 pub struct MemoryLink {
     source: MemorySource,
     sink: MemorySink,

@@ -5,7 +5,7 @@ use crate::spawner::{Activity, Crew, Spawner};
 use dk_types::{Failed, FaultCount};
 
 /// Fails every call.
-#[derive(Debug, Drop)]
+#[derive(Drop)]
 pub struct NoSpawner {
     faults: FaultCount,
 }

@@ -1,3 +1,4 @@
+pub mod Endian
 pub mod Readings
 pub mod Going
 pub mod Fronts

@@ -2,7 +2,7 @@ use Rattle.std.proofs.Common.{◌≡◌, ℕ, ◌-◌, List, ◌++◌, length, r
 use Rattle.std.proofs.lemmas.List.{append-nil, drop-replicate, take_all, length-drop, length-replicate}
 use Rattle.std.specs.Int.{w16, w64}
 use Rattle.dk_types.specs.Fields.{u16_spelling, u64_spelling}
-use Rattle.dk_types.proofs.Numbers.{big_bytes-is}
+use Rattle.dk_journal.proofs.Endian.{big_bytes-is}
 use Rattle.dk_model.specs.Stores.{letters, header_fields}
 use Rattle.dk_journal.specs.Headers.{store_header}
 use Rattle.dk_journal.proofs.HeaderBytes.{joined, fields_length}
