@@ -1,7 +1,7 @@
 //! Tests of streams, of the two files of a store, and of what threads share, as rows.
 //!
-//! A row names a whole run of calls and tells what came of it: what a stop at a moment leaves, what both homes read like, how many
-//! turns of two threads were counted. The program proves nothing but that it is safe; files and threads are as the system has them.
+//! A row names a whole run of calls and tells what came of it: what a stop at a moment leaves, what both homes read like. What comes
+//! of threads is printed behind the rows. The program proves nothing but that it is safe; files and threads are as the system has them.
 #![tactic(auto)]
 
 mod crashes;
@@ -15,22 +15,18 @@ use std::alloc::Global;
 use std::fs::File;
 use std::io::{self, BufReader, Write};
 use std::rt::Files;
-use std::sync::Wait;
-use std::thread::Threads;
 
-/// The system, with its files and threads.
+/// The system, with its files.
 #[derive(Drop)]
 struct Desk<R: Drop> {
     rt: R,
 }
 
-impl<R: Files<File = File> + AllocGlobal + Threads + Wait + Sync + Clone + Drop> Subject
-    for Desk<R> {
+impl<R: Files<File = File> + AllocGlobal + Clone + Drop> Subject for Desk<R> {
     fn answer(&mut self, alloc: Global, call: &mut Words<'_>) -> Option<String> {
         match call.word()? {
             "crash" => crashes::answer(alloc, call),
             "folder" => folders::answer(alloc, &self.rt, call),
-            "shared" => shared::answer(alloc, &self.rt, call),
             "stream" => streams::answer(alloc, call),
             _ => None,
         }
@@ -45,6 +41,7 @@ fn main(rt: HostRuntime) -> io::Result<()> {
     for section in &sections {
         hold_section(alloc, &mut out, &mut desk, section)?;
     }
+    shared::tell(alloc, &rt, &mut out)?;
     standard(&rt, &mut out)
 }
 
