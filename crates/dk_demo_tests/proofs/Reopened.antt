@@ -12,7 +12,7 @@ use Rattle.dk_model.specs.Effects.{with_set, task_of, pending_of}
 use Rattle.dk_model.specs.Validity.{IsValid, IsNumbered, IsCommitted, IsObject, IsTask}
 use Rattle.dk_model.proofs.Maps.{ids_total, exact_ids, names_total, exact_names, keys_total, exact_keys, get-with_value_cases, not_both, some_is}
 use Rattle.dk_laws.proofs.Entries.{all_entries}
-use Rattle.dk_durable.specs.Listings.{world_of, listed}
+use Rattle.dk_core.specs.Listings.{world_of, listed}
 
 module _ {K X : Type 0} {R : K → K → Ordering} (total : IsTotalOrder R) (exact : IsAntisymmetric R) (P : K × X → Type 0) where
   -- what holds of each entry that is set, and of those before, holds of each in the end

@@ -1,6 +1,6 @@
 use Rattle.std.proofs.Common.{[], sym, subst}
 use Rattle.dk_model.specs.Validity.{IsValid}
-use Rattle.dk_durable.specs.Listings.{world_of}
+use Rattle.dk_core.specs.Listings.{world_of}
 use Rattle.dk_core.proofs.Standing.{sound_of}
 use Rattle.dk_demo_tests.proofs.Reopened.{reopened}
 use Rattle.dk_demo_tests.proofs.driving.reopen.Goals as goal

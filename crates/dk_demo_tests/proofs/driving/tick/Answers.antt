@@ -2,4 +2,4 @@ use Rattle.dk_workers.proofs.Honest.{entered}
 use Rattle.dk_demo_tests.proofs.driving.tick.Goals as goal
 
 pub returns : goal.returns
-returns g c = entered (g.G.Rules.rules c.args._game.now) (g.G.Rules.lawful c.args._game.now) _ _ _ c.requires (c.tick.ensures 0)
+returns g c = entered (g.G.Rules.rules c.args._game.now) (g.G.Rules.lawful c.args._game.now) _ _ _ c.requires (c.tick.ensures.event 0)
