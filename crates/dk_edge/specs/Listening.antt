@@ -9,9 +9,11 @@ pub record Listening : Type 0 where
   pub given : ℕ
   pub ended : Bool
 
+-- `bind` was not called
 abbrev pub IsUncalled : Listening → Type 0
 IsUncalled l = l.binding ≡ NotCalled
 
+-- it listens at a port
 abbrev pub IsBound : Listening → Type 0
 IsBound l = (port : ℕ) × (l.binding ≡ Bound port)
 

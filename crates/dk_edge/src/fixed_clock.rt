@@ -10,6 +10,7 @@ pub struct FixedClock {
 }
 
 impl FixedClock {
+    /// A clock that stands at this moment, in ms.
     pub fn new(moment: u64) -> FixedClock
         ensures { result.moment ≡ moment }
     {

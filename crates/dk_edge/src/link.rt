@@ -19,6 +19,7 @@ pub trait Link {
     /// The counts of faults, one for each direction. None falls, and each stays at 2^64 - 1.
     ghost take_counted: { Self → ℕ };
 
+    /// The count of faults of putting.
     ghost put_counted: { Self → ℕ };
 
     /// Puts some of the bytes that are left at the front of `into`, and answers how many. Ok 0 is the end. A call that

@@ -39,6 +39,7 @@ pub struct MemoryListener {
 }
 
 impl MemoryListener {
+    /// A listener to which these peers come, and whose calls of these numbers fail.
     pub fn new(alloc: Global, peers: Vec<Peer>, failing: Vec<u64>) -> MemoryListener
         ensures peers { result.peers.items ≡ peers.items }
         ensures binding { result.binding ≡ Binding.NotCalled }

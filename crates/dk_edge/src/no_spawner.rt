@@ -15,6 +15,7 @@ pub struct NoSpawner<R: Threads + Wait + Sync> {
 }
 
 impl<R: Threads + Wait + Sync> NoSpawner<R> {
+    /// A spawner without threads, which has not failed yet.
     pub fn new() -> NoSpawner<R>
         ensures { result.faults.count ≡ 0 }
     {

@@ -11,6 +11,7 @@ use std::thread::Threads;
 
 /// Runs crews, and counts those that it could not run.
 pub trait Spawner {
+    /// What threads are made with.
     type Runtime: Threads + Wait + Sync;
 
     /// The count of faults. It never falls, and stays at 2^64 - 1.

@@ -17,6 +17,7 @@ pub struct StdSource<I: Read + Drop> {
 }
 
 impl<I: Read + Drop> StdSource<I> {
+    /// A source over this reader.
     pub fn new(reader: I) -> StdSource<I>
         ensures reader { result.reader ≡ reader }
         ensures faults { result.faults.count ≡ 0 }
@@ -59,6 +60,7 @@ pub struct StdSink<W: Write + Drop> {
 }
 
 impl<W: Write + Drop> StdSink<W> {
+    /// A sink over this writer.
     pub fn new(writer: W) -> StdSink<W>
         ensures writer { result.writer ≡ writer }
         ensures faults { result.faults.count ≡ 0 }

@@ -15,6 +15,7 @@ pub struct SystemClock<'a, R: time::Clock> {
 const PAUSE_MS: u64 = 10;
 
 impl<'a, R: time::Clock> SystemClock<'a, R> {
+    /// The clock of this runtime's system.
     pub fn new(rt: &'a R) -> SystemClock<'a, R> {
         SystemClock { rt }
     }

@@ -16,6 +16,7 @@ pub struct TcpLink<S: Read + Write + Drop> {
 }
 
 impl<S: Read + Write + Drop> TcpLink<S> {
+    /// A link over this connection, which was set not to block.
     pub fn new(stream: S) -> TcpLink<S>
         ensures take { result.take_faults.count ≡ 0 }
         ensures put { result.put_faults.count ≡ 0 }

@@ -30,6 +30,7 @@ pub struct TcpListen<'a, R: Net> {
 }
 
 impl<'a, R: Net> TcpListen<'a, R> {
+    /// A listener of this runtime's system, which does not listen yet.
     pub fn new(rt: &'a R) -> TcpListen<'a, R>
         ensures binding { result.binding ≡ Binding.NotCalled }
         ensures given { result.given ≡ 0 }

@@ -14,6 +14,7 @@ pub struct ThreadSpawner<'a, R: Threads + Wait + Sync> {
 }
 
 impl<'a, R: Threads + Wait + Sync> ThreadSpawner<'a, R> {
+    /// A spawner of this runtime's threads.
     pub fn new(rt: &'a R) -> ThreadSpawner<'a, R>
         ensures { result.faults.count ≡ 0 }
     {
