@@ -3,6 +3,7 @@ ghost use Rattle.std.specs.Prelude.{◌≡◌};
 ghost use Rattle.dk_disk.specs.declared.torn.CrashRefused.TheVariants.{NoMemory as WantOfMemory};
 
 use dk_types::NoMemory;
+use thiserror::Error;
 
 /// Which image of a file a crash gives.
 #[derive(Clone, Copy, Debug, PartialEq, Eq)]
@@ -18,10 +19,12 @@ pub enum Torn {
 }
 
 /// Why `crash_at` gives no image.
-#[derive(Clone, Copy, Debug, PartialEq, Eq)]
+#[derive(Clone, Copy, Debug, PartialEq, Eq, Error)]
 pub enum CrashRefused {
     /// No call has that number. So many were made.
+    #[error("no call has that number: {made} calls were made")]
     NoSuchCall { made: u64 },
+    #[error("out of memory")]
     NoMemory,
 }
 

@@ -13,6 +13,7 @@ pub record Decoding : Type 0 where
   pub held : List ℕ
   pub fault : Option Fault
 
+-- what follows whole frames that end at this place, where so much is held behind them
 abbrev pub following_at : ℕ → List ℕ → Option Fault → Following
 following_at at held (Some fault) = Bad at fault
 following_at at [] None = Nothing

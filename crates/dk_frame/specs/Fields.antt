@@ -12,6 +12,7 @@ pub record Has (opcode : ℕ) (fields : List ℕ) (f : Frame) : Type 0 where
   pub opcode_is : opcode_of f ≡ opcode
   pub fields_are : fields_of f ≡ fields
 
+-- the same of a frame as the code has it
 abbrev pub IsFrameOf : ℕ → List ℕ → ClientFrame → Type 0
 IsFrameOf opcode fields frame = Has opcode fields (frame_of frame)
 

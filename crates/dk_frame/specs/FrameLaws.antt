@@ -3,9 +3,11 @@ use Rattle.std.specs.Prelude.{◌≡◌, ℕ, List, ◌++◌}
 use Rattle.dk_types.specs.Exact.{IsPrefixFree}
 use Rattle.dk_model.specs.Frames.{Frame, IsFrame, frame_spelling, IsOut, out_spelling, Following, Bad, Fault, IsStream}
 
+-- no frame's spelling begins another's
 abbrev pub OneSpelling : Type 0
 OneSpelling = IsPrefixFree IsFrame frame_spelling
 
+-- the same of the server's frames
 abbrev pub OneSpellingOut : Type 0
 OneSpellingOut = IsPrefixFree IsOut out_spelling
 

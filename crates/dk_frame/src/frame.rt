@@ -2,6 +2,7 @@
 ghost use Rattle.std.specs.Prelude.{◌≡◌};
 
 use dk_types::{Blob, Name, NoMemory};
+use thiserror::Error;
 
 /// A whole frame of a client.
 #[derive(Clone, Debug, Drop, PartialEq, Eq)]
@@ -15,21 +16,26 @@ pub enum ClientFrame {
 }
 
 /// What is wrong with a frame.
-#[derive(Clone, Copy, Debug, PartialEq, Eq)]
+#[derive(Clone, Copy, Debug, PartialEq, Eq, Error)]
 pub enum FrameFault {
     /// Its length is 0 or above the greatest.
+    #[error("its length is 0 or above the greatest")]
     Length,
     /// Its opcode is none of a client's, or may not come where it stands.
+    #[error("its opcode may not come here")]
     Opcode,
     /// Its fields are those of no frame.
+    #[error("its fields are those of no frame")]
     Field,
 }
 
 /// Why a decoder gave no frames.
-#[derive(Clone, Copy, Debug, PartialEq, Eq)]
+#[derive(Clone, Copy, Debug, PartialEq, Eq, Error)]
 pub enum FrameRefused {
     /// The frame whose first byte stands at `at` is bad.
+    #[error("the frame at byte {at} is bad: {why}")]
     BadFrame { at: u64, why: FrameFault },
+    #[error("out of memory")]
     NoMemory,
 }
 
@@ -44,7 +50,8 @@ impl From<NoMemory> for FrameRefused {
 }
 
 /// The stream ends within the frame whose first byte stands at `at`.
-#[derive(Clone, Copy, Debug, PartialEq, Eq)]
+#[derive(Clone, Copy, Debug, PartialEq, Eq, Error)]
+#[error("the stream ends within the frame at byte {at}")]
 pub struct Truncated {
     pub at: u64,
 }

@@ -1,9 +1,11 @@
 //! How a run ends, and the two faults that any call may meet.
 
 use std::alloc::{AllocError, AllocFailed};
+use thiserror::Error;
 
 /// There was no memory.
-#[derive(Clone, Copy, Debug, PartialEq, Eq)]
+#[derive(Clone, Copy, Debug, PartialEq, Eq, Error)]
+#[error("out of memory")]
 pub struct NoMemory;
 
 impl From<AllocError> for NoMemory {
@@ -19,7 +21,8 @@ impl<T: Drop> From<AllocFailed<T>> for NoMemory {
 }
 
 /// An outer object, as a disk, a source or a sink, failed. Its own count of faults rose.
-#[derive(Clone, Copy, Debug, PartialEq, Eq)]
+#[derive(Clone, Copy, Debug, PartialEq, Eq, Error)]
+#[error("a disk, a stream or a listener failed")]
 pub struct Failed;
 
 /// Why a run failed.

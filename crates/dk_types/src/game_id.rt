@@ -8,6 +8,7 @@ ghost use Rattle.std.specs.Cmp;
 use crate::limits::GAME_ID_MOST_BYTES;
 use std::alloc::AllocError;
 use std::marker::Model;
+use thiserror::Error;
 
 /// A game's id: 1 to 44 bytes of visible ASCII, from `!` to `~`. It is compared by its bytes and takes no memory.
 #[derive(Debug)]
@@ -41,11 +42,13 @@ impl Clone for GameId {
 impl Copy for GameId {}
 
 /// Why bytes are no game's id. The first cause in this order is told.
-#[derive(Clone, Copy, Debug, PartialEq, Eq)]
+#[derive(Clone, Copy, Debug, PartialEq, Eq, Error)]
 pub enum GameIdRefused {
     /// No bytes, or more than 44; `len` is how many.
+    #[error("a game's id has {len} bytes, and not 1 to 44")]
     BadLength { len: u64 },
     /// A byte outside 0x21 to 0x7E; `at` is the place of the first.
+    #[error("a game's id has a byte that is not visible ASCII, at byte {at}")]
     BadByte { at: u64 },
 }
 

@@ -11,6 +11,7 @@ use crate::limits::NAME_MOST_BYTES;
 use std::alloc::{AllocError, Global};
 use std::cmp::Ordering;
 use std::marker::Model;
+use thiserror::Error;
 
 /// A name: 1 to 255 bytes of UTF-8, ordered by its bytes.
 #[derive(Debug, Drop)]
@@ -30,14 +31,18 @@ impl Model for Name {
 }
 
 /// Why bytes are no name. The first cause in this order is told.
-#[derive(Clone, Copy, Debug, PartialEq, Eq)]
+#[derive(Clone, Copy, Debug, PartialEq, Eq, Error)]
 pub enum NameRefused {
     /// No bytes.
+    #[error("a name has no bytes")]
     Empty,
     /// More than 255 bytes; `len` is how many.
+    #[error("a name has {len} bytes, more than 255")]
     TooLong { len: u64 },
     /// Not UTF-8; `at` is the length of the longest prefix that is.
+    #[error("a name is not UTF-8, at byte {at}")]
     NotUtf8 { at: u64 },
+    #[error("out of memory")]
     NoMemory,
 }
 

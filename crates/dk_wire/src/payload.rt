@@ -7,13 +7,16 @@ ghost use Rattle.dk_wire.specs.Payload.{Gives, Misses, told_of};
 use crate::reader::Reader;
 use dk_types::{Blob, Name, NoMemory, ObjectId, TaskKey, WireRefused};
 use std::alloc::{AllocError, AllocFailed, Global};
+use thiserror::Error;
 
 /// Why a payload is no spelling of a value.
-#[derive(Clone, Copy, Debug, PartialEq, Eq)]
+#[derive(Clone, Copy, Debug, PartialEq, Eq, Error)]
 pub enum PayloadRefused {
     /// `at` is the place of the first byte of the first field that is cut off, is outside its form or limit, does not
     /// ascend, or breaks a rule with an earlier field; or of the first byte behind the whole spelling.
+    #[error("no spelling of a value, at byte {at}")]
     NotInGrammar { at: u64 },
+    #[error("out of memory")]
     NoMemory,
 }
 
@@ -43,6 +46,7 @@ impl<T: Drop> From<AllocFailed<T>> for PayloadRefused {
 
 /// Each call is the `take` of its name, and its refusal tells where the field stands.
 impl<'a> Reader<'a> {
+    /// The next byte.
     pub fn next_u8(&mut self) -> Result<u8, PayloadRefused>
         ensures gives { Gives next_u8 self.old result self.new }
         ensures memory { IfErr result (λ e. e ≢ PayloadRefused.NoMemory) }
@@ -51,6 +55,7 @@ impl<'a> Reader<'a> {
         told(at, self.read_u8())
     }
 
+    /// The next number of 16 bits.
     pub fn next_u16(&mut self) -> Result<u16, PayloadRefused>
         ensures gives { Gives next_u16 self.old result self.new }
         ensures memory { IfErr result (λ e. e ≢ PayloadRefused.NoMemory) }
@@ -59,6 +64,7 @@ impl<'a> Reader<'a> {
         told(at, self.read_u16())
     }
 
+    /// The next number of 32 bits.
     pub fn next_u32(&mut self) -> Result<u32, PayloadRefused>
         ensures gives { Gives next_u32 self.old result self.new }
         ensures memory { IfErr result (λ e. e ≢ PayloadRefused.NoMemory) }
@@ -67,6 +73,7 @@ impl<'a> Reader<'a> {
         told(at, self.read_u32())
     }
 
+    /// The next number of 64 bits.
     pub fn next_u64(&mut self) -> Result<u64, PayloadRefused>
         ensures gives { Gives next_u64 self.old result self.new }
         ensures memory { IfErr result (λ e. e ≢ PayloadRefused.NoMemory) }
@@ -75,6 +82,7 @@ impl<'a> Reader<'a> {
         told(at, self.read_u64())
     }
 
+    /// The next name.
     pub fn next_name(&mut self, alloc: Global) -> Result<Name, PayloadRefused>
         ensures { Gives next_name self.old result self.new }
     {
@@ -82,6 +90,7 @@ impl<'a> Reader<'a> {
         told(at, self.read_name(alloc))
     }
 
+    /// The next bytes with their length, which is at most this.
     pub fn next_blob(&mut self, alloc: Global, most: u32) -> Result<Blob, PayloadRefused>
         ensures { Gives (next_blob most) self.old result self.new }
     {
@@ -89,6 +98,7 @@ impl<'a> Reader<'a> {
         told(at, self.read_blob(alloc, most))
     }
 
+    /// The next object's id.
     pub fn next_id(&mut self) -> Result<ObjectId, PayloadRefused>
         ensures gives { Gives next_id self.old result self.new }
         ensures memory { IfErr result (λ e. e ≢ PayloadRefused.NoMemory) }

@@ -39,6 +39,7 @@ impl Writer {
         Blob::from_vec(out)
     }
 
+    /// Appends a byte.
     #[tactic(auto, unfolding(dk_types::specs::Fields::u8_spelling))]
     pub fn put_u8(&mut self, value: u8) -> Result<(), NoMemory>
         ensures ok { OnOk result (self.new ≡ self.old ++ u8_spelling value) }
@@ -48,6 +49,7 @@ impl Writer {
         Ok(())
     }
 
+    /// Appends a number of 16 bits.
     #[tactic(auto, unfolding(dk_types::specs::Fields::u16_spelling))]
     pub fn put_u16(&mut self, value: u16) -> Result<(), NoMemory>
         ensures ok { OnOk result (self.new ≡ self.old ++ u16_spelling value) }
@@ -59,6 +61,7 @@ impl Writer {
         Ok(())
     }
 
+    /// Appends a number of 32 bits.
     #[tactic(auto, unfolding(dk_types::specs::Fields::u32_spelling))]
     pub fn put_u32(&mut self, value: u32) -> Result<(), NoMemory>
         ensures ok { OnOk result (self.new ≡ self.old ++ u32_spelling value) }
@@ -82,6 +85,7 @@ impl Writer {
         Ok(())
     }
 
+    /// Appends a number of 64 bits.
     #[tactic(auto, unfolding(dk_types::specs::Fields::u64_spelling))]
     pub fn put_u64(&mut self, value: u64) -> Result<(), NoMemory>
         ensures ok { OnOk result (self.new ≡ self.old ++ u64_spelling value) }
@@ -93,6 +97,7 @@ impl Writer {
         Ok(())
     }
 
+    /// Appends a name, behind its length.
     #[tactic(auto, unfolding(dk_types::specs::Fields::name_spelling))]
     pub fn put_name(&mut self, value: &Name) -> Result<(), NoMemory>
         ensures ok { OnOk result (self.new ≡ self.old ++ name_spelling value.now) }
@@ -114,6 +119,7 @@ impl Writer {
         append_both(&mut self.out, &len[4..], blob)
     }
 
+    /// Appends an object's id.
     #[tactic(auto, unfolding(dk_types::specs::Fields::id_spelling, dk_types::specs::Fields::u64_spelling, dk_types::specs::Fields::u32_spelling))]
     pub fn put_id(&mut self, value: ObjectId) -> Result<(), NoMemory>
         ensures ok { OnOk result (self.new ≡ self.old ++ id_spelling value) }
