@@ -19,9 +19,11 @@ change_at bytes (kept.Write at start count) = Write at (take count (drop start b
 change_at bytes (kept.Cut to) = Cut to
 change_at bytes kept.Sync = Sync
 
+-- the call of an entry, whose bytes stand in this list
 abbrev pub call_of : List ℕ → Entry → Call
 call_of bytes entry = record { number = entry.number; side = entry.side; change = change_at bytes entry.kept; is_made = entry.is_made }
 
+-- the call that is to be recorded
 abbrev pub as_call : Recorded → Call
 as_call call = record { number = call.number; side = call.side; change = change_of call.step; is_made = call.is_made }
 
@@ -31,6 +33,7 @@ IsWithinRecord size (kept.Write at start count) = (start + count ≤ size) × (a
 IsWithinRecord size (kept.Cut to) = ⊤
 IsWithinRecord size kept.Sync = ⊤
 
+-- the same of all of them
 abbrev pub AreWithin : ℕ → List Entry → Type 0
 AreWithin size [] = ⊤
 AreWithin size (entry ∷ entries) = IsWithinRecord size entry.kept × AreWithin size entries

@@ -34,6 +34,7 @@ pub record Files : Type 0 where
   pub zero : File
   pub one : File
 
+-- the file of a side
 abbrev pub file_of : Files → Side → File
 file_of files Zero = files.zero
 file_of files One = files.one

@@ -27,6 +27,7 @@ pub record Memory : Type 0 where
   pub open_fails : Bool
   pub room : Room
 
+-- what a side held at first
 abbrev pub first_of : List ℕ → List ℕ → Side → List ℕ
 first_of zero one Zero = zero
 first_of zero one One = one

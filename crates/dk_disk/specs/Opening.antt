@@ -7,6 +7,7 @@ pub data Opening : Type 0 where
   Refused : (dir : List ℕ) → Opening
   Opened : (dir : List ℕ) → Opening
 
+-- `open` answered Ok
 abbrev pub IsOpen : Opening → Type 0
 IsOpen NotCalled = ⊥
 IsOpen (Refused dir) = ⊥

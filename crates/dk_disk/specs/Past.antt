@@ -13,6 +13,7 @@ pub record Past : Type 0 where
 abbrev pub now : Past → Side → Disk
 now past side = past.disks past.clock side
 
+-- the side that this is not
 abbrev pub other_side : Side → Side
 other_side Zero = One
 other_side One = Zero

@@ -26,6 +26,7 @@ changed (Cut to) false disk = after_failed_cut to disk
 changed Sync true disk = after_sync disk
 changed Sync false disk = disk
 
+-- whether they are one side
 abbrev pub is_side : Side → Side → Bool
 is_side Zero Zero = true
 is_side One One = true

@@ -2,11 +2,11 @@
 //!
 //! It makes one call of the system for each call, and asks for the length of a file once. It tells nothing of
 //! content: what a system call gives or keeps is trusted.
-ghost use Rattle.std.specs.Prelude.{◌≡◌, ◌⊎◌, ◌≤◌, [], None, string_bytes, is_some, is_ok, true, false, IsErr, IsTrue, OnOk, OnErr};
+ghost use Rattle.std.specs.Prelude.{◌≡◌, ◌≤◌, [], None, string_bytes, is_some, is_ok, false, IsErr, IsTrue, OnOk, OnErr};
 ghost use Rattle.dk_types.specs.Faults.{HasRisen, COUNT_END};
 ghost use Rattle.dk_disk.specs.Disk.{settled};
 ghost use Rattle.dk_disk.specs.Folder.{known_of};
-ghost use Rattle.dk_disk.specs.Opening.{NotCalled, Refused, Opened, IsOpen, opening_of};
+ghost use Rattle.dk_disk.specs.Opening.{NotCalled, IsOpen, opening_of};
 
 use crate::home::Home;
 use dk_types::{Failed, FaultCount, Side};
@@ -87,6 +87,7 @@ pub struct FolderHome<R: Files<File = File> + Drop> {
 }
 
 impl<R: Files<File = File> + Drop> FolderHome<R> {
+    /// A home that is not opened yet, over this system's files.
     pub fn new(alloc: Global, system: R) -> FolderHome<R>
         ensures opening { opening_of result.was_called (is_some result.pair) (string_bytes result.dir) ≡ NotCalled }
         ensures faults { result.faults.count ≡ 0 }

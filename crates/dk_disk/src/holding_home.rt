@@ -32,6 +32,7 @@ pub struct HoldingHome {
 }
 
 impl HoldingHome {
+    /// A home over this one, whose sync the word `hold` can hold for so many turns.
     pub fn new(inner: MemoryHome, hold: Arc<AtomicU64, Global>, turns: u64) -> HoldingHome
         ensures inner { result.inner ≡ inner }
         ensures turns { result.turns ≡ turns }
