@@ -27,4 +27,4 @@ text_byte_small b h = grind (arith, nat_tests)
 
 -- a text is a body
 pub text_body : (text : List ℕ) → IsText text → IsBody text
-text_body text h = record { short = h.0; bytes = λ k d l. text_byte_small _ (AllPass-from_list_all is_text_byte text h.1 k d l) }
+text_body text h = record { short = omega (arith, h.0); bytes = λ k d l. text_byte_small _ (AllPass-from_list_all is_text_byte text h.1 k d l) }

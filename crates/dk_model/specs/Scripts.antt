@@ -2,7 +2,7 @@
 use Rattle.std.specs.Prelude.{◌≡◌, ℕ, ◌<◌, ◌≤◌, ◌&&◌, ◌==◌, not, Bool, true, List, [], ◌∷◌, ◌++◌, length, map, filter, nat_le, codes}
 use Rattle.std.specs.List.{list_all}
 use Rattle.std.specs.FinSet as sets
-use Rattle.dk_types.specs.declared.limits.TheConstants.{SCRIPT_MOST_BYTES, BODY_MOST_BYTES}
+use Rattle.dk_types.specs.declared.limits.TheConstants.{SCRIPT_MOST_BYTES, TEXT_MOST_BYTES}
 use Rattle.dk_types.specs.Names.{bytes_cmp}
 use Rattle.dk_model.specs.declared.script.Line.{Line}
 use Rattle.dk_model.specs.declared.script.Line.TheVariants.{Login, Send}
@@ -22,7 +22,7 @@ line_text (Login name) = codes "login " ++ name
 line_text (Send name text) = codes "send " ++ name ++ 32 ∷ text
 
 abbrev pub IsText : List ℕ → Type 0
-IsText text = (length text ≤ BODY_MOST_BYTES) × (list_all is_text_byte text ≡ true)
+IsText text = (length text ≤ TEXT_MOST_BYTES) × (list_all is_text_byte text ≡ true)
 
 -- a name as a line has it
 pub record IsLineName (name : List ℕ) : Type 0 where

@@ -6,7 +6,7 @@ ghost use Rattle.dk_model.specs.declared.script.Line.{Line};
 ghost use Rattle.dk_model.specs.Scripts.{IsLineName, IsText, is_name_byte, is_text_byte, is_passed_over};
 ghost use Rattle.dk_script.specs.Spoken.{Says, said_by};
 
-use dk_model::limits::{BODY_MOST_BYTES, NAME_MOST_BYTES};
+use dk_model::limits::{NAME_MOST_BYTES, TEXT_MOST_BYTES};
 
 /// What a line of a script says.
 #[derive(Clone, Copy)]
@@ -108,7 +108,7 @@ fn are_name_bytes(bytes: &[u8]) -> bool
 fn is_text(text: &[u8]) -> bool
     ensures { IsTrue result ↔ IsText text.now }
 {
-    text.len() as u64 <= BODY_MOST_BYTES && are_text_bytes(text)
+    text.len() as u64 <= TEXT_MOST_BYTES && are_text_bytes(text)
 }
 
 fn are_text_bytes(bytes: &[u8]) -> bool
