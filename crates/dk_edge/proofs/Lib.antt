@@ -1,2 +1,3 @@
 pub mod GivenBytes
 pub mod KnownBytes
+pub mod Crews

@@ -5,7 +5,9 @@
 //! bytes, and counts each fault.
 #![tactic(auto)]
 
+pub use activity::Activity;
 pub use clock::Clock;
+pub use crew::Crew;
 pub use fixed_clock::FixedClock;
 pub use link::Link;
 pub use listener::{Binding, Listener};
@@ -16,13 +18,16 @@ pub use memory_source::MemorySource;
 pub use no_spawner::NoSpawner;
 pub use sink::Sink;
 pub use source::Source;
-pub use spawner::{Activity, Crew, Spawner};
+pub use spawner::Spawner;
 pub use std_streams::{StdSink, StdSource};
 pub use system_clock::SystemClock;
 pub use tcp_link::TcpLink;
 pub use tcp_listen::{TcpListen, TcpSink, TcpSource};
+pub use thread_spawner::ThreadSpawner;
 
+pub mod activity;
 pub mod clock;
+pub mod crew;
 pub mod fixed_clock;
 pub mod link;
 pub mod listener;
@@ -38,3 +43,4 @@ pub mod std_streams;
 pub mod system_clock;
 pub mod tcp_link;
 pub mod tcp_listen;
+pub mod thread_spawner;

@@ -1,39 +1,44 @@
 //! A spawner that makes no thread.
-ghost use Rattle.std.specs.Prelude.{◌≡◌};
+ghost use Rattle.std.specs.Prelude.{◌≡◌, true};
 
-use crate::spawner::{Activity, Crew, Spawner};
+use crate::spawner::Spawner;
 use dk_types::{Failed, FaultCount};
+use std::marker::PhantomData;
+use std::sync::Wait;
+use std::thread::Threads;
 
 /// Fails every call.
 #[derive(Drop)]
-pub struct NoSpawner {
+pub struct NoSpawner<R: Threads + Wait + Sync> {
     faults: FaultCount,
+    runtime: PhantomData<R>,
 }
 
-impl NoSpawner {
-    pub fn new() -> NoSpawner
+impl<R: Threads + Wait + Sync> NoSpawner<R> {
+    pub fn new() -> NoSpawner<R>
         ensures { result.faults.count ≡ 0 }
     {
         NoSpawner {
             faults: FaultCount::new(),
+            runtime: PhantomData,
         }
     }
 }
 
-impl Spawner for NoSpawner {
+impl<R: Threads + Wait + Sync> Spawner for NoSpawner<R> {
+    type Runtime = R;
+
     ghost counted = { λ s. s.faults.count };
 
-    fn crew<W: Activity + Send + Drop, O: Activity + Drop>(
-        &mut self,
-        _members: Vec<W>,
-        _own: O,
-    ) -> Result<Crew<W::Done, O::Done>, Failed>
-    where
-        W::Done: Send + Drop,
-        O::Done: Drop,
-    {
+    ghost makes_none = { λ _. true };
+
+    fn runtime(&self) -> Option<&R> {
+        None
+    }
+
+    fn refuse(&mut self) -> Failed {
         self.faults.rise();
-        Err(Failed)
+        Failed
     }
 
     fn faults(&self) -> u64 {

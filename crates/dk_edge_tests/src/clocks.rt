@@ -1,6 +1,6 @@
 //! Clocks.
 
-use dk_edge::{Clock, FixedClock, NoSpawner, Spawner, SystemClock};
+use dk_edge::{Clock, FixedClock, SystemClock};
 use std::test::*;
 
 // The beginning of 2020, in ms.
@@ -15,9 +15,4 @@ fn clocks_tell_their_moments(rt: HostRuntime) {
     let before = system.now();
     system.pause();
     assert!(rt; before > YEAR_2020_MS && system.now() >= before);
-}
-
-#[test]
-fn a_new_spawner_has_no_fault(rt: HostRuntime) {
-    assert_eq!(rt; NoSpawner::new().faults(), 0);
 }

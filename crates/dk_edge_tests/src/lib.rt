@@ -1,10 +1,12 @@
-//! Links, listeners and clocks at work: in memory, and over the loopback of the system.
+//! Links, listeners, clocks and crews at work: in memory, and over the loopback of the system.
 //!
 //! Nothing stands on this crate.
 #![tactic(auto)]
 
 #[cfg(test)]
 mod clocks;
+#[cfg(test)]
+mod crews;
 #[cfg(test)]
 mod links;
 #[cfg(test)]
