@@ -1,5 +1,5 @@
 -- The moments of a home in memory after a call.
-use Rattle.std.proofs.Common.{◌≡◌, ◌⊎◌, inl, inr, ℕ, ◌+◌, ◌≤◌, Bool, true, false, not, refl, sym, ◌∙◌, ap, arith, ◌↔◌, IsTrue, IsErr, OnOk, OnErr, MatchResult, Result, Ok, Err}
+use Rattle.std.proofs.Common.{◌≡◌, ◌⊎◌, inl, inr, ℕ, List, ◌+◌, ◌≤◌, Bool, true, false, not, refl, sym, ◌∙◌, ap, arith, ◌↔◌, IsTrue, IsErr, OnOk, OnErr, MatchResult, Result, Ok, Err}
 use Rattle.dk_types.specs.declared.side.Side.{Side}
 use Rattle.dk_types.specs.declared.side.Side.TheVariants.{Zero, One}
 use Rattle.dk_types.specs.declared.fault.Failed.{Failed}
@@ -8,7 +8,7 @@ use Rattle.dk_disk.specs.Past.{now, other_side, Elapses, Stays, Becomes}
 use Rattle.dk_disk.specs.Drive.{Files}
 use Rattle.dk_types.specs.FaultPlan.{fails_next, counted_up}
 use Rattle.dk_disk.specs.Record.{Call, Change, AreUpTo, changed, made, failed, after_one}
-use Rattle.dk_disk.specs.Memory.{Memory, past_of, first_of, next_call, looked, IsRecorded, IsRefused, Changes, IsConsistent, KeepsCalls}
+use Rattle.dk_disk.specs.Memory.{Memory, past_of, first_of, next_call, looked, IsRecorded, IsRefused, Changes, IsConsistent, Opens}
 use Rattle.dk_disk.proofs.Images.{settled_image}
 use Rattle.dk_disk.proofs.Replays.{replayed_image, replayed_push, replayed_beyond, one_later, one_came, one_other, up_to_more, up_to_push, Fits, changed_made, changed_failed}
 
@@ -35,8 +35,12 @@ pub refused_elapses : (old new : Memory) (n : ℕ) → IsRefused old new n → A
 refused_elapses old new n is up =
     same_elapses old new (λ t s. rw (ap (λ (m : Memory). m.zero) is.memory, ap (λ (m : Memory). m.one) is.memory, ap (λ (m : Memory). m.calls) is.memory) refl) (rw (ap (λ (m : Memory). m.plan.calls) is.memory) (omega arith)) up
 
-pub kept_elapses : (old new : Memory) → KeepsCalls old new → AreUpTo old.plan.calls old.calls → Elapses (past_of old) (past_of new) × Stays (past_of old) (past_of new)
-kept_elapses old new is up = same_elapses old new (λ t s. rw (is.zero, is.one, is.calls) refl) (omega (arith, is.number)) up
+pub opens_elapses : (old new : Memory) (dir : List ℕ) (result : Result (Unit {0}) Failed) → Opens old new dir result → AreUpTo old.plan.calls old.calls → Elapses (past_of old) (past_of new) × Stays (past_of old) (past_of new)
+opens_elapses old new dir result opens up =
+    elim opens [
+      | inl p ↦ same_elapses old new (λ t s. rw (ap (λ (m : Memory). m.zero) p.0.memory, ap (λ (m : Memory). m.one) p.0.memory, ap (λ (m : Memory). m.calls) p.0.memory) refl) (omega (arith, ap (λ (m : Memory). m.plan.calls) p.0.memory)) up
+      | inr p ↦ same_elapses old new (λ t s. rw (ap (λ (m : Memory). m.zero) p.0.memory, ap (λ (m : Memory). m.one) p.0.memory, ap (λ (m : Memory). m.calls) p.0.memory) refl) (omega (arith, ap (λ (m : Memory). m.plan.calls) p.0.memory)) up
+    ]
 
 pub looked_elapses : (old : Memory) → old.plan.calls ≤ counted_up old.plan.calls → AreUpTo old.plan.calls old.calls → Elapses (past_of old) (past_of (looked old)) × Stays (past_of old) (past_of (looked old))
 looked_elapses old later up = same_elapses old (looked old) (λ t s. refl) later up

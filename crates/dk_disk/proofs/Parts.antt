@@ -1,14 +1,15 @@
 -- What a home in memory is after its parts changed.
-use Rattle.std.proofs.Common.{◌≡◌, ℕ, ◌+◌, ◌<◌, ◌≤◌, Bool, true, false, ◌&&◌, if◌then◌else◌, [], ◌∷◌, ◌++◌, refl, arith, IsTrue}
+use Rattle.std.proofs.Common.{◌≡◌, ℕ, ◌+◌, ◌<◌, ◌≤◌, Bool, true, false, not, ◌&&◌, if◌then◌else◌, List, [], ◌∷◌, ◌++◌, length, refl, sym, ap, ◌∙◌, ◌⊎◌, inl, inr, arith, IsTrue, OnOk, OnErr, Result, Ok, Err}
 use Rattle.dk_types.specs.declared.side.Side.{Side}
 use Rattle.dk_types.specs.declared.side.Side.TheVariants.{Zero, One}
 use Rattle.dk_types.specs.Faults.{COUNT_END}
 use Rattle.dk_disk.specs.Drive.{Files, file_of, HasPlace, AreReserved, Takes}
 use Rattle.dk_disk.specs.CallRecord.{Calls, IsSpared}
-use Rattle.dk_disk.specs.Opening.{Entrance}
+use Rattle.dk_disk.specs.Opening.{Entrance, NotCalled, Refused, Opened, opening_of}
+use Rattle.dk_types.specs.declared.fault.Failed.{Failed}
 use Rattle.dk_types.specs.FaultPlan.{Plan, after_call, after_fault}
 use Rattle.dk_disk.specs.Record.{Change}
-use Rattle.dk_disk.specs.Memory.{memory_of, next_call, HasRoom, IsReady, IsRecorded, IsRefused, IsRoomy}
+use Rattle.dk_disk.specs.Memory.{memory_of, next_call, HasRoom, IsReady, IsRecorded, IsRefused, IsRoomy, IsOpened, IsKeptOut, Opens}
 
 none : false ≡ true → ⊥
 none e = cc
@@ -63,3 +64,37 @@ has_room files files' calls calls' plan entrance entrance' reserved spared openi
   calls = omega (arith, calls_left files.zero.is_kept files.one.is_kept files'.zero.is_kept files'.one.is_kept calls.spare_calls calls'.spare_calls 0 (reserved Zero).kept (reserved One).kept (omega (arith, spared.calls_fit)));
   bytes = omega (arith, (reserved Zero).room, (reserved One).room, spared.bytes_fit, room);
 }
+
+-- with another count of faults
+recounted : (plan plan' : Plan) → (plan'.failing ≡ plan.failing) × (plan'.calls ≡ plan.calls) → plan' ≡ record { failing = plan.failing; calls = plan.calls; faults = plan'.faults }
+recounted plan plan' kept = λ i. record { failing = kept.0 i; calls = kept.1 i; faults = plan'.faults }
+
+module _ (files : Files) (calls : Calls) (plan plan' : Plan) (entrance entrance' : Entrance) (dir : List ℕ) (kept : (plan'.failing ≡ plan.failing) × (plan'.calls ≡ plan.calls)) (fails : entrance'.fails ≡ entrance.fails) where
+  -- the folder's name was kept
+  opened : entrance'.opening ≡ opening_of true (not entrance.fails) dir → entrance.room ≤ entrance'.room + length dir → IsOpened (memory_of files calls plan entrance) (memory_of files calls plan' entrance') dir
+  opened opening room = record {
+    memory = λ i. record { zero = files.zero.first; one = files.one.first; calls = calls.calls; plan = recounted plan plan' kept i; opening = opening i; open_fails = fails i; room = (memory_of files calls plan' entrance').room };
+    calls = omega arith;
+    bytes = omega (arith, room);
+  }
+
+  -- there was no room for it
+  kept_out : entrance'.opening ≡ entrance.opening → entrance.room < length dir → entrance.room ≤ entrance'.room → IsKeptOut (memory_of files calls plan entrance) (memory_of files calls plan' entrance') dir
+  kept_out opening full room = record {
+    memory = λ i. record { zero = files.zero.first; one = files.one.first; calls = calls.calls; plan = recounted plan plan' kept i; opening = opening i; open_fails = fails i; room = (memory_of files calls plan' entrance').room };
+    calls = omega arith;
+    bytes = omega (arith, room);
+    full = omega (arith, full);
+  }
+
+  -- what came of an opening
+  pub opens : (outcome : Result (Unit {0}) Failed) → entrance.opening ≡ NotCalled → entrance.room ≤ entrance'.room + length dir
+      → OnOk outcome ((entrance'.opening ≡ Opened dir) × (entrance.fails ≡ false))
+      → OnErr outcome (((entrance'.opening ≡ Refused dir) × (entrance.fails ≡ true)) ⊎ ((entrance'.opening ≡ NotCalled) × (entrance.room < length dir) × (entrance.room ≤ entrance'.room)))
+      → Opens (memory_of files calls plan entrance) (memory_of files calls plan' entrance') dir outcome
+  opens (Ok u) uncalled room ok err = inl (opened (ok.0 ∙ ap (λ b. opening_of true (not b) dir) (sym ok.1)) room, (λ e. cc, λ t. absurd (none (sym ok.1 ∙ t))))
+  opens (Err e) uncalled room ok err =
+      elim err [
+        | inl p ↦ inl (opened (p.0 ∙ ap (λ b. opening_of true (not b) dir) (sym p.1)) room, (λ _. p.1, λ _. refl))
+        | inr p ↦ inr (kept_out (p.0 ∙ sym uncalled) p.1 p.2, refl)
+      ]

@@ -7,3 +7,4 @@ pub mod Step
 pub mod CallRecord
 pub mod Memory
 pub mod Torn
+pub mod Folder

@@ -1,12 +1,12 @@
 -- A home in memory.
-use Rattle.std.specs.Prelude.{◌≡◌, ◌⊎◌, ◌↔◌, ℕ, ◌+◌, ◌<◌, ◌≤◌, min, Bool, not, ◌&&◌, if◌then◌else◌, List, [], ◌∷◌, ◌++◌, Result, IsErr, IsTrue}
+use Rattle.std.specs.Prelude.{◌≡◌, ◌⊎◌, ◌↔◌, ℕ, ◌+◌, ◌<◌, ◌≤◌, min, Bool, true, not, ◌&&◌, if◌then◌else◌, List, [], ◌∷◌, ◌++◌, length, Result, IsErr, IsTrue}
 use Rattle.dk_types.specs.Faults.{COUNT_END}
 use Rattle.dk_types.specs.declared.fault.Failed.{Failed}
 use Rattle.dk_types.specs.declared.side.Side.{Side}
 use Rattle.dk_types.specs.declared.side.Side.TheVariants.{Zero, One}
 use Rattle.dk_disk.specs.Disk.{settled}
 use Rattle.dk_disk.specs.Past.{Past, now}
-use Rattle.dk_disk.specs.Opening.{Opening, Entrance}
+use Rattle.dk_disk.specs.Opening.{Opening, Entrance, opening_of}
 use Rattle.dk_disk.specs.Drive.{Files, file_of, HasPlace}
 use Rattle.dk_disk.specs.CallRecord.{Calls, HasSpare}
 use Rattle.dk_types.specs.FaultPlan.{Plan, fails_next, counted_up, after_call, after_fault}
@@ -59,14 +59,22 @@ pub record IsRefused (old new : Memory) (n : ℕ) : Type 0 where
   pub bytes : old.room.bytes ≤ new.room.bytes
   pub full : HasRoom old n → ⊥
 
--- the files, their calls and the calls that fail are what they were
-pub record KeepsCalls (old new : Memory) : Type 0 where
-  pub zero : new.zero ≡ old.zero
-  pub one : new.one ≡ old.one
-  pub calls : new.calls ≡ old.calls
-  pub failing : new.plan.failing ≡ old.plan.failing
-  pub number : new.plan.calls ≡ old.plan.calls
-  pub open_fails : new.open_fails ≡ old.open_fails
+-- the folder's name was kept, which took no more than its own room; the opening failed where it is to fail
+pub record IsOpened (old new : Memory) (dir : List ℕ) : Type 0 where
+  pub memory : new ≡ record { zero = old.zero; one = old.one; calls = old.calls; plan = record { failing = old.plan.failing; calls = old.plan.calls; faults = new.plan.faults }; opening = opening_of true (not old.open_fails) dir; open_fails = old.open_fails; room = new.room }
+  pub calls : old.room.calls ≤ new.room.calls
+  pub bytes : old.room.bytes ≤ new.room.bytes + length dir
+
+-- there was no room for the folder's name, which is a fault and changes nothing else
+pub record IsKeptOut (old new : Memory) (dir : List ℕ) : Type 0 where
+  pub memory : new ≡ record { zero = old.zero; one = old.one; calls = old.calls; plan = record { failing = old.plan.failing; calls = old.plan.calls; faults = new.plan.faults }; opening = old.opening; open_fails = old.open_fails; room = new.room }
+  pub calls : old.room.calls ≤ new.room.calls
+  pub bytes : old.room.bytes ≤ new.room.bytes
+  pub full : old.room.bytes < length dir
+
+-- an opening fails where that is asked for, or for want of room
+abbrev pub Opens : Memory → Memory → List ℕ → Result (Unit {0}) Failed → Type 0
+Opens old new dir result = (IsOpened old new dir × (IsErr result ↔ IsTrue old.open_fails)) ⊎ (IsKeptOut old new dir × IsErr result)
 
 -- no less room, and nothing else
 pub record IsRoomy (old new : Memory) : Type 0 where

@@ -1,5 +1,5 @@
 //! The opening of a home in memory.
-ghost use Rattle.std.specs.Prelude.{◌≡◌, ◌⊎◌, ◌<◌, ◌≤◌, length, true, false, OnOk, OnErr};
+ghost use Rattle.std.specs.Prelude.{◌≡◌, ◌⊎◌, ◌+◌, ◌<◌, ◌≤◌, length, true, false, OnOk, OnErr};
 ghost use Rattle.dk_disk.specs.Opening.{NotCalled, Refused, Opened};
 
 use dk_types::{Failed, NoMemory};
@@ -54,8 +54,9 @@ impl Entrance {
     pub(crate) fn enter(&mut self, dir: &str) -> Result<(), Failed>
         requires { self.old.opening ≡ NotCalled }
         ensures opened { OnOk result ((self.new.opening ≡ Opened dir.now) × (self.old.fails ≡ false)) }
-        ensures refused { OnErr result (((self.new.opening ≡ Refused dir.now) × (self.old.fails ≡ true)) ⊎ ((self.new.opening ≡ NotCalled) × (self.old.room < length dir.now))) }
+        ensures refused { OnErr result (((self.new.opening ≡ Refused dir.now) × (self.old.fails ≡ true)) ⊎ ((self.new.opening ≡ NotCalled) × (self.old.room < length dir.now) × (self.old.room ≤ self.new.room))) }
         ensures fails { self.new.fails ≡ self.old.fails }
+        ensures room { self.old.room ≤ self.new.room + length dir.now }
     {
         self.dir.clear();
         if self.dir.push_str(dir).is_err() {

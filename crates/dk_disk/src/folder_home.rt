@@ -2,10 +2,11 @@
 //!
 //! It makes one call of the system for each call, and asks for the length of a file once. It tells nothing of
 //! content: what a system call gives or keeps is trusted.
-ghost use Rattle.std.specs.Prelude.{◌≡◌, ◌≤◌, [], string_bytes, is_some, false, MatchResult, OnOk, OnErr};
+ghost use Rattle.std.specs.Prelude.{◌≡◌, ◌⊎◌, ◌≤◌, [], None, string_bytes, is_some, is_ok, true, false, IsErr, IsTrue, OnOk, OnErr};
 ghost use Rattle.dk_types.specs.Faults.{HasRisen, COUNT_END};
 ghost use Rattle.dk_disk.specs.Disk.{settled};
-ghost use Rattle.dk_disk.specs.Opening.{NotCalled, opening_of};
+ghost use Rattle.dk_disk.specs.Folder.{known_of};
+ghost use Rattle.dk_disk.specs.Opening.{NotCalled, Refused, Opened, IsOpen, opening_of};
 
 use crate::home::Home;
 use dk_types::{Failed, FaultCount, Side};
@@ -41,14 +42,18 @@ struct Lengths {
 }
 
 impl Lengths {
-    fn known(&self, side: Side) -> Option<u64> {
+    fn known(&self, side: Side) -> Option<u64>
+        ensures { result ≡ known_of self.now side }
+    {
         match side {
             Side::Zero => self.zero,
             Side::One => self.one,
         }
     }
 
-    fn set(&mut self, side: Side, length: Option<u64>) {
+    fn set(&mut self, side: Side, length: Option<u64>)
+        ensures { known_of self.new side ≡ length }
+    {
         match side {
             Side::Zero => self.zero = length,
             Side::One => self.one = length,
@@ -98,7 +103,9 @@ impl<R: Files<File = File> + Drop> FolderHome<R> {
         }
     }
 
-    fn settle(&self, side: Side) -> io::Result<()> {
+    fn settle(&self, side: Side) -> io::Result<()>
+        ensures { IsTrue self.now.has_lost → IsErr result }
+    {
         if self.has_lost {
             return Err(io::ErrorKind::InvalidData.into());
         }
@@ -193,11 +200,31 @@ fn open_file<R: Files<File = File>>(system: &R, path: &str) -> io::Result<File> 
         .open(system, path)
 }
 
+/// Counts a fault where the system refused a call on a file, and forgets its length then.
+fn told<T>(
+    count: &mut FaultCount,
+    lengths: &mut Lengths,
+    side: Side,
+    outcome: io::Result<T>,
+) -> Result<T, Failed>
+    ensures forgets { OnErr result (known_of lengths.new side ≡ None) }
+    ensures steady { OnOk result (count.new.count ≡ count.old.count) }
+    ensures cause { OnErr result (HasRisen count.old.count count.new.count) }
+    ensures most { count.new.count ≤ COUNT_END }
+    ensures same { is_ok result ≡ is_ok outcome }
+{
+    if outcome.is_err() {
+        lengths.set(side, None);
+    }
+    counted(count, outcome)
+}
+
 /// Counts a fault where the system refused.
 fn counted<T>(count: &mut FaultCount, outcome: io::Result<T>) -> Result<T, Failed>
     ensures steady { OnOk result (count.new.count ≡ count.old.count) }
     ensures cause { OnErr result (HasRisen count.old.count count.new.count) }
     ensures most { count.new.count ≤ COUNT_END }
+    ensures same { is_ok result ≡ is_ok outcome }
 {
     match outcome {
         Ok(answer) => Ok(answer),
@@ -233,34 +260,85 @@ impl<R: Files<File = File> + Drop> Home for FolderHome<R> {
         Ok(())
     }
 
-    fn len(&mut self, side: Side) -> Result<u64, Failed> {
+    fn len(&mut self, side: Side) -> Result<u64, Failed>
+        requires { IsOpen (opening_of self.old.was_called (is_some self.old.pair) (string_bytes self.old.dir)) }
+        ensures opening { opening_of self.new.was_called (is_some self.new.pair) (string_bytes self.new.dir) ≡ opening_of self.old.was_called (is_some self.old.pair) (string_bytes self.old.dir) }
+        ensures steady { OnOk result (self.new.faults.count ≡ self.old.faults.count) }
+        ensures cause { OnErr result (HasRisen self.old.faults.count self.new.faults.count) }
+        ensures most { self.new.faults.count ≤ COUNT_END }
+
+        // What it does beyond what each home does.
+        ensures forgets { OnErr result (known_of self.new.lengths side ≡ None) }
+        ensures lost { self.new.has_lost ≡ self.old.has_lost }
+    {
         let lengths = &mut self.lengths;
         let outcome = opened(&self.pair).and_then(|pair| lengths.of(pair, side));
-        counted(&mut self.faults, outcome)
+        told(&mut self.faults, &mut self.lengths, side, outcome)
     }
 
-    fn read(&mut self, side: Side, at: u64, into: &mut [u8]) -> Result<(), Failed> {
+    fn read(&mut self, side: Side, at: u64, into: &mut [u8]) -> Result<(), Failed>
+        requires { IsOpen (opening_of self.old.was_called (is_some self.old.pair) (string_bytes self.old.dir)) }
+        ensures opening { opening_of self.new.was_called (is_some self.new.pair) (string_bytes self.new.dir) ≡ opening_of self.old.was_called (is_some self.old.pair) (string_bytes self.old.dir) }
+        ensures steady { OnOk result (self.new.faults.count ≡ self.old.faults.count) }
+        ensures cause { OnErr result (HasRisen self.old.faults.count self.new.faults.count) }
+        ensures most { self.new.faults.count ≤ COUNT_END }
+
+        // What it does beyond what each home does.
+        ensures forgets { OnErr result (known_of self.new.lengths side ≡ None) }
+        ensures lost { self.new.has_lost ≡ self.old.has_lost }
+    {
         let lengths = &mut self.lengths;
         let outcome = opened(&self.pair).and_then(|pair| fill(pair, lengths, side, at, into));
-        counted(&mut self.faults, outcome)
+        told(&mut self.faults, &mut self.lengths, side, outcome)
     }
 
-    fn write_at(&mut self, side: Side, at: u64, bytes: &[u8]) -> Result<(), Failed> {
+    fn write_at(&mut self, side: Side, at: u64, bytes: &[u8]) -> Result<(), Failed>
+        requires { IsOpen (opening_of self.old.was_called (is_some self.old.pair) (string_bytes self.old.dir)) }
+        ensures opening { opening_of self.new.was_called (is_some self.new.pair) (string_bytes self.new.dir) ≡ opening_of self.old.was_called (is_some self.old.pair) (string_bytes self.old.dir) }
+        ensures steady { OnOk result (self.new.faults.count ≡ self.old.faults.count) }
+        ensures cause { OnErr result (HasRisen self.old.faults.count self.new.faults.count) }
+        ensures most { self.new.faults.count ≤ COUNT_END }
+
+        // What it does beyond what each home does.
+        ensures forgets { OnErr result (known_of self.new.lengths side ≡ None) }
+        ensures lost { self.new.has_lost ≡ self.old.has_lost }
+    {
         let lengths = &mut self.lengths;
         let outcome = opened(&self.pair).and_then(|pair| put(pair, lengths, side, at, bytes));
-        counted(&mut self.faults, outcome)
+        told(&mut self.faults, &mut self.lengths, side, outcome)
     }
 
-    fn cut(&mut self, side: Side, to: u64) -> Result<(), Failed> {
+    fn cut(&mut self, side: Side, to: u64) -> Result<(), Failed>
+        requires { IsOpen (opening_of self.old.was_called (is_some self.old.pair) (string_bytes self.old.dir)) }
+        ensures opening { opening_of self.new.was_called (is_some self.new.pair) (string_bytes self.new.dir) ≡ opening_of self.old.was_called (is_some self.old.pair) (string_bytes self.old.dir) }
+        ensures steady { OnOk result (self.new.faults.count ≡ self.old.faults.count) }
+        ensures cause { OnErr result (HasRisen self.old.faults.count self.new.faults.count) }
+        ensures most { self.new.faults.count ≤ COUNT_END }
+
+        // What it does beyond what each home does.
+        ensures forgets { OnErr result (known_of self.new.lengths side ≡ None) }
+        ensures lost { self.new.has_lost ≡ self.old.has_lost }
+    {
         let lengths = &mut self.lengths;
         let outcome = opened(&self.pair).and_then(|pair| shorten(pair, lengths, side, to));
-        counted(&mut self.faults, outcome)
+        told(&mut self.faults, &mut self.lengths, side, outcome)
     }
 
-    fn sync(&mut self, side: Side) -> Result<(), Failed> {
+    fn sync(&mut self, side: Side) -> Result<(), Failed>
+        requires { IsOpen (opening_of self.old.was_called (is_some self.old.pair) (string_bytes self.old.dir)) }
+        ensures opening { opening_of self.new.was_called (is_some self.new.pair) (string_bytes self.new.dir) ≡ opening_of self.old.was_called (is_some self.old.pair) (string_bytes self.old.dir) }
+        ensures steady { OnOk result (self.new.faults.count ≡ self.old.faults.count) }
+        ensures cause { OnErr result (HasRisen self.old.faults.count self.new.faults.count) }
+        ensures most { self.new.faults.count ≤ COUNT_END }
+
+        // What it does beyond what each home does.
+        ensures forgets { OnErr result (known_of self.new.lengths side ≡ None) }
+        ensures lost { OnErr result (IsTrue self.new.has_lost) }
+        ensures again { IsTrue self.old.has_lost → IsErr result × IsTrue self.new.has_lost }
+    {
         let outcome = self.settle(side);
         self.has_lost = self.has_lost || outcome.is_err();
-        counted(&mut self.faults, outcome)
+        told(&mut self.faults, &mut self.lengths, side, outcome)
     }
 
     fn faults(&self) -> u64 {

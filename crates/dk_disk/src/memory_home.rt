@@ -8,7 +8,7 @@ ghost use Rattle.dk_types.specs.FaultPlan.{after_call, fails_next};
 ghost use Rattle.dk_disk.specs.Step.{change_of, step_size, reads_after, IsWithin};
 ghost use Rattle.dk_disk.specs.Record.{Write, Cut, Sync, made, failed};
 ghost use Rattle.dk_disk.specs.Past.{now, other_side, Elapses, Stays, Becomes, MayBecome, MayLeave};
-ghost use Rattle.dk_disk.specs.Memory.{past_of, next_call, looked, Changes, IsReady, IsRoomy, KeepsCalls};
+ghost use Rattle.dk_disk.specs.Memory.{past_of, next_call, looked, Changes, IsReady, IsRoomy, Opens};
 ghost use Rattle.dk_disk.specs.Torn.{IsTorn, AreTorn};
 ghost use Rattle.dk_disk.specs.declared.torn.CrashRefused.TheVariants.{NoSuchCall, NoMemory as WantOfMemory};
 ghost use Rattle.dk_disk.specs.Drive.{AreReserved, HasPlace, Takes, file_of};
@@ -204,9 +204,7 @@ impl Home for MemoryHome {
         ensures most { self.new.plan.faults ≤ COUNT_END }
 
         // What it does beyond what each home does.
-        ensures fails { IsTrue self.old.open_fails → IsErr result }
-        ensures room { length dir.now ≤ self.old.room.bytes → OnErr result (IsTrue self.old.open_fails) }
-        ensures kept { KeepsCalls self.old self.new }
+        ensures opens { Opens self.old self.new dir.now result }
     {
         let outcome = self.entrance.enter(dir);
         self.plan.counted(outcome)

@@ -3,3 +3,4 @@ pub mod MemorySource
 pub mod MemorySink
 pub mod Links
 pub mod Listening
+pub mod Peers

@@ -1,5 +1,11 @@
 //! A link over bytes in memory.
-ghost use Rattle.std.specs.Prelude.{◌≡◌, ◌<◌, ◌≤◌, Some, true, false};
+ghost use Rattle.std.specs.Prelude.{◌≡◌, ◌<◌, ◌≤◌, ◌⊎◌, ◌↔◌, ◌-◌, ◌^◌, min, length, Some, true, false, IsErr, IsTrue, IfOk, OnErr};
+ghost use Rattle.futures.specs.Poll.{IfReady, OnPending};
+ghost use Rattle.futures.specs.Task.{IsArmed, Keeps};
+ghost use Rattle.dk_types.specs.Faults.{COUNT_END};
+ghost use Rattle.dk_types.specs.FaultPlan.{fails_next};
+ghost use Rattle.dk_edge.specs.Links.{PollTakes, PollPuts, Counts};
+ghost use Rattle.dk_edge.specs.MemorySource.{given_count};
 
 use crate::link::Link;
 use crate::memory_sink::MemorySink;
@@ -27,6 +33,7 @@ impl MemoryLink {
     pub fn new(source: MemorySource, sink: MemorySink) -> MemoryLink
         ensures source { result.source ≡ source }
         ensures sink { result.sink ≡ sink }
+        ensures piece { result.piece ≡ 2 ^ 64 - 1 }
         ensures ready { result.waits ≡ false }
     {
         MemoryLink {
@@ -85,7 +92,22 @@ impl Link for MemoryLink {
         &mut self,
         context: &mut Context<'_>,
         into: &mut [u8],
-    ) -> Poll<Result<usize, Failed>> {
+    ) -> Poll<Result<usize, Failed>>
+        requires { 0 < length into.old }
+        ensures bytes { PollTakes (Some self.old.source.left) (Some self.new.source.left) into.new result }
+        ensures count { Counts self.old.source.plan.faults self.new.source.plan.faults result }
+        ensures most { IfReady result (λ _. self.new.source.plan.faults ≤ COUNT_END) }
+        ensures put { Some self.new.sink.contents ≡ Some self.old.sink.contents }
+        ensures put_count { self.new.sink.plan.faults ≡ self.old.sink.plan.faults }
+        ensures armed { OnPending result (IsArmed context.new) }
+        ensures kept { Keeps context.old context.new }
+
+        // What it does beyond what each link does.
+        ensures waits { OnPending result ((self.old.waits ≡ true) × (self.old.take_is_due ≡ false) × (self.new.take_is_due ≡ true)) }
+        ensures fails { IfReady result (λ r. IsErr r ↔ IsTrue (fails_next self.old.source.plan)) }
+        ensures amount { IfReady result (λ r. IfOk r (λ n. n ≡ given_count self.old.source (length into.old))) }
+        ensures same { (self.new.waits ≡ self.old.waits) × (self.new.piece ≡ self.old.piece) × (self.new.sink ≡ self.old.sink) × (self.new.put_is_due ≡ self.old.put_is_due) }
+    {
         if self.waits && !self.take_is_due {
             self.take_is_due = true;
             return context.yield_now();
@@ -94,7 +116,22 @@ impl Link for MemoryLink {
         Poll::Ready(self.source.take(into))
     }
 
-    fn poll_put(&mut self, context: &mut Context<'_>, bytes: &[u8]) -> Poll<Result<usize, Failed>> {
+    fn poll_put(&mut self, context: &mut Context<'_>, bytes: &[u8]) -> Poll<Result<usize, Failed>>
+        ensures bytes { PollPuts (Some self.old.sink.contents) (Some self.new.sink.contents) bytes.now result }
+        ensures count { Counts self.old.sink.plan.faults self.new.sink.plan.faults result }
+        ensures most { IfReady result (λ _. self.new.sink.plan.faults ≤ COUNT_END) }
+        ensures take { Some self.new.source.left ≡ Some self.old.source.left }
+        ensures take_count { self.new.source.plan.faults ≡ self.old.source.plan.faults }
+        ensures armed { OnPending result (IsArmed context.new) }
+        ensures kept { Keeps context.old context.new }
+
+        // What it does beyond what each link does.
+        ensures waits { OnPending result ((self.old.waits ≡ true) × (self.old.put_is_due ≡ false) × (self.new.put_is_due ≡ true)) }
+        ensures fails { IfReady result (λ r. IsTrue (fails_next self.old.sink.plan) → IsErr r) }
+        ensures refused { IfReady result (λ r. OnErr r (IsTrue (fails_next self.old.sink.plan) ⊎ (self.old.sink.room < min (length bytes.now) self.old.piece))) }
+        ensures amount { IfReady result (λ r. IfOk r (λ n. n ≡ min (length bytes.now) self.old.piece)) }
+        ensures same { (self.new.waits ≡ self.old.waits) × (self.new.piece ≡ self.old.piece) × (self.new.source ≡ self.old.source) × (self.new.take_is_due ≡ self.old.take_is_due) }
+    {
         if self.waits && !self.put_is_due {
             self.put_is_due = true;
             return context.yield_now();

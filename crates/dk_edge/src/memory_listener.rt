@@ -1,7 +1,10 @@
 //! A listener over peers in memory.
-ghost use Rattle.std.specs.Prelude.{◌≡◌, ◌≤◌, false, IfSome};
+ghost use Rattle.std.specs.Prelude.{◌≡◌, ◌≤◌, ◌⊎◌, ◌↔◌, [], false, option_map, IsErr, IsTrue, IfOk, IfSome, IfNone, OnOk, OnErr};
+ghost use Rattle.dk_types.specs.Faults.{HasRisen, COUNT_END};
+ghost use Rattle.dk_types.specs.FaultPlan.{fails_next, after_call};
 ghost use Rattle.dk_types.specs.declared.limits.TheConstants.{NUMBERS_END};
-ghost use Rattle.dk_edge.specs.Listening.{after_accept, listening_at};
+ghost use Rattle.dk_edge.specs.Listening.{IsBound, after_accept, listening_at};
+ghost use Rattle.dk_edge.specs.Peers.{ComesNext};
 
 use crate::listener::{Binding, Listener};
 use crate::memory_link::MemoryLink;
@@ -37,6 +40,7 @@ pub struct MemoryListener {
 
 impl MemoryListener {
     pub fn new(alloc: Global, peers: Vec<Peer>, failing: Vec<u64>) -> MemoryListener
+        ensures peers { result.peers.items ≡ peers.items }
         ensures binding { result.binding ≡ Binding.NotCalled }
         ensures given { result.given ≡ 0 }
         ensures ended { result.ended ≡ false }
@@ -57,6 +61,8 @@ impl MemoryListener {
         ensures listening { listening_at self.new.binding self.new.given self.new.ended ≡ after_accept result (listening_at self.old.binding self.old.given self.old.ended) }
         ensures plan { self.new.plan ≡ self.old.plan }
         ensures fresh { IfSome result (λ p. (p.0.plan.faults ≡ 0) × (p.1.plan.faults ≡ 0)) }
+        ensures next { ComesNext self.old.peers.items self.new.peers.items result }
+        ensures last { IfNone result ((self.old.peers.items ≡ []) ⊎ (self.old.given ≡ NUMBERS_END)) }
     {
         if self.given == NUMBERS_END {
             self.ended = true;
@@ -101,12 +107,42 @@ impl Listener for MemoryListener {
         }
     }
 
-    fn accept(&mut self) -> Result<Option<(MemorySource, MemorySink)>, Failed> {
+    fn accept(&mut self) -> Result<Option<(MemorySource, MemorySink)>, Failed>
+        requires { IsBound (listening_at self.old.binding self.old.given self.old.ended) }
+        ensures given { IfOk result (λ link. listening_at self.new.binding self.new.given self.new.ended ≡ after_accept link (listening_at self.old.binding self.old.given self.old.ended)) }
+        ensures fresh { IfOk result (λ link. IfSome link (λ p. (p.0.plan.faults ≡ 0) × (p.1.plan.faults ≡ 0))) }
+        ensures refused { OnErr result (listening_at self.new.binding self.new.given self.new.ended ≡ listening_at self.old.binding self.old.given self.old.ended) }
+        ensures steady { OnOk result (self.new.plan.faults ≡ self.old.plan.faults) }
+        ensures cause { OnErr result (HasRisen self.old.plan.faults self.new.plan.faults) }
+        ensures most { self.new.plan.faults ≤ COUNT_END }
+
+        // What it does beyond what each listener does.
+        ensures next { IfOk result (λ link. ComesNext self.old.peers.items self.new.peers.items link) }
+        ensures last { IfOk result (λ link. IfNone link ((self.old.peers.items ≡ []) ⊎ (self.old.given ≡ NUMBERS_END))) }
+        ensures kept { OnErr result (self.new.peers.items ≡ self.old.peers.items) }
+        ensures fails { IsErr result ↔ IsTrue (fails_next self.old.plan) }
+        ensures plan { self.new.plan ≡ after_call self.old.plan }
+    {
         self.plan.call()?;
         Ok(self.next())
     }
 
-    fn accept_link(&mut self) -> Result<Option<MemoryLink>, Failed> {
+    fn accept_link(&mut self) -> Result<Option<MemoryLink>, Failed>
+        requires { IsBound (listening_at self.old.binding self.old.given self.old.ended) }
+        ensures given { IfOk result (λ link. listening_at self.new.binding self.new.given self.new.ended ≡ after_accept link (listening_at self.old.binding self.old.given self.old.ended)) }
+        ensures fresh { IfOk result (λ link. IfSome link (λ l. (l.source.plan.faults ≡ 0) × (l.sink.plan.faults ≡ 0))) }
+        ensures refused { OnErr result (listening_at self.new.binding self.new.given self.new.ended ≡ listening_at self.old.binding self.old.given self.old.ended) }
+        ensures steady { OnOk result (self.new.plan.faults ≡ self.old.plan.faults) }
+        ensures cause { OnErr result (HasRisen self.old.plan.faults self.new.plan.faults) }
+        ensures most { self.new.plan.faults ≤ COUNT_END }
+
+        // What it does beyond what each listener does.
+        ensures next { IfOk result (λ link. ComesNext self.old.peers.items self.new.peers.items (option_map (λ l. (l.source, l.sink)) link)) }
+        ensures last { IfOk result (λ link. IfNone link ((self.old.peers.items ≡ []) ⊎ (self.old.given ≡ NUMBERS_END))) }
+        ensures kept { OnErr result (self.new.peers.items ≡ self.old.peers.items) }
+        ensures fails { IsErr result ↔ IsTrue (fails_next self.old.plan) }
+        ensures plan { self.new.plan ≡ after_call self.old.plan }
+    {
         self.plan.call()?;
         Ok(match self.next() {
             Some((source, sink)) => Some(MemoryLink::new(source, sink)),
