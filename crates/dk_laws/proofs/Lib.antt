@@ -18,3 +18,4 @@ pub mod SoundOpenings
 pub mod SoundHistories
 pub mod ShortBodies
 pub mod Lawfuls
+pub mod Answered
