@@ -20,3 +20,4 @@ pub mod ShortBodies
 pub mod Lawfuls
 pub mod LaterOn
 pub mod Between
+pub mod Answered
