@@ -1,6 +1,6 @@
 -- What holds at a pass's front holds as the history goes on.
-use Rattle.std.proofs.Common.{◌≡◌, ◌≢◌, ◌<◌, Bool, true, false, ◌||◌, Some, List, [], ◌∷◌, ◌++◌, refl, sym, ap, subst, ◌∙◌, arith, append_assoc}
-use Rattle.std.specs.List.{AllByRecursion, list_any}
+use Rattle.std.proofs.Common.{◌≡◌, ◌≢◌, ℕ, ◌<◌, ◌≤◌, Bool, true, false, ◌||◌, if◌then◌else◌, Some, List, [], ◌∷◌, ◌++◌, length, refl, sym, ap, subst, ◌∙◌, arith, append_assoc}
+use Rattle.std.specs.List.{AllByRecursion, list_any, filter}
 use Rattle.std.specs.FinMap.{get, remove}
 use Rattle.std.proofs.lemmas.List.{append-nil}
 use Rattle.dk_types.specs.declared.number.RunNo.{RunNo}
@@ -11,17 +11,20 @@ use Rattle.dk_types.specs.declared.event.Event.TheVariants as event
 use Rattle.dk_types.specs.declared.event.ConnectReply.TheVariants as connected
 use Rattle.dk_types.specs.declared.event.PostReply.TheVariants as posted
 use Rattle.dk_types.specs.declared.event.ClaimReply.TheVariants as claimed
+use Rattle.dk_types.specs.declared.limits.TheConstants.{MOMENT_MOST_MS}
 use Rattle.dk_model.specs.Worlds.{World, Claim}
 use Rattle.dk_model.specs.Events.{Meaning, Happens, outbox}
 use Rattle.dk_model.specs.Histories.{Leads}
-use Rattle.dk_model.specs.Lawful.{IsWithinLimits}
-use Rattle.dk_model.specs.Legal.{opening_of, pass_of}
+use Rattle.dk_model.specs.Lawful.{AreLawful, IsJob, IsWithinLimits}
+use Rattle.dk_model.specs.Legal.{Opened, opening_of, world_after, pass_of, IsFront, IsLegal}
 use Rattle.dk_model.specs.Sights.{grants, IsReadAt, IsHonestRead}
 use Rattle.dk_laws.specs.FrontsLaw.{FrontsAreLegal, ClaimsStandOn, HonestRunsStayHonest, HandedFromTheFirst}
+use Rattle.dk_laws.proofs.ClaimedOnce.{claimed_once}
 use Rattle.dk_laws.proofs.Handed.{messages_handed}
 use Rattle.dk_laws.proofs.NumberedMaps.{unequal, one_run, run-insert, run-remove}
 use Rattle.dk_laws.proofs.Numbers.{AreBelow, claimed_below, happens_below, leads_below, opening_below}
 use Rattle.dk_laws.proofs.OneWorld.{events_lead, parted}
+use Rattle.dk_laws.proofs.SoundHistories.{history_sound}
 
 all_first : {A : Type 0} (P : A → Type 0) (xs ys : List A) → AllByRecursion P (xs ++ ys) → AllByRecursion P xs
 all_first P [] ys h = tt
@@ -66,6 +69,22 @@ held_by_others rules w [] after run claim below held apart h = ap (λ (x : World
 held_by_others rules w (e ∷ events) after run claim below held apart h =
     held_by_others rules h.0 events after run claim (happens_below rules w e h.0 below h.1) (still_held rules w run claim held (claimed_below w run claim below held) e h.0 h.1 apart.0) apart.1 h.2
 
+all_both : {A : Type 0} (P : A → Type 0) (xs ys : List A) → AllByRecursion P xs → AllByRecursion P ys → AllByRecursion P (xs ++ ys)
+all_both P [] ys first second = second
+all_both P (x ∷ xs) ys first second = (first.0, all_both P xs ys first.1 second)
+
+-- a pass that has seen all has seen a front
+pub front_self : (pass : ℕ) (log : List Event) → IsFront pass log log
+front_self pass log = record { later = []; all = sym (append-nil log); others = tt }
+
+-- a front of a front is one
+pub front_on : (pass : ℕ) (front mid log : List Event) → IsFront pass front mid → IsFront pass mid log → IsFront pass front log
+front_on pass front mid log f g = record {
+  later = f.later ++ g.later;
+  all = g.all ∙ ap (λ es. es ++ g.later) f.all ∙ append_assoc front f.later g.later;
+  others = all_both (λ e. pass_of e ≢ pass) f.later g.later f.others g.others;
+}
+
 pub claims_stand : ClaimsStandOn
 claims_stand o front log run claim f legal held =
     let w = opening_of o in
@@ -105,6 +124,29 @@ granted_on run front later h = any_more (grants run) front later h
 -- what is read where the run was granted is honest there
 pub honest_here : (rules : Meaning) (w : World) (front : List Event) (run : RunNo) (item : Item) (read : Read) → list_any (grants run) front ≡ true → IsReadAt rules w front item read → IsHonestRead rules w front run item read
 honest_here rules w front run item read g at = record { earlier = front; later = []; all = sym (append-nil front); granted = g; was = at }
+
+-- what one event passes some event passes
+any_once : {A : Type 0} (p : A → Bool) (xs : List A) → 0 < length (filter p xs) → list_any p xs ≡ true
+any_once p [] h = absurd (omega (arith, h))
+any_once p (x ∷ xs) h = elim (p x) as (λ b. p x ≡ b → 0 < length (if b then x ∷ filter p xs else filter p xs) → (b || list_any p xs) ≡ true) [
+  | true ↦ λ _ _. refl
+  | false ↦ λ _ g. any_once p xs g
+] refl h
+
+-- a claim that stands in a legal history
+module _ (o : Opened) (events : List Event) (legal : IsLegal o events) (run : RunNo) (claim : Claim) (stands : get (world_after o events).claims run ≡ Some claim) where
+  held : get legal.history.last.claims run ≡ Some claim
+  held = ap (λ (x : World). get x.claims run) (events_lead o.rules (opening_of o) events legal.history.last legal.history.leads) ∙ stands
+
+  -- it was granted there
+  pub granted_there : list_any (grants run) events ≡ true
+  granted_there =
+      let once = (claimed_once o.rules o.durable o.budget run claim events legal.history.last held legal.history.leads).granted in any_once (grants run) events (omega (arith, once))
+
+  -- its job and its moment are within their limits
+  pub claimed_within : AreLawful o.rules → IsJob claim.job × (claim.at ≤ MOMENT_MOST_MS)
+  claimed_within lawful =
+      let sound = (history_sound o.rules o.durable o.budget events legal.history.last lawful legal.valid legal.within legal.history.leads).claims run claim held in (sound.job, sound.moment)
 
 pub handed_first : HandedFromTheFirst
 handed_first o events conn legal = (outbox legal.history.last conn, sym (messages_handed o.rules o.durable o.budget events legal.history.last legal.history.leads conn))
