@@ -6,6 +6,7 @@ mod channels;
 mod cores;
 mod disk;
 mod filler;
+mod frames;
 mod inspecting;
 mod stores;
 mod tasks;
@@ -15,6 +16,7 @@ use channels::{Doing, on_channel};
 use cores::{CoreWork, on_core};
 use disk::{folder_appends, memory_calls};
 use dk_turn_books::{empty_turns_anew, locked_adds, tally_in_threads};
+use frames::Feeding;
 use inspecting::inspect_objects;
 use std::env;
 use std::fs::File;
@@ -49,12 +51,14 @@ enum Subcommand {
     MemoryCalls,
     /// The text of a world of so many objects. Its nanoseconds are told.
     InspectObjects,
+    /// A client's stream of frames of so many bytes. Its nanoseconds are told.
+    Frames(Feeding),
 }
 
 fn main(rt: HostRuntime) -> ExitCode {
     let Some((subcommand, times)) = asked(&rt) else {
         let _ = rt.eprintln(
-            "dk_bench: locked-adds|empty-turns|tally|STORE-CALL|txn-calls|channel-sends|channel-join|channel-leave|core-tasks|core-counters|core-sessions|folder-appends|memory-calls|inspect-objects TIMES",
+            "dk_bench: locked-adds|empty-turns|tally|STORE-CALL|txn-calls|channel-sends|channel-join|channel-leave|core-tasks|core-counters|core-sessions|folder-appends|memory-calls|inspect-objects|frames-in-pieces|frames-by-byte TIMES",
         );
         return ExitCode::from(2);
     };
@@ -87,7 +91,8 @@ fn named(word: &str) -> Option<Subcommand> {
         _ => stores::named(word)
             .map(Subcommand::Store)
             .or(channels::named(word).map(Subcommand::Channel))
-            .or(cores::named(word).map(Subcommand::Core)),
+            .or(cores::named(word).map(Subcommand::Core))
+            .or(frames::named(word).map(Subcommand::Frames)),
     }
 }
 
@@ -107,5 +112,6 @@ fn run<R: AllocGlobal + Threads + Wait + Sync + Clock + Files<File = File> + Clo
         Subcommand::FolderAppends => folder_appends(rt.alloc(), rt.clone().ok()?, times),
         Subcommand::MemoryCalls => memory_calls(rt.alloc(), times),
         Subcommand::InspectObjects => inspect_objects(rt, times),
+        Subcommand::Frames(feeding) => frames::decode(rt, feeding, times),
     }
 }

@@ -10,7 +10,7 @@ use std::alloc::Global;
 use std::fs::{self, File};
 use std::rt::Files;
 
-/// `folder calls memory`, `folder calls disk DIR`, `folder keeps DIR`, `folder file PATH`, `folder remove DIR`.
+/// `folder memory`, `folder calls DIR`, `folder keeps DIR`, `folder grows DIR`, `folder file PATH`, `folder remove DIR`.
 pub fn answer<R: Files<File = File> + AllocGlobal + Clone + Drop>(
     alloc: Global,
     rt: &R,
@@ -20,6 +20,7 @@ pub fn answer<R: Files<File = File> + AllocGlobal + Clone + Drop>(
         "memory" => in_memory(alloc),
         "calls" => in_folder(alloc, rt.clone().ok()?, call.word()?),
         "keeps" => kept(alloc, rt.clone().ok()?, call.rest()),
+        "grows" => grown(alloc, rt, call.word()?),
         "file" => file(alloc, rt, call.word()?),
         "remove" => {
             let _ = fs::remove_dir_all(rt, call.word()?);
@@ -135,4 +136,24 @@ fn kept<R: Files<File = File> + Drop>(alloc: Global, system: R, dir: &str) -> Op
         home.faults()
     )
     .ok()
+}
+
+/// Writes three bytes, behind which another writer puts three more: whether a read of all six is answered, whether a second one
+/// is, and the faults.
+fn grown<R: Files<File = File> + AllocGlobal + Clone + Drop>(
+    alloc: Global,
+    rt: &R,
+    dir: &str,
+) -> Option<String> {
+    let mut home = FolderHome::new(alloc, rt.clone().ok()?);
+    if home.open(dir).is_err() {
+        return text(alloc, "not opened");
+    }
+    append(&mut home, Side::Zero, b"abc").ok()?;
+    let path = format!(in alloc; "{dir}/store.0").ok()?;
+    fs::write(rt, path.as_str(), b"abcdef").ok()?;
+    let mut into = [0u8; 6];
+    let first = home.read(Side::Zero, 0, &mut into).is_ok();
+    let second = home.read(Side::Zero, 0, &mut into).is_ok();
+    format!(in alloc; "{first} then {second}, {} faults", home.faults()).ok()
 }
