@@ -82,9 +82,28 @@ commit 2 run 3 ok
 claim 4 at 0 login alice
 commit 3 run 4 ok
 to 1 alice accepted
-to 2 alice refused
-to 2 alice close
+to 1 alice close
+to 2 alice accepted
 done commits 3 tasks 0
+";
+
+const AGAIN: &str = "phase 0
+claim 0 at 0 initialize
+commit 1 run 0 ok
+phase 1
+open 1 alice
+open 2 alice
+claim 3 at 0 login alice
+commit 2 run 3 ok
+claim 4 at 0 login alice
+commit 3 run 4 ok
+claim 5 at 0 message alice
+commit 4 run 5 ok
+to 1 alice accepted
+to 1 alice close
+to 2 alice accepted
+to 2 alice message You are in a plain room.\\x0aOn the floor: a shiny sword.\\x0a
+done commits 4 tasks 0
 ";
 
 const PAIR: &str = "phase 0
@@ -187,11 +206,11 @@ fn scripts_are_answered_as_worked(rt: HostRuntime) -> Result<(), Fail> {
             SWORD,
         ),
         ("# twice\nlogin alice\n\nlogin alice\n", Status::Ok, TWICE),
-        // What waits at a login that is refused is dropped.
+        // A name means who logged in last.
         (
             "login alice\nlogin alice\nsend alice look\n",
             Status::Ok,
-            TWICE,
+            AGAIN,
         ),
         (
             "login alice\nlogin bob\nsend alice look\n",

@@ -4,7 +4,7 @@ use Rattle.std.proofs.lemmas.List.Elements.{All-cons}
 use Rattle.dk_types.specs.declared.job.Job.{Job}
 use Rattle.dk_types.specs.declared.job.Job.TheVariants as job
 use Rattle.dk_types.specs.declared.limits.TheConstants.{DELAY_MOST_MS}
-use Rattle.dk_model.specs.Lawful.{IsJob, AreLawful}
+use Rattle.dk_model.specs.Lawful.{IsForGame, AreLawful}
 use Rattle.dk_model.proofs.Acts.{Anything, IsLawful, lawful_rules, lawful_then, lawful_done}
 use Rattle.dk_model.proofs.Operations.{lawful_create, lawful_schedule, lawful_schedule_periodic}
 use Rattle.dk_model.proofs.Bytes.{bytes_nil}
@@ -25,7 +25,7 @@ lawful_fill (suc n) = lawful_then (lawful_create 2 [] (λ _. (lit< tt, bytes_nil
 lawful_put_off : {Needs : Type 0} → IsLawful Needs Anything put_off
 lawful_put_off = lawful_then (lawful_schedule 1 [] DELAY_MOST_MS (λ _. (lit< tt, bytes_nil))) (λ _. lawful_done tt)
 
-lawful_job : (objects : ℕ) (j : Job) → IsLawful (IsJob j) Anything (filler_rules objects j)
+lawful_job : (objects : ℕ) (j : Job) → IsLawful (IsForGame j) Anything (filler_rules objects j)
 lawful_job objects job.Initialize = lawful_begin
 lawful_job objects (job.Login conn name) = lawful_then (lawful_fill objects) (λ _. lawful_put_off)
 lawful_job objects (job.Task key due period kind arg) = lawful_raise arg

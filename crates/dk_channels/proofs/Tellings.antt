@@ -29,7 +29,7 @@ use Rattle.dk_txn.proofs.Kit.{agreed}
 use Rattle.dk_refs.specs.Telling.{TellsKind, TellsKindOf, TellsLengthIn, TellsLengthOf, kind_under, value_under}
 use Rattle.dk_refs.proofs.Calls.{passed}
 use Rattle.dk_refs.proofs.Tellings.{Avoids, answers, refuses, give_avoids, refuse_avoids, if_avoids, then_avoids, found_as_avoids, save_avoids, kind_found, current_same}
-use Rattle.dk_refs.proofs.Standing.{stands, is_other}
+use Rattle.dk_refs.proofs.Standing.{stands, is_other, own_stands}
 use Rattle.dk_channels.specs.Channels.{recorded}
 use Rattle.dk_channels.specs.BothRecords.{other_kind, kind_of_records, of_both, records_after}
 use Rattle.dk_txn.specs.Sights.{Sights}
@@ -76,19 +76,6 @@ first_is (Some j) second k e other = by (j == CHANNEL_KIND) refl
 
 pub second_is : (o second : Option ℕ) → o ≡ Some CHANNEL_KIND → other_kind o second ≡ second
 second_is o second e = ap (λ (o : Option ℕ). other_kind o second) e
-
--- a session's own record stands under its name
-own_stands : (session : Session) (y : ObjectId × SessionRecord) (s t : Run) → own_record session s ≡ (Ok y, t) → session_under session.name s ≡ (Ok y, t)
-unfolding and_then give
-own_stands session y s t e = by (session_under session.name s) refl e
-  where
-    by : (q : Result (ObjectId × SessionRecord) AppFault × Run) → session_under session.name s ≡ q → carry_on q.0 (λ r. if nat_eq r.1.conn.0 session.conn.0 then give (Ok r) else refuse 1) q.1 ≡ (Ok y, t) → session_under session.name s ≡ (Ok y, t)
-    by (Err fault, u) is h = let told : ◌≡◌ {A = Result (ObjectId × SessionRecord) AppFault} (Err fault) (Ok y) = ap (λ r. r.0) h in absurd cc
-    by (Ok r, u) is h = is ∙ at (nat_eq r.1.conn.0 session.conn.0) h
-      where
-        at : (b : Bool) → (if b then give (Ok r) else refuse 1) u ≡ (Ok y, t) → ◌≡◌ {A = Result (ObjectId × SessionRecord) AppFault × Run} (Ok r, u) (Ok y, t)
-        at true h = h
-        at false h = let told : ◌≡◌ {A = Result (ObjectId × SessionRecord) AppFault} (Err (Refused 1)) (Ok y) = ap (λ r. r.0) h in absurd cc
 
 -- what a refusal tells of a kind is told so too
 kinds_as : (t : Logged) (old new : DurableWorld → Option ℕ) (e : Refusal)

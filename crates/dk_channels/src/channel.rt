@@ -1,15 +1,16 @@
 //! Channels and their records.
-ghost use Rattle.std.specs.Prelude.{◌≡◌, ℕ, List, Some, IfOk, IfErr, MatchOption, true, false};
+ghost use Rattle.std.specs.Prelude.{◌≡◌, ℕ, List, Some, IfOk, OnErr, IfErr, MatchOption, true, false};
+ghost use Rattle.dk_types.specs.declared.mode.Mode.TheVariants as mode;
 ghost use Rattle.dk_model.specs.Records.{channel_name, is_name_too_long};
 ghost use Rattle.dk_model.specs.Platforms as platform;
-ghost use Rattle.dk_txn.specs.Does.{Does};
+ghost use Rattle.dk_txn.specs.Does.{Does, SameChanges};
 ghost use Rattle.dk_txn.specs.Refusals.{refusal_fault, TellsLength};
 ghost use Rattle.dk_types.specs.declared.fault.AppFault.TheVariants.{Refused};
 ghost use Rattle.dk_refs.specs.Telling.{TellsKindOf, TellsLengthIn, kind_under};
 ghost use Rattle.dk_channels.specs.Channels as acts;
 
 use dk_model::Mode;
-use dk_refs::{ChannelRecord, Delivery, ManagedRef};
+use dk_refs::{ChannelRecord, Delivery, Managed, ManagedRef};
 use dk_txn::{Refusal, Txn, View};
 use dk_types::{Listed, Name, NoMemory, ObjectId, Session};
 use std::alloc::Global;
@@ -47,12 +48,15 @@ pub fn create_channel<V: View>(
     delivery: Delivery,
 ) -> Result<Channel, Refusal>
     ensures does { Does V.sights refusal_fault txn.old txn.new (acts.create_channel name.now listener delivery) result }
+    ensures refused { OnErr result (SameChanges txn.old.log txn.new.log) }
+    ensures same_mode { txn.new.log.mode ≡ txn.old.log.mode }
     ensures length { IfErr result (TellsLengthIn txn.new.log (channel_name name.now)) }
 {
-    open_channel(alloc, txn, name, listener, delivery)?;
-    Ok(Channel {
+    let channel = Channel {
         name: name.clone()?,
-    })
+    };
+    open_channel(alloc, txn, name, listener, delivery)?;
+    Ok(channel)
 }
 
 fn open_channel<V: View>(
@@ -63,6 +67,8 @@ fn open_channel<V: View>(
     delivery: Delivery,
 ) -> Result<(), Refusal>
     ensures does { Does V.sights refusal_fault txn.old txn.new (platform.create_channel name.now listener delivery) result }
+    ensures refused { OnErr result (SameChanges txn.old.log txn.new.log) }
+    ensures same_mode { txn.new.log.mode ≡ txn.old.log.mode }
     ensures length { IfErr result (TellsLengthIn txn.new.log (channel_name name.now)) }
 {
     let before = txn.set_mode(Mode::Platform);
@@ -78,7 +84,9 @@ fn make_channel<V: View>(
     listener: bool,
     delivery: Delivery,
 ) -> Result<(), Refusal>
+    requires { txn.old.log.mode ≡ mode.Platform }
     ensures does { Does V.sights refusal_fault txn.old txn.new (platform.new_channel name.now listener delivery) result }
+    ensures refused { OnErr result (SameChanges txn.old.log txn.new.log) }
     ensures length { IfErr result (TellsLengthIn txn.new.log (channel_name name.now)) }
 {
     let key = match key_of(alloc, name)? {
@@ -99,7 +107,9 @@ fn record_under<V: View>(
     listener: bool,
     delivery: Delivery,
 ) -> Result<(), Refusal>
+    requires { txn.old.log.mode ≡ mode.Platform }
     ensures does { Does V.sights refusal_fault txn.old txn.new (acts.recording key.now listener delivery) result }
+    ensures refused { OnErr result (SameChanges txn.old.log txn.new.log) }
     ensures length { (bytes : List ℕ) → IfErr result (TellsLengthIn txn.new.log bytes) }
 {
     let record = ChannelRecord {
@@ -107,8 +117,8 @@ fn record_under<V: View>(
         delivery,
         members: Listed::from_vec(Vec::new(alloc)),
     };
-    let made = ManagedRef::create(alloc, txn, &record)?;
-    txn.bind(key, made.id())
+    let payload = record.encode(alloc)?;
+    txn.create_bound(key, ChannelRecord::KIND, payload)
 }
 
 /// The id of the record of a channel, where one is bound.
@@ -117,7 +127,8 @@ pub fn recorded<V: View>(
     txn: &mut Txn<'_, V>,
     name: &Name,
 ) -> Result<Option<ObjectId>, Refusal>
-    ensures { Does V.sights refusal_fault txn.old txn.new (acts.recorded name.now) result }
+    ensures does { Does V.sights refusal_fault txn.old txn.new (acts.recorded name.now) result }
+    ensures same_changes { SameChanges txn.old.log txn.new.log }
 {
     match key_of(alloc, name)? {
         None => Ok(None),
@@ -132,16 +143,19 @@ pub fn get_channel<V: View>(
     name: &Name,
 ) -> Result<Channel, Refusal>
     ensures does { Does V.sights refusal_fault txn.old txn.new (acts.get_channel name.now) result }
+    ensures refused { OnErr result (SameChanges txn.old.log txn.new.log) }
     ensures length { IfErr result (TellsLengthIn txn.new.log (channel_name name.now)) }
 {
-    find_channel(alloc, txn, name)?;
-    Ok(Channel {
+    let channel = Channel {
         name: name.clone()?,
-    })
+    };
+    find_channel(alloc, txn, name)?;
+    Ok(channel)
 }
 
 fn find_channel<V: View>(alloc: Global, txn: &mut Txn<'_, V>, name: &Name) -> Result<(), Refusal>
     ensures does { Does V.sights refusal_fault txn.old txn.new (platform.get_channel name.now) result }
+    ensures refused { OnErr result (SameChanges txn.old.log txn.new.log) }
     ensures length { IfErr result (TellsLengthIn txn.new.log (channel_name name.now)) }
 {
     match key_of(alloc, name)? {
@@ -160,6 +174,7 @@ pub fn record_of<V: View>(
     name: &Name,
 ) -> Result<(ManagedRef<ChannelRecord>, ChannelRecord), Refusal>
     ensures does { Does V.sights refusal_fault txn.old txn.new (platform.channel_under name.now) result }
+    ensures same_changes { SameChanges txn.old.log txn.new.log }
     ensures kind { IfErr result (TellsKindOf txn.new.log (kind_under (channel_name name.now))) }
 {
     match recorded(alloc, txn, name)? {
@@ -179,6 +194,7 @@ pub fn members<V: View>(
     channel: &Channel,
 ) -> Result<Listed<Session>, Refusal>
     ensures does { Does V.sights refusal_fault txn.old txn.new (platform.members channel.now.name) result }
+    ensures same_changes { SameChanges txn.old.log txn.new.log }
     ensures kind { IfErr result (TellsKindOf txn.new.log (kind_under (channel_name channel.now.name))) }
 {
     let (_, record) = record_of(alloc, txn, &channel.name)?;

@@ -1,8 +1,9 @@
 //! Joining a channel.
-ghost use Rattle.std.specs.Prelude.{◌≡◌, IfErr};
+ghost use Rattle.std.specs.Prelude.{◌≡◌, OnErr, IfErr};
+ghost use Rattle.dk_types.specs.declared.mode.Mode.TheVariants as mode;
 ghost use Rattle.dk_model.specs.Platforms as platform;
 ghost use Rattle.dk_model.specs.Runs as act;
-ghost use Rattle.dk_txn.specs.Does.{Does};
+ghost use Rattle.dk_txn.specs.Does.{Does, SameChanges, Stands};
 ghost use Rattle.dk_txn.specs.Refusals.{refusal_fault};
 ghost use Rattle.dk_refs.specs.Telling.{TellsKindOf, TellsLengthIn, TellsLengthOf};
 ghost use Rattle.dk_channels.specs.BothRecords.{kind_of_records, records_after, joined};
@@ -25,6 +26,8 @@ pub fn join<V: View>(
     session: &Session,
 ) -> Result<(), Refusal>
     ensures does { Does V.sights refusal_fault txn.old txn.new (platform.join channel.now.name session.now) result }
+    ensures refused { OnErr result (SameChanges txn.old.log txn.new.log) }
+    ensures same_mode { txn.new.log.mode ≡ txn.old.log.mode }
     ensures kind { IfErr result (TellsKindOf txn.new.log (kind_of_records channel.now.name session.now)) }
     ensures length { IfErr result (TellsLengthOf txn.old.log txn.new.log (records_after joined channel.now.name session.now)) }
 {
@@ -40,7 +43,9 @@ fn enter<V: View>(
     name: &Name,
     session: &Session,
 ) -> Result<(), Refusal>
+    requires { txn.old.log.mode ≡ mode.Platform }
     ensures does { Does V.sights refusal_fault txn.old txn.new (act.and_then (platform.channel_under name.now) (λ c. act.and_then (platform.own_record session.now) (λ r. platform.join_records name.now session.now c r))) result }
+    ensures refused { OnErr result (SameChanges txn.old.log txn.new.log) }
     ensures kind { IfErr result (TellsKindOf txn.new.log (kind_of_records name.now session.now)) }
     ensures length { IfErr result (TellsLengthOf txn.old.log txn.new.log (records_after joined name.now session.now)) }
 {
@@ -57,7 +62,10 @@ fn join_records<V: View>(
     channel: (ManagedRef<ChannelRecord>, ChannelRecord),
     own: (ManagedRef<SessionRecord>, SessionRecord),
 ) -> Result<(), Refusal>
+    requires platform { txn.old.log.mode ≡ mode.Platform }
+    requires stand { Stands txn.old.log channel.0 × Stands txn.old.log own.0 }
     ensures does { Does V.sights refusal_fault txn.old txn.new (platform.join_records name.now session.now channel own) result }
+    ensures refused { OnErr result (SameChanges txn.old.log txn.new.log) }
     ensures length { IfErr result (TellsLengthIn txn.new.log (joined name.now session.now channel.1 own.1)) }
 {
     if is_member(session, channel.1.members.as_slice()) {

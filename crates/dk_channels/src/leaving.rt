@@ -1,9 +1,10 @@
 //! Leaving a channel.
-ghost use Rattle.std.specs.Prelude.{◌≡◌, [], IfOk, IfErr};
+ghost use Rattle.std.specs.Prelude.{◌≡◌, [], IfOk, OnErr, IfErr};
+ghost use Rattle.dk_types.specs.declared.mode.Mode.TheVariants as mode;
 ghost use Rattle.dk_model.specs.Records.{channel_bytes};
 ghost use Rattle.dk_model.specs.Platforms as platform;
 ghost use Rattle.dk_model.specs.Runs as act;
-ghost use Rattle.dk_txn.specs.Does.{Does};
+ghost use Rattle.dk_txn.specs.Does.{Does, SameChanges, Stands};
 ghost use Rattle.dk_txn.specs.declared.refusal.Refusal.TheVariants as refusal;
 ghost use Rattle.dk_txn.specs.Refusals.{refusal_fault, TellsLength};
 ghost use Rattle.dk_refs.specs.Telling.{TellsKindOf, TellsLengthIn, TellsLengthOf};
@@ -30,6 +31,8 @@ pub fn leave<V: View>(
     session: &Session,
 ) -> Result<(), Refusal>
     ensures does { Does V.sights refusal_fault txn.old txn.new (platform.leave channel.now.name session.now) result }
+    ensures refused { OnErr result (SameChanges txn.old.log txn.new.log) }
+    ensures same_mode { txn.new.log.mode ≡ txn.old.log.mode }
     ensures kind { IfErr result (TellsKindOf txn.new.log (kind_of_records channel.now.name session.now)) }
     ensures length { IfErr result (TellsLengthOf txn.old.log txn.new.log (records_after left channel.now.name session.now)) }
 {
@@ -45,7 +48,9 @@ fn step_out<V: View>(
     name: &Name,
     session: &Session,
 ) -> Result<(), Refusal>
+    requires { txn.old.log.mode ≡ mode.Platform }
     ensures does { Does V.sights refusal_fault txn.old txn.new (act.and_then (platform.channel_under name.now) (λ c. act.and_then (platform.own_record session.now) (λ r. platform.leave_records name.now session.now c r))) result }
+    ensures refused { OnErr result (SameChanges txn.old.log txn.new.log) }
     ensures kind { IfErr result (TellsKindOf txn.new.log (kind_of_records name.now session.now)) }
     ensures length { IfErr result (TellsLengthOf txn.old.log txn.new.log (records_after left name.now session.now)) }
 {
@@ -62,7 +67,10 @@ fn leave_records<V: View>(
     channel: (ManagedRef<ChannelRecord>, ChannelRecord),
     own: (ManagedRef<SessionRecord>, SessionRecord),
 ) -> Result<(), Refusal>
+    requires platform { txn.old.log.mode ≡ mode.Platform }
+    requires stand { Stands txn.old.log channel.0 × Stands txn.old.log own.0 }
     ensures does { Does V.sights refusal_fault txn.old txn.new (platform.leave_records name.now session.now channel own) result }
+    ensures refused { OnErr result (SameChanges txn.old.log txn.new.log) }
     ensures length { IfErr result (TellsLengthIn txn.new.log (left name.now session.now channel.1 own.1)) }
 {
     if !is_member(session, channel.1.members.as_slice()) {
@@ -90,6 +98,7 @@ pub fn leave_all<V: View>(
     channel: &Channel,
 ) -> Result<(), Refusal>
     ensures does { Does V.sights refusal_fault txn.old txn.new (platform.leave_all channel.now.name) result }
+    ensures same_mode { txn.new.log.mode ≡ txn.old.log.mode }
     ensures kind { IfErr result (TellsFound refusal.WrongKind txn.old.log txn.new.log (kind_of_all channel.now.name)) }
     ensures length { IfErr result (TellsFound refusal.TooLong txn.old.log txn.new.log (length_of_all channel.now.name)) }
     ensures never { IfErr result (NeverTooLong txn.old.log txn.new.log) }

@@ -1,10 +1,11 @@
 //! Saving a channel's record and a session's as one.
-ghost use Rattle.std.specs.Prelude.{◌≡◌, ℕ, List, Some, false, IfErr};
+ghost use Rattle.std.specs.Prelude.{◌≡◌, Some, OnErr, IfErr};
+ghost use Rattle.dk_types.specs.declared.mode.Mode.TheVariants as mode;
 ghost use Rattle.dk_types.specs.declared.fault.AppFault.TheVariants.{Refused};
 ghost use Rattle.dk_model.specs.Records.{channel_bytes, session_bytes};
 ghost use Rattle.dk_model.specs.Platforms as platform;
 ghost use Rattle.dk_model.specs.Runs as act;
-ghost use Rattle.dk_txn.specs.Does.{Does};
+ghost use Rattle.dk_txn.specs.Does.{Does, SameChanges, Stands};
 ghost use Rattle.dk_txn.specs.Refusals.{refusal_fault, TellsLength};
 ghost use Rattle.dk_refs.specs.Telling.{TellsLengthIn};
 ghost use Rattle.dk_channels.specs.BothRecords.{too_long_of};
@@ -12,7 +13,7 @@ ghost use Rattle.dk_channels.specs.BothRecords.{too_long_of};
 use dk_model::limits::BODY_MOST_BYTES;
 use dk_refs::{ChannelRecord, Managed, ManagedRef, SessionRecord};
 use dk_txn::{Refusal, Txn, View};
-use dk_types::{Blob, ObjectId};
+use dk_types::Blob;
 use std::alloc::Global;
 
 /// Whether bytes are too long for an object.
@@ -32,14 +33,17 @@ pub(crate) fn too_long(payload: &Blob) -> Refusal
     }
 }
 
-/// Saves both records, or neither where one would pass its length.
+/// Saves both records, which stand, or neither where one would pass its length.
 pub(crate) fn save_both<V: View>(
     alloc: Global,
     txn: &mut Txn<'_, V>,
     channel: (ManagedRef<ChannelRecord>, ChannelRecord),
     session: (ManagedRef<SessionRecord>, SessionRecord),
 ) -> Result<(), Refusal>
+    requires platform { txn.old.log.mode ≡ mode.Platform }
+    requires stand { Stands txn.old.log channel.0 × Stands txn.old.log session.0 }
     ensures does { Does V.sights refusal_fault txn.old txn.new (platform.save_both channel.0 (channel_bytes channel.1) session.0 (session_bytes session.1)) result }
+    ensures refused { OnErr result (SameChanges txn.old.log txn.new.log) }
     ensures length { IfErr result (TellsLengthIn txn.new.log (too_long_of (channel_bytes channel.1) (session_bytes session.1))) }
 {
     let first = channel.1.encode(alloc)?;
@@ -50,19 +54,5 @@ pub(crate) fn save_both<V: View>(
     if is_too_long(&second) {
         return Err(too_long(&second));
     }
-    save_payloads(txn, channel.0.id(), first, session.0.id(), second)
-}
-
-fn save_payloads<V: View>(
-    txn: &mut Txn<'_, V>,
-    first: ObjectId,
-    payload: Blob,
-    second: ObjectId,
-    behind: Blob,
-) -> Result<(), Refusal>
-    ensures does { Does V.sights refusal_fault txn.old txn.new (act.and_then (act.save first payload) (λ _. act.save second behind)) result }
-    ensures length { (bytes : List ℕ) → act.is_too_long payload ≡ false → act.is_too_long behind ≡ false → IfErr result (TellsLengthIn txn.new.log bytes) }
-{
-    txn.save(first, payload)?;
-    txn.save(second, behind)
+    txn.save_both(channel.0.id(), first, session.0.id(), second)
 }

@@ -5,7 +5,7 @@ use Rattle.dk_types.specs.declared.job.Job.{Job}
 use Rattle.dk_types.specs.declared.job.Job.TheVariants as job
 use Rattle.dk_types.specs.declared.job.Out.TheVariants as out
 use Rattle.dk_types.specs.Names.{IsName}
-use Rattle.dk_model.specs.Lawful.{IsJob, AreLawful}
+use Rattle.dk_model.specs.Lawful.{IsForGame, AreLawful}
 use Rattle.dk_model.proofs.Acts.{Anything, IsLawful, lawful_rules, lawful_then, lawful_done}
 use Rattle.dk_model.proofs.Operations.{lawful_create, lawful_bind, lawful_bound, lawful_save, lawful_schedule, lawful_send}
 use Rattle.dk_model.proofs.Bytes.{bytes_nil, name_bytes, name_of_ascii}
@@ -44,7 +44,7 @@ lawful_answer : {Needs : Type 0} (n : ℕ) (conn : ConnNo) → IsLawful Needs An
 lawful_answer zero conn = lawful_done tt
 lawful_answer (suc n) conn = lawful_then (lawful_send conn (out.Message [])) (λ _. lawful_answer n conn)
 
-lawful_job : (j : Job) → IsLawful (IsJob j) Anything (twins_rules j)
+lawful_job : (j : Job) → IsLawful (IsForGame j) Anything (twins_rules j)
 lawful_job job.Initialize = lawful_begin
 lawful_job (job.Task key due period kind arg) = lawful_change
 lawful_job (job.Message conn name body) = lawful_answer _ conn

@@ -90,17 +90,20 @@ const TWO_SESSIONS: [Row; 10] = [
     Hands(2, 4_096, 1, Accepted, false),
 ];
 
-/// A second login of a name is refused and closed, and what waits at it is dropped.
-const TWO_LOGINS: [Row; 9] = [
+/// A second login of a name closes the first, behind which nothing waits but what the game says in that very run.
+const TWO_LOGINS: [Row; 12] = [
     Works(Runs(0, 1)),
     Connect("alice", 1),
     Connect("alice", 2),
     Post(2, 2, Ok(())),
     Works(Runs(3, 2)),
     Works(Runs(4, 3)),
+    Works(Runs(5, 4)),
     Works(Idle),
-    Hands(1, 4_096, 2, Message, false),
-    Hands(2, 4_096, 2, Close, true),
+    Hands(1, 3, 3, Message, false),
+    Hands(1, 1, 1, Close, false),
+    Hands(1, 1, 1, Message, true),
+    Hands(2, 4_096, 1, Accepted, false),
 ];
 
 #[test]

@@ -1,4 +1,4 @@
-//! In SwordWorld one looks around while another logs in.
+//! In SwordWorld one looks around while another logs in, or the same again.
 ghost use Rattle.std.specs.Prelude.{IfOk};
 ghost use Rattle.dk_core.specs.Cores.{IsGranted};
 ghost use Rattle.dk_workers.specs.Working.{IsStandingFor};
@@ -11,21 +11,21 @@ use dk_core::{Changed, Claimed, Core};
 use dk_game::run_over;
 use dk_txn::Finished;
 use dk_types::limits::MOMENT_MOST_MS;
-use dk_types::{Blob, ConnNo, Input, Item, Job, ObjectId, Out, RunNo, Seen};
+use dk_types::{Blob, ConnNo, Input, Item, Job, ObjectId, Out, Outcome, RunNo, Seen};
 use std::alloc::Global;
 use std::process::Abort;
 use std::test::Fail;
 use sword_world::SwordWorld;
 
-/// A core on which alice is logged in and bob has connected, and her look waits.
-fn before_the_look(alloc: Global) -> Result<(Core, ConnNo), Fail>
+/// A core on which alice is logged in and another has connected, and her look waits.
+fn before_the_look(alloc: Global, other: &str) -> Result<(Core, ConnNo), Fail>
     ensures { IfOk result (λ made. IsStandingFor sword_rules made.0) }
 {
     let mut core = opened(alloc, &SwordWorld, 0, None)?;
     serve(alloc, &SwordWorld, &mut core)?;
     let alice = connect(alloc, &SwordWorld, &mut core, "alice")?;
     serve(alloc, &SwordWorld, &mut core)?;
-    connect(alloc, &SwordWorld, &mut core, "bob")?;
+    connect(alloc, &SwordWorld, &mut core, other)?;
     let look = Input::Message(Blob::copy_of(alloc, b"look")?);
     post(&SwordWorld, &mut core, alice, look)?
         .ok()
@@ -65,38 +65,75 @@ fn room_changed() -> Changed {
     }
 }
 
-/// A core on which her look was refused, since he has come in.
-fn after_his_login(rt: &impl Abort, alloc: Global) -> Result<(Core, Claimed, ConnNo), Fail>
+/// Her record's name, as it stood after her login and stands after her second.
+fn record_changed(alloc: Global) -> Result<Changed, Fail> {
+    Ok(Changed {
+        item: Item::Bound(text(alloc, "$s.alice")?),
+        found: Seen::At(2),
+        now: Seen::At(3),
+    })
+}
+
+/// A core on which her look was refused, since the other has come in meanwhile and this has changed.
+fn after_a_login(
+    rt: &impl Abort,
+    alloc: Global,
+    other: &str,
+    told: &Changed,
+) -> Result<(Core, Claimed, ConnNo), Fail>
     ensures standing { IfOk result (λ made. IsStandingFor sword_rules made.0) }
     ensures granted { IfOk result (λ made. IsGranted made.0 made.1) }
 {
-    let (mut core, alice) = before_the_look(alloc)?;
+    let (mut core, alice) = before_the_look(alloc, other)?;
     let look = claim(&SwordWorld, &mut core)?;
     let finished = looks(rt, alloc, &core, &look, alice)?;
     let login = serve_beside(alloc, &SwordWorld, &mut core, &look)?;
     assert!(rt; look.run() == RunNo(4) && login.run == RunNo(5) && login.seq == 3);
     let (back, changed) = commit_stale(&SwordWorld, &mut core, look, finished)?;
-    assert!(rt; changed == room_changed());
+    assert!(rt; changed == *told);
     Ok((core, back, alice))
 }
 
-/// She is told that he is there.
-fn assert_told(rt: &impl Abort, alloc: Global, core: &mut Core, alice: ConnNo) -> Result<(), Fail> {
-    let body = Blob::copy_of(
-        alloc,
-        b"You are in a plain room.\nAlso in here: bob.\nOn the floor: a shiny sword.\n",
-    )?;
-    let handed = core.hand(alice, 3).ok().ok_or("a list")?;
-    assert!(rt; handed.outs.as_slice() == [Out::Accepted, Out::Message(body)].as_slice());
+/// A connection is handed these messages, and is gone then or not.
+fn assert_handed(
+    rt: &impl Abort,
+    core: &mut Core,
+    conn: ConnNo,
+    outs: &[Out],
+    end: bool,
+) -> Result<(), Fail> {
+    let handed = core.hand(conn, 3).ok().ok_or("a list")?;
+    assert!(rt; handed.outs.as_slice() == outs);
+    assert!(rt; handed.end == end);
     Ok(())
 }
 
 #[test]
 fn a_look_is_run_again_after_a_login(rt: HostRuntime) -> Result<(), Fail> {
     let alloc = rt.alloc();
-    let (mut core, look, alice) = after_his_login(&rt, alloc)?;
+    let (mut core, look, alice) = after_a_login(&rt, alloc, "bob", &room_changed())?;
     let again = looks(&rt, alloc, &core, &look, alice)?;
     let seq = commit(&SwordWorld, &mut core, look, again)?;
     assert_eq!(rt; seq, 4);
-    assert_told(&rt, alloc, &mut core, alice)
+    let body = Blob::copy_of(
+        alloc,
+        b"You are in a plain room.\nAlso in here: bob.\nOn the floor: a shiny sword.\n",
+    )?;
+    let told = [Out::Accepted, Out::Message(body)];
+    assert_handed(&rt, &mut core, alice, told.as_slice(), false)
+}
+
+/// Her look of before her second login commits behind it, and does nothing.
+#[test]
+fn a_look_of_who_was_displaced_does_nothing(rt: HostRuntime) -> Result<(), Fail> {
+    let alloc = rt.alloc();
+    let changed = record_changed(alloc)?;
+    let (mut core, look, alice) = after_a_login(&rt, alloc, "alice", &changed)?;
+    let again = looks(&rt, alloc, &core, &look, alice)?;
+    assert!(rt; *again.outcome() == Outcome::Ok && again.touched().is_empty());
+    let seq = commit(&SwordWorld, &mut core, look, again)?;
+    assert_eq!(rt; seq, 4);
+    let old = [Out::Accepted, Out::Close];
+    assert_handed(&rt, &mut core, alice, old.as_slice(), true)?;
+    assert_handed(&rt, &mut core, ConnNo(3), [Out::Accepted].as_slice(), false)
 }

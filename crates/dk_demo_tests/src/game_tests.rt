@@ -112,6 +112,21 @@ fn channels_send_on_and_are_heard(rt: HostRuntime) -> Result<(), Fail> {
             transcript: "phase 0\nclaim 0 at 0 initialize\ncommit 1 run 0 ok\nopen 1 alice\nopen 2 bob\nclaim 3 at 0 login alice\ncommit 2 run 3 ok\nclaim 4 at 0 login bob\ncommit 3 run 4 ok\nto 1 alice accepted\nto 2 bob accepted\nclaim 5 at 0 message bob\ncommit 4 run 5 ok\nto 2 bob message alice bob\nclaim 6 at 0 disconnect alice\ncommit 5 run 6 ok\nclaim 7 at 0 message bob\ncommit 6 run 7 ok\nto 2 bob message bob\ndone commits 6 tasks 0\n",
             inspected: "{\"commits\":6,\"game\":\"channels\",\"last_run\":7,\"names\":[[\"$c.Bar\",\"0.1\"],[\"$c.Foo\",\"0.0\"],[\"$s.bob\",\"4.0\"]],\"objects\":[[\"0.0\",65282,\"00000000000103626f620000000000000002\"],[\"0.1\",65282,\"01000000000103626f620000000000000002\"],[\"4.0\",65281,\"00000000000000020000000203466f6f03426172\"]],\"tasks\":[]}\n",
         },
+        Row {
+            steps: &[
+                Step::Sync,
+                Step::Login("alice"),
+                Step::Login("bob"),
+                Step::Sync,
+                Step::Login("alice"),
+                Step::Sync,
+                Step::Say(1, "Foo", "hi"),
+                Step::Send(1, "members Foo"),
+                Step::Sync,
+            ],
+            transcript: "phase 0\nclaim 0 at 0 initialize\ncommit 1 run 0 ok\nopen 1 alice\nopen 2 bob\nclaim 3 at 0 login alice\ncommit 2 run 3 ok\nclaim 4 at 0 login bob\ncommit 3 run 4 ok\nto 1 alice accepted\nto 2 bob accepted\nopen 5 alice\nclaim 6 at 0 login alice\ncommit 4 run 6 ok\nto 1 alice close\nto 5 alice accepted\nclaim 7 at 0 channel bob\ncommit 5 run 7 ok\nclaim 8 at 0 message bob\ncommit 6 run 8 ok\nto 2 bob channel Foo hi\nto 2 bob message bob alice\nto 5 alice channel Foo hi\ndone commits 6 tasks 0\n",
+            inspected: "{\"commits\":6,\"game\":\"channels\",\"last_run\":8,\"names\":[[\"$c.Bar\",\"0.1\"],[\"$c.Foo\",\"0.0\"],[\"$s.alice\",\"6.0\"],[\"$s.bob\",\"4.0\"]],\"objects\":[[\"0.0\",65282,\"00000000000203626f62000000000000000205616c6963650000000000000005\"],[\"0.1\",65282,\"01000000000203626f62000000000000000205616c6963650000000000000005\"],[\"4.0\",65281,\"00000000000000020000000203466f6f03426172\"],[\"6.0\",65281,\"00000000000000050000000203466f6f03426172\"]],\"tasks\":[]}\n",
+        },
     ];
     assert_rows(&rt, rt.alloc(), &Channels, rows.as_slice())
 }
@@ -137,11 +152,27 @@ fn a_restart_tells_each_session_of_its_end(rt: HostRuntime) -> Result<(), Fail> 
 
 #[test]
 fn a_sword_lies_in_a_room(rt: HostRuntime) -> Result<(), Fail> {
-    let rows = [Row {
-        steps: &[Step::Sync],
-        transcript: "phase 0\nclaim 0 at 0 initialize\ncommit 1 run 0 ok\ndone commits 1 tasks 0\n",
-        inspected: "{\"commits\":1,\"game\":\"sword-world\",\"last_run\":0,\"names\":[[\"Room\",\"0.1\"]],\"objects\":[[\"0.0\",2,\"0d61207368696e792073776f7264\"],[\"0.1\",1,\"0000000000000001000000000000000000000000\"]],\"tasks\":[]}\n",
-    }];
+    let rows = [
+        Row {
+            steps: &[Step::Sync],
+            transcript: "phase 0\nclaim 0 at 0 initialize\ncommit 1 run 0 ok\ndone commits 1 tasks 0\n",
+            inspected: "{\"commits\":1,\"game\":\"sword-world\",\"last_run\":0,\"names\":[[\"Room\",\"0.1\"]],\"objects\":[[\"0.0\",2,\"0d61207368696e792073776f7264\"],[\"0.1\",1,\"0000000000000001000000000000000000000000\"]],\"tasks\":[]}\n",
+        },
+        // Who logs in again has let the sword fall.
+        Row {
+            steps: &[
+                Step::Sync,
+                Step::Login("alice"),
+                Step::Send(0, "take"),
+                Step::Sync,
+                Step::Login("alice"),
+                Step::Send(1, "look"),
+                Step::Sync,
+            ],
+            transcript: "phase 0\nclaim 0 at 0 initialize\ncommit 1 run 0 ok\nopen 1 alice\nclaim 2 at 0 login alice\ncommit 2 run 2 ok\nclaim 3 at 0 message alice\ncommit 3 run 3 ok\nto 1 alice accepted\nto 1 alice message You take a shiny sword.\nopen 4 alice\nclaim 5 at 0 login alice\ncommit 4 run 5 ok\nclaim 6 at 0 message alice\ncommit 5 run 6 ok\nto 1 alice close\nto 4 alice accepted\nto 4 alice message You are in a plain room.\\x0aOn the floor: a shiny sword.\\x0a\ndone commits 5 tasks 0\n",
+            inspected: "{\"commits\":5,\"game\":\"sword-world\",\"last_run\":6,\"names\":[[\"$s.alice\",\"5.0\"],[\"Player.alice\",\"2.1\"],[\"Room\",\"0.1\"]],\"objects\":[[\"0.0\",2,\"0d61207368696e792073776f7264\"],[\"0.1\",1,\"0000000100000000000000020000000100000001000000000000000000000000\"],[\"2.1\",3,\"05616c69636500\"],[\"5.0\",65281,\"000000000000000400000000\"]],\"tasks\":[]}\n",
+        },
+    ];
     assert_rows(&rt, rt.alloc(), &SwordWorld, rows.as_slice())
 }
 

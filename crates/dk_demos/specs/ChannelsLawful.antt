@@ -10,7 +10,7 @@ use Rattle.dk_types.specs.declared.job.Out.TheVariants as out
 use Rattle.dk_types.specs.declared.fault.AppFault.TheVariants as fault
 use Rattle.dk_model.specs.declared.records.Delivery.{Delivery}
 use Rattle.dk_model.specs.declared.records.Delivery.TheVariants.{Reliable}
-use Rattle.dk_model.specs.Lawful.{IsJob, AreLawful}
+use Rattle.dk_model.specs.Lawful.{IsForGame, AreLawful}
 use Rattle.dk_model.specs.Records.{is_name_too_long}
 use Rattle.dk_model.specs.Steps.{of_session}
 use Rattle.dk_model.proofs.Acts.{Anything, IsLawful, lawful_rules, lawful_then, lawful_done, lawful_give, lawful_fail, lawful_if}
@@ -96,10 +96,10 @@ lawful_message : {Needs : Type 0} (session : Session) (body : List ℕ) → (Nee
 unfolding does.message
 lawful_message session body why = lawful_obey_if session (command_of body) why
 
-lawful_job : (j : Job) → IsLawful (IsJob j) Anything (channels_rules j)
+lawful_job : (j : Job) → IsLawful (IsForGame j) Anything (channels_rules j)
 lawful_job job.Initialize = lawful_begin
-lawful_job (job.Login conn name) = lawful_login (of_session conn name) (λ n. n.1)
-lawful_job (job.Message conn name body) = lawful_message (of_session conn name) body (λ n. n.0.1)
+lawful_job (job.Login conn name) = lawful_login (of_session conn name) (λ n. n)
+lawful_job (job.Message conn name body) = lawful_message (of_session conn name) body (λ n. n.0)
 lawful_job (job.Channel conn name channel body) = lawful_hear channel body
 lawful_job (job.Disconnect conn name graceful) = lawful_done tt
 lawful_job (job.Task key due period kind arg) = lawful_done tt

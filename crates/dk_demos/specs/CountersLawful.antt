@@ -5,7 +5,7 @@ use Rattle.std.proofs.lemmas.List.Elements.{All-nil, All-cons}
 use Rattle.dk_types.specs.declared.job.Job.{Job}
 use Rattle.dk_types.specs.declared.job.Job.TheVariants as job
 use Rattle.dk_types.specs.Names.{IsName}
-use Rattle.dk_model.specs.Lawful.{IsJob, AreLawful}
+use Rattle.dk_model.specs.Lawful.{IsForGame, AreLawful}
 use Rattle.dk_model.proofs.Acts.{Anything, IsLawful, lawful_rules, lawful_then, lawful_done, lawful_if}
 use Rattle.dk_model.proofs.Operations.{lawful_schedule}
 use Rattle.dk_model.proofs.Bytes.{name_of_ascii}
@@ -47,7 +47,7 @@ pub lawful_raise : {Needs : Type 0} (arg : List ℕ) → IsLawful Needs Anything
 lawful_raise [] = lawful_done tt
 lawful_raise (number ∷ bytes) = lawful_if (nat_lt number 16) (lawful_raise_at number) (lawful_done tt)
 
-lawful_job : (seed tasks : ℕ) (j : Job) → IsLawful (IsJob j) Anything (counters_rules seed tasks j)
+lawful_job : (seed tasks : ℕ) (j : Job) → IsLawful (IsForGame j) Anything (counters_rules seed tasks j)
 lawful_job seed tasks job.Initialize = lawful_then (lawful_make_from 0 16 (omega arith)) (λ _. lawful_plan_from seed 0 tasks)
 lawful_job seed tasks (job.Task key due period kind arg) = lawful_raise arg
 lawful_job seed tasks (job.Login conn name) = lawful_done tt

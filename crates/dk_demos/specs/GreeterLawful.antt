@@ -9,7 +9,7 @@ use Rattle.dk_types.specs.declared.job.Out.TheVariants as out
 use Rattle.dk_types.specs.Names.{IsName}
 use Rattle.dk_model.specs.Runs.{TOO_LONG}
 use Rattle.dk_model.specs.Records.{is_name_too_long}
-use Rattle.dk_model.specs.Lawful.{IsJob, AreLawful}
+use Rattle.dk_model.specs.Lawful.{IsForGame, AreLawful}
 use Rattle.dk_model.proofs.Acts.{Anything, IsLawful, lawful_rules, lawful_then, lawful_done, lawful_refuse, lawful_if, lawful_looks}
 use Rattle.dk_model.proofs.Operations.{lawful_create, lawful_bind, lawful_send}
 use Rattle.dk_model.proofs.ReferenceActs.{lawful_get_for_update_as, lawful_save_as}
@@ -45,8 +45,8 @@ lawful_login : {Needs : Type 0} (conn : ConnNo) (name : List ℕ) → (Needs →
 unfolding does.login
 lawful_login conn name why = lawful_if (is_name_too_long (guest_name name)) (lawful_refuse TOO_LONG) (lawful_known conn name (λ n. (why n.0, n.1)))
 
-lawful_job : (j : Job) → IsLawful (IsJob j) Anything (greeter_rules j)
-lawful_job (job.Login conn name) = lawful_login conn name (λ n. n.1)
+lawful_job : (j : Job) → IsLawful (IsForGame j) Anything (greeter_rules j)
+lawful_job (job.Login conn name) = lawful_login conn name (λ n. n)
 lawful_job job.Initialize = lawful_done tt
 lawful_job (job.Message conn name body) = lawful_done tt
 lawful_job (job.Channel conn name channel body) = lawful_done tt

@@ -3,7 +3,7 @@ use Rattle.std.proofs.Common.{◌==◌, [], refl, lit<}
 use Rattle.dk_types.specs.declared.number.TaskKey.{TaskKey}
 use Rattle.dk_types.specs.declared.job.Job.{Job}
 use Rattle.dk_types.specs.declared.job.Job.TheVariants as job
-use Rattle.dk_model.specs.Lawful.{IsJob, AreLawful}
+use Rattle.dk_model.specs.Lawful.{IsForGame, AreLawful}
 use Rattle.dk_model.proofs.Acts.{Anything, IsLawful, lawful_rules, lawful_then, lawful_done, lawful_if}
 use Rattle.dk_model.proofs.Operations.{lawful_schedule_periodic, lawful_cancel}
 use Rattle.dk_model.proofs.Bytes.{bytes_nil, name_of_ascii}
@@ -20,7 +20,7 @@ lawful_tick : {Needs : Type 0} (key : TaskKey) → IsLawful Needs Anything (tick
 unfolding tick
 lawful_tick key = lawful_then (lawful_raise_under count_name) (λ counter. lawful_if (counter.count == 3) (lawful_cancel key) (lawful_done tt))
 
-lawful_job : (j : Job) → IsLawful (IsJob j) Anything (timer_rules j)
+lawful_job : (j : Job) → IsLawful (IsForGame j) Anything (timer_rules j)
 lawful_job job.Initialize = lawful_begin
 lawful_job (job.Task key due period kind arg) = lawful_tick key
 lawful_job (job.Login conn name) = lawful_done tt

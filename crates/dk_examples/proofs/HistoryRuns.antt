@@ -10,14 +10,14 @@ use Rattle.dk_model.specs.Histories.{Leads}
 use Rattle.dk_examples.specs.Worked.{run, conn, accepting, listed, nothing}
 use Rattle.dk_examples.specs.TimerGame.{timer_rules}
 use Rattle.dk_examples.specs.TimerRows.{occurrence, counting, counted}
-use Rattle.dk_examples.specs.SessionRows.{alice, with_alice}
+use Rattle.dk_examples.specs.SessionRows.{alice, with_alice, with_alice_again}
 use Rattle.dk_types.specs.declared.job.Out.TheVariants as out
 use Rattle.dk_types.specs.declared.job.Input.TheVariants as input
 use Rattle.dk_model.specs.declared.waiting.Waiting.TheVariants as waits
 use Rattle.dk_examples.specs.HistoryRows.{world, of_alice, timer_events, TimerHistory, second_login_events, SecondLoginHistory, restart_events, RestartHistory}
 use Rattle.dk_examples.proofs.Running.{looks, puts}
 use Rattle.dk_examples.proofs.EventSteps.{stands, opens_empty, claims, commits, connects, ticks, posts, hands}
-use Rattle.dk_examples.proofs.SessionRuns.{session_read, first_run_accepts, login_is_accepted, second_login_is_refused, stop_ends}
+use Rattle.dk_examples.proofs.SessionRuns.{session_read, first_run_accepts, login_is_accepted, second_login_displaces, stop_ends}
 use Rattle.dk_examples.proofs.TimerRuns.{timer_begins, timer_skips, timer_goes_on, timer_ends}
 
 -- a claim of the first pass
@@ -102,7 +102,7 @@ timer_goes = (
 pub timer_history : TimerHistory
 timer_history = subst (λ (o : World). Leads timer_rules o timer_events (timing (listed counted 4 (Some (run 3))) 500 4 true [])) (sym opens_empty) timer_goes
 
-second_login_history_goes : Leads accepting (world (listed nothing 0 None) 0 0 false [] []) second_login_events (world (listed with_alice 3 (Some (run 4))) 0 5 false [] ((conn 1, of_alice [] [] 2) ∷ []))
+second_login_history_goes : Leads accepting (world (listed nothing 0 None) 0 0 false [] []) second_login_events (world (listed with_alice_again 3 (Some (run 4))) 0 5 false [] ((conn 3, of_alice [] [] 4) ∷ []))
 second_login_history_goes = (
   world (listed nothing 0 None) 0 1 false ((run 0, claimed job.Initialize 0) ∷ []) [],
   claims accepting (listed nothing 0 None) 0 0 false [] [] job.Initialize ((run 0, claimed job.Initialize 0) ∷ []) [] (simp stands) (omega arith) (simp stands) (simp stands) refl refl,
@@ -125,20 +125,20 @@ second_login_history_goes = (
               world (listed with_alice 2 (Some (run 2))) 0 5 false ((run 4, claimed (job.Login (conn 3) alice) 0) ∷ []) ((conn 1, of_alice [] (out.Accepted ∷ []) 2) ∷ (conn 3, of_alice (waits.Login ∷ []) [] 4) ∷ []),
               claims accepting (listed with_alice 2 (Some (run 2))) 0 4 false [] ((conn 1, of_alice [] (out.Accepted ∷ []) 2) ∷ (conn 3, of_alice (waits.Login ∷ []) [] 3) ∷ []) (job.Login (conn 3) alice) ((run 4, claimed (job.Login (conn 3) alice) 0) ∷ []) ((conn 1, of_alice [] (out.Accepted ∷ []) 2) ∷ (conn 3, of_alice (waits.Login ∷ []) [] 4) ∷ []) (simp (puts, stands)) (omega arith) (simp stands) (simp stands) refl refl,
               (
-                world (listed with_alice 3 (Some (run 4))) 0 5 false [] ((conn 1, of_alice [] (out.Accepted ∷ []) 2) ∷ (conn 3, record (of_alice [] (out.Refused ∷ out.Close ∷ []) 4) { closed = true; over = true }) ∷ []),
-                commits accepting (listed with_alice 2 (Some (run 2))) 0 5 false ((run 4, claimed (job.Login (conn 3) alice) 0) ∷ []) ((conn 1, of_alice [] (out.Accepted ∷ []) 2) ∷ (conn 3, of_alice (waits.Login ∷ []) [] 4) ∷ []) 4 (claimed (job.Login (conn 3) alice) 0) _ _ [] ((conn 1, of_alice [] (out.Accepted ∷ []) 2) ∷ (conn 3, record (of_alice [] (out.Refused ∷ out.Close ∷ []) 4) { closed = true; over = true }) ∷ []) (simp stands) refl (second_login_is_refused accepting) (simp stands) (simp stands) refl refl,
+                world (listed with_alice_again 3 (Some (run 4))) 0 5 false [] ((conn 1, record (of_alice [] (out.Accepted ∷ out.Close ∷ []) 2) { closed = true; over = true }) ∷ (conn 3, of_alice [] (out.Accepted ∷ []) 4) ∷ []),
+                commits accepting (listed with_alice 2 (Some (run 2))) 0 5 false ((run 4, claimed (job.Login (conn 3) alice) 0) ∷ []) ((conn 1, of_alice [] (out.Accepted ∷ []) 2) ∷ (conn 3, of_alice (waits.Login ∷ []) [] 4) ∷ []) 4 (claimed (job.Login (conn 3) alice) 0) _ _ [] ((conn 1, record (of_alice [] (out.Accepted ∷ out.Close ∷ []) 2) { closed = true; over = true }) ∷ (conn 3, of_alice [] (out.Accepted ∷ []) 4) ∷ []) (simp stands) refl second_login_displaces (simp stands) (simp stands) refl refl,
                 (
-                  world (listed with_alice 3 (Some (run 4))) 0 5 false [] ((conn 1, of_alice [] (out.Accepted ∷ []) 2) ∷ (conn 3, record (of_alice [] (out.Refused ∷ out.Close ∷ []) 4) { closed = true; over = true }) ∷ []),
+                  world (listed with_alice_again 3 (Some (run 4))) 0 5 false [] ((conn 1, record (of_alice [] (out.Accepted ∷ out.Close ∷ []) 2) { closed = true; over = true }) ∷ (conn 3, of_alice [] (out.Accepted ∷ []) 4) ∷ []),
                   (simp (puts, stands), refl),
                   (
-                    world (listed with_alice 3 (Some (run 4))) 0 5 false [] ((conn 1, of_alice [] (out.Accepted ∷ []) 2) ∷ (conn 3, record (of_alice [] (out.Close ∷ []) 4) { closed = true; over = true }) ∷ []),
-                    hands accepting (listed with_alice 3 (Some (run 4))) 0 5 false [] ((conn 1, of_alice [] (out.Accepted ∷ []) 2) ∷ (conn 3, record (of_alice [] (out.Refused ∷ out.Close ∷ []) 4) { closed = true; over = true }) ∷ []) 3 1 (out.Refused ∷ []) false ((conn 1, of_alice [] (out.Accepted ∷ []) 2) ∷ (conn 3, record (of_alice [] (out.Close ∷ []) 4) { closed = true; over = true }) ∷ []) (simp stands) (simp stands) (simp stands) (simp stands) refl refl,
+                    world (listed with_alice_again 3 (Some (run 4))) 0 5 false [] ((conn 1, record (of_alice [] (out.Close ∷ []) 2) { closed = true; over = true }) ∷ (conn 3, of_alice [] (out.Accepted ∷ []) 4) ∷ []),
+                    hands accepting (listed with_alice_again 3 (Some (run 4))) 0 5 false [] ((conn 1, record (of_alice [] (out.Accepted ∷ out.Close ∷ []) 2) { closed = true; over = true }) ∷ (conn 3, of_alice [] (out.Accepted ∷ []) 4) ∷ []) 1 1 (out.Accepted ∷ []) false ((conn 1, record (of_alice [] (out.Close ∷ []) 2) { closed = true; over = true }) ∷ (conn 3, of_alice [] (out.Accepted ∷ []) 4) ∷ []) (simp stands) (simp stands) (simp stands) (simp stands) refl refl,
                     (
-                      world (listed with_alice 3 (Some (run 4))) 0 5 false [] ((conn 1, of_alice [] (out.Accepted ∷ []) 2) ∷ []),
-                      hands accepting (listed with_alice 3 (Some (run 4))) 0 5 false [] ((conn 1, of_alice [] (out.Accepted ∷ []) 2) ∷ (conn 3, record (of_alice [] (out.Close ∷ []) 4) { closed = true; over = true }) ∷ []) 3 1 (out.Close ∷ []) true ((conn 1, of_alice [] (out.Accepted ∷ []) 2) ∷ []) (simp stands) (simp stands) (simp stands) (simp stands) refl refl,
+                      world (listed with_alice_again 3 (Some (run 4))) 0 5 false [] ((conn 3, of_alice [] (out.Accepted ∷ []) 4) ∷ []),
+                      hands accepting (listed with_alice_again 3 (Some (run 4))) 0 5 false [] ((conn 1, record (of_alice [] (out.Close ∷ []) 2) { closed = true; over = true }) ∷ (conn 3, of_alice [] (out.Accepted ∷ []) 4) ∷ []) 1 1 (out.Close ∷ []) true ((conn 3, of_alice [] (out.Accepted ∷ []) 4) ∷ []) (simp stands) (simp stands) (simp stands) (simp stands) refl refl,
                       (
-                        world (listed with_alice 3 (Some (run 4))) 0 5 false [] ((conn 1, of_alice [] [] 2) ∷ []),
-                        hands accepting (listed with_alice 3 (Some (run 4))) 0 5 false [] ((conn 1, of_alice [] (out.Accepted ∷ []) 2) ∷ []) 1 1 (out.Accepted ∷ []) false ((conn 1, of_alice [] [] 2) ∷ []) (simp stands) (simp stands) (simp stands) (simp stands) refl refl,
+                        world (listed with_alice_again 3 (Some (run 4))) 0 5 false [] ((conn 3, of_alice [] [] 4) ∷ []),
+                        hands accepting (listed with_alice_again 3 (Some (run 4))) 0 5 false [] ((conn 3, of_alice [] (out.Accepted ∷ []) 4) ∷ []) 3 1 (out.Accepted ∷ []) false ((conn 3, of_alice [] [] 4) ∷ []) (simp stands) (simp stands) (simp stands) (simp stands) refl refl,
                         refl,
                       ),
                     ),
@@ -154,7 +154,7 @@ second_login_history_goes = (
 )
 
 pub second_login_history : SecondLoginHistory
-second_login_history = subst (λ (o : World). Leads accepting o second_login_events (world (listed with_alice 3 (Some (run 4))) 0 5 false [] ((conn 1, of_alice [] [] 2) ∷ []))) (sym opens_empty) second_login_history_goes
+second_login_history = subst (λ (o : World). Leads accepting o second_login_events (world (listed with_alice_again 3 (Some (run 4))) 0 5 false [] ((conn 3, of_alice [] [] 4) ∷ []))) (sym opens_empty) second_login_history_goes
 
 -- alice as a stop left her
 abbrev ended : Connection

@@ -1,7 +1,7 @@
 -- What a run on listed worlds tells, from where its work ends.
 use Rattle.std.proofs.Common.{◌≡◌, ℕ, true, false, cond, not, nat_lt, map, is_some, Option, Some, None, List, [], Ok, Err, ap, ◌∙◌}
 use Rattle.std.specs.Ordering.{eq_by_cmp}
-use Rattle.std.specs.FinMap.{FinMap, empty, get, insert, remove, entries, from_entries, get-insert, get-empty, entries-insert}
+use Rattle.std.specs.FinMap.{FinMap, empty, get, insert, remove, entries, from_entries, get-insert, get-remove, get-empty, entries-insert}
 use Rattle.std.specs.FinMap.Entries.{find, put, where_key, is_sorted}
 use Rattle.dk_types.specs.declared.number.RunNo.{RunNo}
 use Rattle.dk_types.specs.declared.number.ConnNo.{ConnNo}
@@ -17,12 +17,12 @@ use Rattle.dk_types.specs.declared.fault.Outcome.TheVariants as outcome
 use Rattle.dk_types.specs.declared.job.Job.{Job}
 use Rattle.dk_types.specs.declared.limits.TheConstants.{EFFECTS_MOST_BYTES}
 use Rattle.dk_types.specs.Names.{bytes_cmp}
-use Rattle.dk_types.specs.declared.mode.Mode.TheVariants.{Platform, Game}
+use Rattle.dk_types.specs.declared.mode.Mode.TheVariants.{Platform}
 use Rattle.dk_model.specs.Keys.{id_cmp, key_cmp}
 use Rattle.dk_model.specs.DurableWorlds.{DurableWorld, Task}
 use Rattle.dk_model.specs.Effects.{same_id, same_object, same_value, pending_of, is_moved, moved_in, effects, effects_length}
-use Rattle.dk_model.specs.Runs.{Run, begun, within}
-use Rattle.dk_model.specs.Steps.{Stepped, work, kept_by, failed, failed_outs, ended, is_too_large, step}
+use Rattle.dk_model.specs.Runs.{Run, begun}
+use Rattle.dk_model.specs.Steps.{Stepped, work, game_part, kept_by, failed, failed_outs, ended, is_too_large, step}
 use Rattle.dk_model.specs.Events.{Meaning}
 use Rattle.dk_model.specs.Finishes.{told_step}
 use Rattle.dk_model.proofs.Maps.{ids_total, exact_ids, keys_total, exact_keys, names_total, exact_names}
@@ -82,7 +82,7 @@ world-made w l h i = record {
 
 module _ (rules : Meaning) (j : Job) (n : RunNo) (at : ℕ) (a b : Lists) (c : ℕ) (l : Option RunNo) where
   -- a run whose work ends well
-  pub runs_ok : (s : Run) → AreSorted a → work j (within Game (rules j)) (begun n at (listed a c l)) ≡ (Ok tt, s) → Holds s.world b
+  pub runs_ok : (s : Run) → AreSorted a → work (game_part rules) j (begun n at (listed a c l)) ≡ (Ok tt, s) → Holds s.world b
       → nat_lt EFFECTS_MOST_BYTES (effects_length (effects_by a b)) ≡ false
       → Runs rules j n at (listed a c l) (record { outcome = outcome.Ok; effects = effects_by a b; touched = s.touched; outs = s.outs }) (listed b s.world.commits s.world.last)
   unfolding is_too_large
@@ -100,7 +100,7 @@ module _ (rules : Meaning) (j : Job) (n : RunNo) (at : ℕ) (a b : Lists) (c : �
       }
 
   -- a run whose work fails
-  pub runs_failed : (s : Run) (fault : AppFault) → AreSorted a → work j (within Game (rules j)) (begun n at (listed a c l)) ≡ (Err fault, s)
+  pub runs_failed : (s : Run) (fault : AppFault) → AreSorted a → work (game_part rules) j (begun n at (listed a c l)) ≡ (Err fault, s)
       → (k : Run) → kept_by j (begun n at (listed a c l)) ≡ k → Holds k.world b
       → Runs rules j n at (listed a c l) (record { outcome = outcome.Fail fault; effects = effects_by a b; touched = k.touched; outs = failed_outs j }) (listed b k.world.commits k.world.last)
   runs_failed s fault sorted w k kept holds =
@@ -134,7 +134,14 @@ no_name = get-empty bytes_cmp
 pub no_task : (q : TaskKey) → get (empty {X = Task} {R = key_cmp}) q ≡ None
 no_task = get-empty key_cmp
 
-pub ruleset looks = (object_got, name_got, task_got, no_object, no_name, no_task)
+-- or taken away
+pub object_lost : (m : FinMap id_cmp Object) (k q : ObjectId) → get (remove m k) q ≡ cond (eq_by_cmp id_cmp q k) None (get m q)
+object_lost = get-remove ids_total
+
+pub name_lost : (m : FinMap bytes_cmp ObjectId) (k q : List ℕ) → get (remove m k) q ≡ cond (eq_by_cmp bytes_cmp q k) None (get m q)
+name_lost = get-remove names_total
+
+pub ruleset looks = (object_got, name_got, task_got, object_lost, name_lost, no_object, no_name, no_task)
 
 -- and what its entries are then
 pub object_put : (m : FinMap id_cmp Object) (k : ObjectId) (v : Object) → entries (insert m k v) ≡ put id_cmp k v (entries m)

@@ -22,7 +22,7 @@ use Rattle.dk_model.specs.Openings.{opening}
 use Rattle.dk_examples.specs.Worked.{run, conn, accepting, listed, nothing}
 use Rattle.dk_examples.specs.TimerGame.{timer_rules}
 use Rattle.dk_examples.specs.TimerRows.{occurrence, counted}
-use Rattle.dk_examples.specs.SessionRows.{alice, with_alice}
+use Rattle.dk_examples.specs.SessionRows.{alice, with_alice, with_alice_again}
 
 -- a world without a budget, by its moment, its next number, whether the last claim was of a task, its claims and its connections
 abbrev pub world : DurableWorld → ℕ → ℕ → Bool → List (RunNo × Claim) → List (ConnNo × Connection) → World
@@ -65,17 +65,17 @@ timer_events =
 abbrev pub TimerHistory : Type 0
 TimerHistory = Leads timer_rules (opening empty_world None) timer_events (world (listed counted 4 (Some (run 3))) 500 4 true [] [])
 
--- a second login under a connected name: its connection is gone once its messages are handed
+-- a second login under a connected name: the first one's connection is gone once its messages are handed
 abbrev pub second_login_events : List Event
 second_login_events =
     claim 0 0 job.Initialize ∷ commit 0 1
     ∷ connect 1 ∷ claim 2 0 (job.Login (conn 1) alice) ∷ commit 2 2
     ∷ connect 3 ∷ claim 4 0 (job.Login (conn 3) alice) ∷ commit 4 3 ∷ idle
-    ∷ event.Hand 0 (conn 3) 1 (out.Refused ∷ []) false ∷ event.Hand 0 (conn 3) 1 (out.Close ∷ []) true
-    ∷ event.Hand 0 (conn 1) 1 (out.Accepted ∷ []) false ∷ []
+    ∷ event.Hand 0 (conn 1) 1 (out.Accepted ∷ []) false ∷ event.Hand 0 (conn 1) 1 (out.Close ∷ []) true
+    ∷ event.Hand 0 (conn 3) 1 (out.Accepted ∷ []) false ∷ []
 
 abbrev pub SecondLoginHistory : Type 0
-SecondLoginHistory = Leads accepting (opening empty_world None) second_login_events (world (listed with_alice 3 (Some (run 4))) 0 5 false [] ((conn 1, of_alice [] [] 2) ∷ []))
+SecondLoginHistory = Leads accepting (opening empty_world None) second_login_events (world (listed with_alice_again 3 (Some (run 4))) 0 5 false [] ((conn 3, of_alice [] [] 4) ∷ []))
 
 -- after a stop alice's recorded session is told of its end by the first run that is claimed, and is gone then
 abbrev pub restart_events : List Event

@@ -10,8 +10,10 @@ use Rattle.dk_types.specs.declared.durable.Effects.{Effects}
 use Rattle.dk_types.specs.declared.fault.AppFault.TheVariants as fault
 use Rattle.dk_types.specs.declared.fault.Outcome.TheVariants as outcome
 use Rattle.dk_types.specs.declared.job.Job.{Job}
+use Rattle.dk_types.specs.declared.job.Job.TheVariants as job
+use Rattle.dk_types.specs.declared.job.Out.TheVariants as out
 use Rattle.dk_model.specs.DurableWorlds.{DurableWorld, Task}
-use Rattle.dk_model.specs.Runs.{Act, give}
+use Rattle.dk_model.specs.Runs.{Act, give, and_then, create, schedule, send}
 use Rattle.dk_model.specs.Steps.{step}
 use Rattle.dk_model.specs.Events.{Meaning}
 use Rattle.dk_model.specs.Finishes.{Told, told_step}
@@ -47,6 +49,19 @@ accepting job = give (Ok tt)
 -- rules by which every job gives up with the code 7
 abbrev pub giving_up : Job → Act (Unit {0})
 giving_up job = give (Err (fault.Game 7))
+
+-- rules by which every login gives up with the code 7, and every other job accepts
+abbrev pub turning_away : Job → Act (Unit {0})
+turning_away (job.Login conn name) = give (Err (fault.Game 7))
+turning_away _ = give (Ok tt)
+
+-- the task that such rules schedule at the moment 0
+abbrev pub made_task : Task
+made_task = record { due = 0; period = 0; kind = 1; arg = [] }
+
+-- rules by which every job makes an object, schedules a task and sends a message
+abbrev pub making : Job → Act (Unit {0})
+making job = and_then (create 7 []) (λ _. and_then (schedule 1 [] 0) (λ _. send (conn 9) (out.Message [])))
 
 -- what a durable world holds, each list in the order of its keys
 pub record Lists : Type 0 where

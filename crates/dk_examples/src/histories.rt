@@ -6,7 +6,7 @@ pub fn timer_history()
     ensures { TimerHistory }
 {}
 
-/// A second connection of a connected name is refused, and gone once that is handed.
+/// A second login of a connected name displaces the first, whose connection is gone once its messages are handed.
 pub fn second_login_history()
     ensures { SecondLoginHistory }
 {}

@@ -15,8 +15,9 @@ pub use picks::{
     names_in_order, picks_in_turn, queue_takes, ties_go_by_key,
 };
 pub use sessions::{
-    disconnect_ends, first_run_accepts, given_up_login_fails, login_is_accepted, long_login_fails,
-    second_login_is_refused, stop_ends, strange_message_is_nothing,
+    counts_go_on, disconnect_ends, first_run_accepts, given_up_login_fails, login_is_accepted,
+    login_over_no_record_fails, long_login_fails, second_login_displaces, stop_ends,
+    strange_message_is_nothing, turned_away_login_stays,
 };
 pub use timers::{
     once_fails, timer_begins, timer_ends, timer_fails, timer_goes_on, timer_is_over, timer_skips,

@@ -2,16 +2,14 @@
 use Rattle.std.proofs.Common.{◌≡◌, ℕ, ◌+◌, ◌<◌, ◌≤◌, zero, suc, if◌then◌else◌, Option, Some, None, is_some, List, [], ◌∷◌, length, drop, get_or, Result, Ok, Err, refl, sym, ap, subst, ◌∙◌, arith}
 use Rattle.std.specs.Result.{IsErrAnd}
 use Rattle.dk_types.specs.declared.number.ObjectId.{ObjectId}
-use Rattle.dk_types.specs.declared.item.Item.{Item}
-use Rattle.dk_types.specs.declared.item.Read.{Read}
 use Rattle.dk_types.specs.declared.job.Session.{Session}
-use Rattle.dk_types.specs.declared.job.Out.TheVariants as out
+use Rattle.dk_types.specs.declared.job.Job.{Job}
 use Rattle.dk_types.specs.declared.number.TaskKey.{TaskKey}
 use Rattle.dk_types.specs.declared.fault.AppFault.{AppFault}
-use Rattle.dk_model.specs.Platforms.{platform_bound, open_record, leave}
+use Rattle.dk_model.specs.Platforms.{platform_bound, find_session, leave}
 use Rattle.dk_model.specs.Records.{session_name}
-use Rattle.dk_model.specs.Runs.{Run, Act, and_then, send}
-use Rattle.dk_model.specs.Steps.{login, login_found, leave_channels}
+use Rattle.dk_model.specs.Runs.{Run, Act, give, and_then}
+use Rattle.dk_model.specs.Steps.{displace, displace_found, displace_recorded, leave_channels}
 use Rattle.dk_overlay.specs.Logged.{Logged}
 use Rattle.dk_refs.specs.Lookups.{is_recorded}
 use Rattle.dk_txn.specs.declared.txn.Txn.{Txn}
@@ -22,22 +20,19 @@ use Rattle.dk_game.specs.declared.halt.Halt.TheVariants as halt
 use Rattle.dk_game.specs.Halted.{halt_fault}
 use Rattle.dk_txn.specs.Sights.{Sights}
 
--- what a login does where its name has a record, and where it has none
-abbrev turned_away : Session → Act (Unit {0})
-turned_away session = and_then (send session.conn out.Refused) (λ _. send session.conn out.Close)
+-- what becomes of a name that has a record: its session is found, and displaced
+abbrev found_and_displaced : List ℕ → (Job → Act (Unit {0})) → Act (Unit {0})
+found_and_displaced name game = and_then (find_session name) (λ old. displace old game)
 
-abbrev let_in : Session → Act (Unit {0}) → Act (Unit {0})
-let_in session game = and_then (open_record session) (λ _. and_then (send session.conn out.Accepted) (λ _. game))
+displaced_as : (o : Option ObjectId) (name : List ℕ) (game : Job → Act (Unit {0})) (s : Run) → displace_found o name game s ≡ (if is_some o then found_and_displaced name game else give (Ok tt)) s
+displaced_as (Some id) name game s = refl
+displaced_as None name game s = refl
 
-login_as : (o : Option ObjectId) (session : Session) (game : Act (Unit {0})) (s : Run) → login_found o session game s ≡ (if is_some o then turned_away session else let_in session game) s
-login_as (Some id) session game s = refl
-login_as None session game s = refl
-
--- a login is the question whether its name has a record, and what follows
-pub login_does : {S : Type 0} {sights : Sights S} {a b : Txn S Logged} {r : Result (Unit {0}) Halt} (session : Session) (game : Act (Unit {0}))
-    → Does sights halt_fault a b (and_then (is_recorded session.name) (λ there. if there then turned_away session else let_in session game)) r → Does sights halt_fault a b (login session game) r
+-- whether a session is displaced is the question whether its name has a record
+pub displaced_does : {S : Type 0} {sights : Sights S} {a b : Txn S Logged} {r : Result (Unit {0}) Halt} (name : List ℕ) (game : Job → Act (Unit {0}))
+    → Does sights halt_fault a b (and_then (is_recorded name) (λ there. if there then found_and_displaced name game else give (Ok tt))) r → Does sights halt_fault a b (displace_recorded name game) r
 unfolding and_then is_recorded
-login_does session game p = does_as _ (λ s. login_as (platform_bound s (session_name session.name)) session game s) p
+displaced_does name game p = does_as _ (λ s. displaced_as (platform_bound s (session_name name)) name game s) p
 
 memory_told : {A : Type 0} (s : Result A AppFault) → failure None ≡ Some s → ⊥
 memory_told s t = cc

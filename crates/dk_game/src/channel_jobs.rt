@@ -1,6 +1,4 @@
 //! Messages on channels.
-ghost use Rattle.dk_types.specs.declared.mode.Mode.TheVariants as mode;
-ghost use Rattle.dk_model.specs.Runs.{within};
 ghost use Rattle.dk_model.specs.Steps as step;
 ghost use Rattle.dk_txn.specs.Does.{Does};
 ghost use Rattle.dk_game.specs.Halted.{halt_fault};
@@ -25,7 +23,7 @@ pub(crate) fn channel<G: Game, V: View>(
     body: &Blob,
     txn: &mut Txn<'_, V>,
 ) -> Result<(), Halt>
-    ensures { Does V.sights halt_fault txn.old txn.new (step.for_session session.now (step.channel_message session.now name.now body.now (within mode.Game (G.rules game.now job.now)))) result }
+    ensures { Does V.sights halt_fault txn.old txn.new (step.for_session session.now (step.channel_message session.now name.now body.now (step.game_part (G.rules game.now) job.now))) result }
 {
     if is_connected(alloc, txn, session)? {
         on_channel(alloc, game, job, session, name, body, txn)
@@ -43,7 +41,7 @@ fn on_channel<G: Game, V: View>(
     body: &Blob,
     txn: &mut Txn<'_, V>,
 ) -> Result<(), Halt>
-    ensures { Does V.sights halt_fault txn.old txn.new (step.channel_message session.now name.now body.now (within mode.Game (G.rules game.now job.now))) result }
+    ensures { Does V.sights halt_fault txn.old txn.new (step.channel_message session.now name.now body.now (step.game_part (G.rules game.now) job.now)) result }
 {
     match record_of(alloc, txn, name) {
         Ok((_, record)) => {

@@ -1,8 +1,6 @@
 //! The whole of a job.
 ghost use Rattle.std.specs.Prelude.{◌≡◌, IfOk};
-ghost use Rattle.dk_types.specs.declared.mode.Mode.TheVariants as mode;
-ghost use Rattle.dk_model.specs.Runs.{within};
-ghost use Rattle.dk_model.specs.Steps.{of_session, work};
+ghost use Rattle.dk_model.specs.Steps.{of_session, game_part as part, work};
 ghost use Rattle.dk_txn.specs.Knowing.{JobFits};
 ghost use Rattle.dk_txn.specs.Does.{DoesFor};
 ghost use Rattle.dk_txn.specs.Law.{IsBegun};
@@ -33,7 +31,7 @@ pub(crate) fn work_job<G: Game, V: View>(
     txn: &mut Txn<'_, V>,
 ) -> Result<(), Halt>
     requires { JobFits job.now }
-    ensures does { DoesFor (MayMove job.now) V.sights halt_fault txn.old txn.new (work job.now (within mode.Game (G.rules game.now job.now))) result }
+    ensures does { DoesFor (MayMove job.now) V.sights halt_fault txn.old txn.new (work (part (G.rules game.now)) job.now) result }
     ensures asked { IsBegun txn.old.log → AsksOwn job.now txn.new.log result }
 {
     match job {

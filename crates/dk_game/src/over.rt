@@ -5,6 +5,7 @@ ghost use Rattle.dk_types.specs.declared.item.Item.{Item};
 ghost use Rattle.dk_types.specs.declared.item.Read.{Read};
 ghost use Rattle.dk_types.specs.declared.limits.TheConstants.{MOMENT_MOST_MS};
 ghost use Rattle.dk_model.specs.Finishes.{KeepsLaw};
+ghost use Rattle.dk_overlay.specs.Asked.{IsOnce};
 ghost use Rattle.dk_txn.specs.Finishes.{told};
 ghost use Rattle.dk_txn.specs.Knowing.{JobFits};
 
@@ -29,6 +30,7 @@ pub fn run_over<G: Game, V: View>(
     ensures law { IfOk result (λ f. KeepsLaw (G.rules game.now) job.now number at f.reads.items (told f)) }
     ensures becomes { V.sights.becomes view.old view.new }
     ensures given { IfOk result (λ f. AllByRecursion (λ r. V.sights.gave view.new r.0 r.1) f.reads.items) }
+    ensures once { IfOk result (λ f. IsOnce f.reads.items) }
 {
     let mut txn = Txn::begin(alloc, view, number, at);
     run_job(alloc, game, job, &mut txn)

@@ -1,6 +1,5 @@
 //! Logins, messages and the ends of sessions.
-ghost use Rattle.dk_types.specs.declared.mode.Mode.TheVariants as mode;
-ghost use Rattle.dk_model.specs.Runs.{within};
+ghost use Rattle.dk_model.specs.Runs.{and_then};
 ghost use Rattle.dk_model.specs.Steps as step;
 ghost use Rattle.dk_txn.specs.Does.{Does};
 ghost use Rattle.dk_txn.specs.Refusals.{refusal_fault};
@@ -10,12 +9,12 @@ use crate::game::Game;
 use crate::halt::Halt;
 use crate::parts::game_part;
 use dk_channels::{Channel, leave};
-use dk_sessions::{close_record, is_connected, is_recorded, open_record, own_record};
+use dk_sessions::{close_record, find, is_connected, is_recorded, open_record, own_record};
 use dk_txn::{Refusal, Txn, View};
 use dk_types::{Job, Name, Out, Session};
 use std::alloc::Global;
 
-/// A login is refused where its name has a record; else it is recorded, told, and the game's.
+/// A login displaces the session that its name is recorded for, and then its own is recorded, told, and the game's.
 pub(crate) fn login<G: Game, V: View>(
     alloc: Global,
     game: &G,
@@ -23,16 +22,48 @@ pub(crate) fn login<G: Game, V: View>(
     session: &Session,
     txn: &mut Txn<'_, V>,
 ) -> Result<(), Halt>
-    ensures { Does V.sights halt_fault txn.old txn.new (step.login session.now (within mode.Game (G.rules game.now job.now))) result }
+    ensures { Does V.sights halt_fault txn.old txn.new (and_then (step.displace_recorded session.now.name (step.game_part (G.rules game.now))) (λ _. step.admit session.now (step.game_part (G.rules game.now) job.now))) result }
 {
-    if is_recorded(alloc, txn, &session.name)? {
-        txn.send(session.conn, Out::Refused)?;
-        txn.send(session.conn, Out::Close)?;
-        return Ok(());
-    }
+    displace_recorded(alloc, game, &session.name, txn)?;
     open_record(alloc, txn, session)?;
     txn.send(session.conn, Out::Accepted)?;
     game_part(alloc, game, job, txn)
+}
+
+/// The session that a name is recorded for, if there is one, ends as if its connection were lost, and the connection is
+/// closed.
+fn displace_recorded<G: Game, V: View>(
+    alloc: Global,
+    game: &G,
+    name: &Name,
+    txn: &mut Txn<'_, V>,
+) -> Result<(), Halt>
+    ensures { Does V.sights halt_fault txn.old txn.new (step.displace_recorded name.now (step.game_part (G.rules game.now))) result }
+{
+    if is_recorded(alloc, txn, name)? {
+        let old = find(alloc, txn, name)?;
+        displace(alloc, game, &old, txn)
+    } else {
+        Ok(())
+    }
+}
+
+fn displace<G: Game, V: View>(
+    alloc: Global,
+    game: &G,
+    old: &Session,
+    txn: &mut Txn<'_, V>,
+) -> Result<(), Halt>
+    ensures { Does V.sights halt_fault txn.old txn.new (step.displace old.now (step.game_part (G.rules game.now))) result }
+{
+    let lost = Job::Disconnect {
+        conn: old.conn,
+        name: old.name.clone()?,
+        graceful: false,
+    };
+    end_session(alloc, game, &lost, old, txn)?;
+    txn.send(old.conn, Out::Close)?;
+    Ok(())
 }
 
 /// A message is the game's where its session is recorded with its number; else it is nothing.
@@ -43,7 +74,7 @@ pub(crate) fn message<G: Game, V: View>(
     session: &Session,
     txn: &mut Txn<'_, V>,
 ) -> Result<(), Halt>
-    ensures { Does V.sights halt_fault txn.old txn.new (step.for_session session.now (within mode.Game (G.rules game.now job.now))) result }
+    ensures { Does V.sights halt_fault txn.old txn.new (step.for_session session.now (step.game_part (G.rules game.now) job.now)) result }
 {
     if is_connected(alloc, txn, session)? {
         game_part(alloc, game, job, txn)
@@ -60,7 +91,7 @@ pub(crate) fn disconnect<G: Game, V: View>(
     session: &Session,
     txn: &mut Txn<'_, V>,
 ) -> Result<(), Halt>
-    ensures { Does V.sights halt_fault txn.old txn.new (step.for_session session.now (step.disconnect session.now (within mode.Game (G.rules game.now job.now)))) result }
+    ensures { Does V.sights halt_fault txn.old txn.new (step.for_session session.now (step.end_session session.now (step.game_part (G.rules game.now) job.now))) result }
 {
     if is_connected(alloc, txn, session)? {
         end_session(alloc, game, job, session, txn)
@@ -76,7 +107,7 @@ fn end_session<G: Game, V: View>(
     session: &Session,
     txn: &mut Txn<'_, V>,
 ) -> Result<(), Halt>
-    ensures { Does V.sights halt_fault txn.old txn.new (step.disconnect session.now (within mode.Game (G.rules game.now job.now))) result }
+    ensures { Does V.sights halt_fault txn.old txn.new (step.end_session session.now (step.game_part (G.rules game.now) job.now)) result }
 {
     game_part(alloc, game, job, txn)?;
     let (_, record) = own_record(alloc, txn, session)?;

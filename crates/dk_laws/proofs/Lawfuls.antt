@@ -1,9 +1,12 @@
 -- Each operation and each call is lawful, as the laws state it.
-use Rattle.dk_model.specs.Runs.{Act}
+use Rattle.std.proofs.Common.{refl}
+use Rattle.dk_types.specs.declared.mode.Mode.{Mode}
+use Rattle.dk_model.specs.Runs.{Act, within}
+use Rattle.dk_model.specs.Platforms.{open_record, close_record, create_channel, join, leave, leave_all}
 use Rattle.dk_model.proofs.Acts.{IsLawful, goes_on_of, keeps_of}
 use Rattle.dk_model.proofs.Operations.{lawful_get, lawful_create, lawful_save, lawful_mark, lawful_remove, lawful_bound, lawful_bind, lawful_unbind, lawful_next_bound, lawful_schedule, lawful_schedule_periodic, lawful_cancel, lawful_send}
 use Rattle.dk_model.proofs.PlatformActs.{lawful_is_connected, lawful_find_session, lawful_session_send, lawful_open_record, lawful_close_record, lawful_create_channel, lawful_get_channel, lawful_join, lawful_leave, lawful_leave_all, lawful_members, lawful_channel_send}
-use Rattle.dk_laws.specs.OperationsLaw.{IsLawfulAct, IsLawfulWhere, OperationsAreLawful, CallsAreLawful}
+use Rattle.dk_laws.specs.OperationsLaw.{IsLawfulAct, IsLawfulWhere, KeepsMode, OperationsAreLawful, CallsAreLawful, ModesArePutBack}
 
 where_met : {A Needs : Type 0} {Has : A → Type 0} {act : Act A} → IsLawful Needs Has act → IsLawfulWhere Needs act
 where_met p = (goes_on_of p, λ n. keeps_of p n)
@@ -42,4 +45,19 @@ calls_lawful = record {
   leave_all = λ name. always (lawful_leave_all name);
   members = λ name. always (lawful_members name);
   channel_send = λ name sender body. always (lawful_channel_send name sender body);
+}
+
+within_keeps : {A : Type 0} (mode : Mode) (act : Act A) → KeepsMode (within mode act)
+unfolding within
+within_keeps mode act s = refl
+
+pub modes_put_back : ModesArePutBack
+unfolding open_record close_record create_channel join leave leave_all
+modes_put_back = record {
+  open_record = λ session. within_keeps _ _;
+  close_record = λ session. within_keeps _ _;
+  create_channel = λ name listener delivery. within_keeps _ _;
+  join = λ name session. within_keeps _ _;
+  leave = λ name session. within_keeps _ _;
+  leave_all = λ name. within_keeps _ _;
 }

@@ -22,8 +22,10 @@ use Rattle.dk_model.specs.Openings.{opening, counting}
 use Rattle.dk_model.specs.Steps.{step}
 use Rattle.dk_model.specs.Lawful.{AreLawful, IsWithinLimits}
 use Rattle.dk_model.proofs.StepLaws.{step_goes_on}
+use Rattle.dk_model.proofs.StepValid.{step_few}
 use Rattle.dk_model.proofs.OnceTasks.{once_gone}
 use Rattle.dk_model.proofs.Works.{IsOwnKey}
+use Rattle.dk_laws.specs.MessagesLaw.{RunsSendFew}
 use Rattle.dk_laws.specs.HistoryLaws.{WorldsStayValid, ClaimsStandReady, IsOnce, KeysDoNotReturn, Draws, Knows, NumbersAreNew}
 use Rattle.dk_laws.proofs.OneWorld.{events_lead, parted}
 use Rattle.dk_laws.proofs.Numbers.{leads_grow}
@@ -46,6 +48,11 @@ claims_ready rules d budget events w run claim lawful v within h held =
     let c = s.claims run claim held in
     let ready = claim_ready w run claim s held in
     (ready.new, c.job, c.own)
+
+pub sends_few : RunsSendFew
+sends_few rules d budget events w run claim lawful v within h held =
+    let s = history_sound rules d budget events w lawful v within h in
+    step_few rules lawful claim.job run claim.at w.durable s.valid (claim_ready w run claim s held)
 
 -- ---- keys of once-tasks
 

@@ -7,16 +7,15 @@ use Rattle.dk_types.specs.declared.number.TaskKey.{TaskKey}
 use Rattle.dk_types.specs.declared.job.Job.{Job}
 use Rattle.dk_types.specs.declared.job.Job.TheVariants as job
 use Rattle.dk_types.specs.declared.limits.TheConstants.{PERIOD_MOST_MS}
-use Rattle.dk_types.specs.declared.mode.Mode.TheVariants.{Game}
 use Rattle.dk_model.specs.DurableWorlds.{DurableWorld, Task}
 use Rattle.dk_model.specs.Validity.{IsValid}
-use Rattle.dk_model.specs.Runs.{Run, Act, begun, within, give, and_then, carry_on, with_task}
-use Rattle.dk_model.specs.Steps.{next_due, own_found, own_task, step, work}
+use Rattle.dk_model.specs.Runs.{Run, Act, begun, give, and_then, carry_on, with_task}
+use Rattle.dk_model.specs.Steps.{next_due, own_found, own_task, step, work, game_part}
 use Rattle.dk_model.specs.Events.{Meaning}
 use Rattle.dk_model.specs.Lawful.{GoesOn, IsFit, IsMade, IsJob, AreLawful}
 use Rattle.dk_model.proofs.Maps.{keys_total, exact_keys, get-insert_cases, get-remove_cases, some_is}
-use Rattle.dk_model.proofs.Acts.{Anything, IsLawful, lawful_if, lawful_needs, lawful_done, lawful_within}
-use Rattle.dk_model.proofs.Works.{SteadyAt, IsDueBy, IsOwnKey, own_steady, game_lawful}
+use Rattle.dk_model.proofs.Acts.{Anything, IsLawful, lawful_if, lawful_needs, lawful_done}
+use Rattle.dk_model.proofs.Works.{SteadyAt, IsDueBy, IsOwnKey, own_steady, parts_lawful}
 use Rattle.dk_model.proofs.StepLaws.{ended_has}
 use Rattle.dk_model.proofs.StepValid.{IsReady, begun_fit, step_leaves}
 use Rattle.dk_laws.specs.EffectsLaw.{DifferInDue}
@@ -84,11 +83,11 @@ module _ (rules : Meaning) (lawful : AreLawful rules) (run : RunNo) (at : ℕ) (
   step_differs (job.Task key due period kind arg) ready = λ q x y e.
       let j = job.Task key due period kind arg in
       let start = begun run at d in
-      let end = work j (within Game (rules j)) start in
+      let end = work (game_part rules) j start in
       let fit = begun_fit j run at d v ready in
       ended_has (λ world touched. maps.get world.tasks q ≡ Some y → SameButDue x y) j d start end.0 end.1
       (own_differs key due period start (maps.get d.tasks key) refl q x y e)
-      (task_differs {Needs = IsJob j × IsDueBy j at} key due period (within Game (rules j)) start (λ n. (n.0.1.period, n.1)) (lawful_within Game (lawful_needs (λ n. n.0) (game_lawful rules lawful j))) (ready.job, ready.due) fit q x y e)
+      (task_differs {Needs = IsJob j × IsDueBy j at} key due period (game_part rules j) start (λ n. (n.0.1.period, n.1)) (lawful_needs (λ n. n.0) (parts_lawful rules lawful j)) (ready.job, ready.due) fit q x y e)
   step_differs job.Initialize ready = all_same job.Initialize ready (λ _ n. n)
   step_differs (job.Login conn name) ready = all_same (job.Login conn name) ready (λ _ n. n)
   step_differs (job.Message conn name body) ready = all_same (job.Message conn name body) ready (λ _ n. n)

@@ -1,5 +1,5 @@
 -- What the platform does to a run is lawful.
-use Rattle.std.specs.Prelude.{ℕ, ◌<◌, ◌^◌, Bool, All, Option, List}
+use Rattle.std.specs.Prelude.{◌≡◌, ℕ, ◌<◌, ◌^◌, Bool, All, Option, List}
 use Rattle.dk_types.specs.declared.number.ConnNo.{ConnNo}
 use Rattle.dk_types.specs.declared.number.ObjectId.{ObjectId}
 use Rattle.dk_types.specs.declared.number.TaskKey.{TaskKey}
@@ -9,7 +9,7 @@ use Rattle.dk_types.specs.Names.{IsName}
 use Rattle.dk_model.specs.declared.records.Delivery.{Delivery}
 use Rattle.dk_model.specs.Validity.{IsNumbered}
 use Rattle.dk_model.specs.Runs as act
-use Rattle.dk_model.specs.Runs.{Act}
+use Rattle.dk_model.specs.Runs.{Run, Act}
 use Rattle.dk_model.specs.Platforms as call
 use Rattle.dk_model.specs.Lawful.{AlwaysGoesOn, KeepsFit}
 
@@ -23,6 +23,10 @@ IsLawfulWhere Needs act = AlwaysGoesOn act × (Needs → KeepsFit act)
 
 abbrev pub AreBytes : List ℕ → Type 0
 AreBytes bytes = All (λ b. b < 256) bytes
+
+-- the mode is the one before
+abbrev pub KeepsMode : {A : Type 0} → Act A → Type 0
+KeepsMode act = (s : Run) → (act s).1.mode ≡ s.mode
 
 -- the operations on objects, names, tasks and messages
 pub record OperationsAreLawful : Type 0 where
@@ -54,3 +58,12 @@ pub record CallsAreLawful : Type 0 where
   pub leave_all : (name : List ℕ) → IsLawfulAct (call.leave_all name)
   pub members : (name : List ℕ) → IsLawfulAct (call.members name)
   pub channel_send : (name : List ℕ) (sender : Option Session) (body : List ℕ) → IsLawfulAct (call.channel_send name sender body)
+
+-- the calls that act for the platform, whoever makes them, put the mode back
+pub record ModesArePutBack : Type 0 where
+  pub open_record : (session : Session) → KeepsMode (call.open_record session)
+  pub close_record : (session : Session) → KeepsMode (call.close_record session)
+  pub create_channel : (name : List ℕ) (listener : Bool) (delivery : Delivery) → KeepsMode (call.create_channel name listener delivery)
+  pub join : (name : List ℕ) (session : Session) → KeepsMode (call.join name session)
+  pub leave : (name : List ℕ) (session : Session) → KeepsMode (call.leave name session)
+  pub leave_all : (name : List ℕ) → KeepsMode (call.leave_all name)

@@ -8,7 +8,7 @@ use Rattle.dk_types.specs.declared.number.TaskKey.{TaskKey}
 use Rattle.dk_types.specs.declared.mode.Mode.{Mode}
 use Rattle.dk_model.specs.Validity.{IsNumbered}
 use Rattle.dk_model.specs.Runs.{Run, Act, give, and_then, within, carry_on, refuse}
-use Rattle.dk_model.specs.Lawful.{GoesOn, IsFit, LeavesTasks, AlwaysGoesOn, KeepsFit, IsJob, AreLawful}
+use Rattle.dk_model.specs.Lawful.{GoesOn, IsFit, LeavesTasks, AlwaysGoesOn, KeepsFit, IsForGame, AreLawful}
 use Rattle.dk_model.proofs.Goings.{goes_nowhere, goes_then, goes_within}
 use Rattle.dk_model.proofs.Fits.{fit_with, leaves_all, leaves_then}
 
@@ -88,9 +88,9 @@ lawful_within {f = f} mode p = record {
   at = λ s.
       let q = p.at (record s { mode = mode }) in record {
         goes = goes_within s mode ((f (record s { mode = mode })).1) q.goes;
-        fit = λ n h. let g = q.fit n (fit_with s h mode s.outs h.bodies) in fit_with _ g s.mode ((f (record s { mode = mode })).1.outs) g.bodies;
-        leaves = λ n h. q.leaves n (fit_with s h mode s.outs h.bodies);
-        has = λ n h. q.has n (fit_with s h mode s.outs h.bodies);
+        fit = λ n h. let g = q.fit n (fit_with s h mode s.outs h.few_messages h.bodies) in fit_with _ g s.mode ((f (record s { mode = mode })).1.outs) g.few_messages g.bodies;
+        leaves = λ n h. q.leaves n (fit_with s h mode s.outs h.few_messages h.bodies);
+        has = λ n h. q.has n (fit_with s h mode s.outs h.few_messages h.bodies);
       };
 }
 
@@ -147,6 +147,6 @@ lawful_looks look go Says h p = record {
       };
 }
 
--- rules are lawful whose every job is an act that is lawful where the job's fields are within their limits
-pub lawful_rules : {rules : Job → Act (Unit {0})} → ((job : Job) → IsLawful (IsJob job) Anything (rules job)) → AreLawful rules
+-- rules are lawful whose every job is an act that is lawful where a game may be given the job
+pub lawful_rules : {rules : Job → Act (Unit {0})} → ((job : Job) → IsLawful (IsForGame job) Anything (rules job)) → AreLawful rules
 lawful_rules h = record { goes_on = λ job. goes_on_of (h job); keeps = λ job is. keeps_of (h job) is }

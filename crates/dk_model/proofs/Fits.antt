@@ -1,12 +1,12 @@
 -- A fit run stays fit where one thing of it is written within the limits.
-use Rattle.std.proofs.Common.{◌≡◌, ℕ, ◌<◌, ◌≤◌, Option, Some, None, List, refl, sym, subst, ◌∙◌, inl, inr, arith}
+use Rattle.std.proofs.Common.{◌≡◌, ℕ, ◌<◌, ◌≤◌, Option, Some, None, List, length, refl, sym, subst, ◌∙◌, inl, inr, arith}
 use Rattle.std.specs.FinMap.{get}
 use Rattle.dk_types.specs.declared.number.ConnNo.{ConnNo}
 use Rattle.dk_types.specs.declared.number.ObjectId.{ObjectId}
 use Rattle.dk_types.specs.declared.number.TaskKey.{TaskKey}
 use Rattle.dk_types.specs.declared.object.Object.{Object}
 use Rattle.dk_types.specs.declared.job.Out.{Out}
-use Rattle.dk_types.specs.declared.limits.TheConstants.{OBJECTS_MOST_COUNT, TASKS_MOST_COUNT}
+use Rattle.dk_types.specs.declared.limits.TheConstants.{OBJECTS_MOST_COUNT, TASKS_MOST_COUNT, MESSAGES_MOST_COUNT}
 use Rattle.dk_types.specs.Names.{IsName}
 use Rattle.dk_types.specs.declared.mode.Mode.{Mode}
 use Rattle.dk_model.specs.DurableWorlds.{Task, with_value}
@@ -15,15 +15,16 @@ use Rattle.dk_model.specs.Runs.{Run, with_object, with_name, with_task}
 use Rattle.dk_model.specs.Lawful.{IsMade, GoesOn, HaveShortBodies, IsFit, LeavesTasks}
 use Rattle.dk_model.proofs.Maps.{ids_total, exact_ids, names_total, exact_names, keys_total, exact_keys, get-with_value_cases, some_is}
 
--- the mode does not matter, nor do messages with short bodies
-pub fit_with : (s : Run) → IsFit s → (mode : Mode) (outs : List (ConnNo × Out)) → HaveShortBodies outs → IsFit (record s { mode = mode; outs = outs })
-fit_with s f mode outs short = record {
+-- the mode does not matter, nor do messages within their limits
+pub fit_with : (s : Run) → IsFit s → (mode : Mode) (outs : List (ConnNo × Out)) → length outs ≤ MESSAGES_MOST_COUNT → HaveShortBodies outs → IsFit (record s { mode = mode; outs = outs })
+fit_with s f mode outs few short = record {
   world = f.world;
   number = f.number;
   committed = f.committed;
   at = f.at;
   few_objects = f.few_objects;
   few_tasks = f.few_tasks;
+  few_messages = few;
   bodies = short;
   objects = f.objects;
   tasks = f.tasks;
@@ -57,6 +58,7 @@ fit_object s f id new made more most owes = record {
   at = f.at;
   few_objects = most;
   few_tasks = f.few_tasks;
+  few_messages = f.few_messages;
   bodies = f.bodies;
   objects = λ q object e own. elim (get-with_value_cases ids_total exact_ids s.world.objects id new q object e) [
     | inl p ↦
@@ -85,6 +87,7 @@ fit_name s f name new owes = record {
   at = f.at;
   few_objects = f.few_objects;
   few_tasks = f.few_tasks;
+  few_messages = f.few_messages;
   bodies = f.bodies;
   objects = f.objects;
   tasks = f.tasks;
@@ -119,6 +122,7 @@ fit_tasks s f key new made more most owes = record {
   at = f.at;
   few_objects = f.few_objects;
   few_tasks = most;
+  few_messages = f.few_messages;
   bodies = f.bodies;
   objects = f.objects;
   tasks = λ q task e own. elim (get-with_value_cases keys_total exact_keys s.world.tasks key new q task e) [
@@ -139,6 +143,7 @@ fit_task s f key new made more most owes = let t = fit_tasks s f key new made mo
   at = t.at;
   few_objects = t.few_objects;
   few_tasks = t.few_tasks;
+  few_messages = t.few_messages;
   bodies = t.bodies;
   objects = t.objects;
   tasks = t.tasks;

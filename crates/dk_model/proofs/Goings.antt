@@ -29,14 +29,13 @@ Lacks-one : (x item : Item) → Lacks (x ∷ []) item → x ≡ item → ⊥
 unfolding Lacks
 Lacks-one x item h = h.0
 
--- a run that is as it was, but for the messages, goes on
-pub goes_sending : (s : Run) (outs : List (ConnNo × Out)) → GoesOn s (record s { outs = outs })
-goes_sending s outs = record {
+-- a run that is as it was, but for messages behind those that were sent, goes on
+pub goes_sending : (s : Run) (outs sent : List (ConnNo × Out)) → outs ≡ s.outs ++ sent → GoesOn s (record s { outs = outs })
+goes_sending s outs sent behind = record {
   commits = refl;
   last = refl;
   number = refl;
   at = refl;
-  mode = refl;
   written = [];
   listed = sym (append-nil s.touched);
   objects = λ id h. refl;
@@ -46,11 +45,13 @@ goes_sending s outs = record {
   more_tasks = le_refl _;
   new_objects = λ id object e f. not_both _ object f e;
   new_tasks = λ key task e f. not_both _ task f e;
+  sent = sent;
+  behind = behind;
 }
 
 -- a run that is as it was goes on
 pub goes_nowhere : (s : Run) → GoesOn s s
-goes_nowhere s = goes_sending s s.outs
+goes_nowhere s = goes_sending s s.outs [] (sym (append-nil s.outs))
 
 made_later : (a b : RunNo) (from mid to k : ℕ) (run : RunNo) → b ≡ a → from ≤ mid → IsMade b mid to run k → IsMade a from to run k
 made_later a b from mid to k run same more made = (made.0 ∙ same, le_trans more made.1, made.2)
@@ -65,7 +66,6 @@ goes_then {a = a} {b = b} {c = c} p q = record {
   last = q.last ∙ p.last;
   number = q.number ∙ p.number;
   at = q.at ∙ p.at;
-  mode = q.mode ∙ p.mode;
   written = p.written ++ q.written;
   listed = q.listed ∙ ap (λ xs. xs ++ q.written) p.listed ∙ append_assoc a.touched p.written q.written;
   objects = λ id h. q.objects id (Lacks-back p.written q.written (ask.Object id) h) ∙ p.objects id (Lacks-front p.written q.written (ask.Object id) h);
@@ -83,6 +83,8 @@ goes_then {a = a} {b = b} {c = c} p q = record {
         | None ↦ λ none. made_later a.number b.number _ _ _ key.k key.run p.number p.more_tasks (q.new_tasks key task none f)
         | Some x ↦ λ some. made_earlier a.number _ _ _ key.k key.run q.more_tasks (p.new_tasks key x e some)
       ] refl;
+  sent = p.sent ++ q.sent;
+  behind = q.behind ∙ ap (λ xs. xs ++ q.sent) p.behind ∙ append_assoc a.outs p.sent q.sent;
 }
 
 -- a run in another mode, and then in its own
@@ -92,7 +94,6 @@ goes_within s mode b p = record {
   last = p.last;
   number = p.number;
   at = p.at;
-  mode = refl;
   written = p.written;
   listed = p.listed;
   objects = p.objects;
@@ -102,6 +103,8 @@ goes_within s mode b p = record {
   more_tasks = p.more_tasks;
   new_objects = p.new_objects;
   new_tasks = p.new_tasks;
+  sent = p.sent;
+  behind = p.behind;
 }
 
 -- one object is written; where it was not there, it is of the run's own
@@ -113,7 +116,6 @@ goes_object s id new made more own = record {
   last = refl;
   number = refl;
   at = refl;
-  mode = refl;
   written = ask.Object id ∷ [];
   listed = refl;
   objects = λ q h. get-with_value_other ids_total exact_ids s.world.objects id new q (λ e. Lacks-one (ask.Object id) (ask.Object q) h (ap ask.Object e));
@@ -126,6 +128,8 @@ goes_object s id new made more own = record {
     | inr there ↦ not_both _ object there e
   ];
   new_tasks = λ key task e f. not_both _ task f e;
+  sent = [];
+  behind = sym (append-nil s.outs);
 }
 
 -- one name is written
@@ -135,7 +139,6 @@ goes_name s name new = record {
   last = refl;
   number = refl;
   at = refl;
-  mode = refl;
   written = ask.Bound name ∷ [];
   listed = refl;
   objects = λ id h. refl;
@@ -145,6 +148,8 @@ goes_name s name new = record {
   more_tasks = le_refl _;
   new_objects = λ id object e f. not_both _ object f e;
   new_tasks = λ key task e f. not_both _ task f e;
+  sent = [];
+  behind = sym (append-nil s.outs);
 }
 
 -- one task is written; where it was not there, it is of the run's own
@@ -156,7 +161,6 @@ goes_task s key new made more own = record {
   last = refl;
   number = refl;
   at = refl;
-  mode = refl;
   written = ask.Task key ∷ [];
   listed = refl;
   objects = λ id h. refl;
@@ -169,4 +173,6 @@ goes_task s key new made more own = record {
     | inl p ↦ subst (λ (i : TaskKey). IsMade s.number s.tasks_made made i.run i.k) (sym p.0) (own (ap (get s.world.tasks) (sym p.0) ∙ e) task p.1)
     | inr there ↦ not_both _ task there e
   ];
+  sent = [];
+  behind = sym (append-nil s.outs);
 }

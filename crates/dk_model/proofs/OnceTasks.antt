@@ -6,16 +6,15 @@ use Rattle.dk_types.specs.declared.number.RunNo.{RunNo}
 use Rattle.dk_types.specs.declared.number.TaskKey.{TaskKey}
 use Rattle.dk_types.specs.declared.job.Job.{Job}
 use Rattle.dk_types.specs.declared.job.Job.TheVariants as job
-use Rattle.dk_types.specs.declared.mode.Mode.TheVariants.{Game}
 use Rattle.dk_model.specs.DurableWorlds.{DurableWorld, Task}
-use Rattle.dk_model.specs.Runs.{Run, Act, begun, give, and_then, carry_on, within}
-use Rattle.dk_model.specs.Steps.{step, work, own_found, own_task}
+use Rattle.dk_model.specs.Runs.{Run, Act, begun, give, and_then, carry_on}
+use Rattle.dk_model.specs.Steps.{step, work, game_part, own_found, own_task}
 use Rattle.dk_model.specs.Events.{Meaning}
 use Rattle.dk_model.specs.Lawful.{GoesOn, AlwaysGoesOn, AreLawful}
 use Rattle.dk_model.proofs.Maps.{keys_total, get-remove_here}
 use Rattle.dk_model.proofs.Goings.{goes_nowhere}
-use Rattle.dk_model.proofs.Acts.{Anything, IsLawful, goes_on_of, lawful_done, lawful_if, lawful_needs, lawful_within}
-use Rattle.dk_model.proofs.Works.{game_lawful, own_steady}
+use Rattle.dk_model.proofs.Acts.{Anything, IsLawful, goes_on_of, lawful_done, lawful_if, lawful_needs}
+use Rattle.dk_model.proofs.Works.{parts_lawful, own_steady}
 use Rattle.dk_model.proofs.StepLaws.{ended_has}
 
 own_gone_at : (key : TaskKey) (due : ℕ) (s : Run) (o : Option Task) → get s.world.tasks key ≡ o → get (own_found o key due 0 s).1.world.tasks key ≡ None
@@ -55,6 +54,6 @@ pub once_gone : (rules : Meaning) → AreLawful rules → (key : TaskKey) (due k
 once_gone rules lawful key due kind arg run at d apart =
     let j : Job = job.Task key due 0 kind arg in
     let start = begun run at d in
-    let game = within Game (rules j) in
-    let end = work j game start in
-    ended_has (λ world touched. get world.tasks key ≡ None) j d start end.0 end.1 (own_gone key due start) (worked_gone key due game start (goes_on_of (lawful_within Game (game_lawful rules lawful j))) apart)
+    let game = game_part rules in
+    let end = work game j start in
+    ended_has (λ world touched. get world.tasks key ≡ None) j d start end.0 end.1 (own_gone key due start) (worked_gone key due (game j) start (goes_on_of (parts_lawful rules lawful j)) apart)

@@ -1,5 +1,5 @@
 -- Each operation on objects, names, tasks and messages is lawful.
-use Rattle.std.proofs.Common.{◌≡◌, ℕ, ◌+◌, ◌^◌, ◌<◌, ◌≤◌, Bool, true, false, cond, nat_le, nat_lt, ◌||◌, ◌==◌, Option, Some, None, List, [], ◌∷◌, ◌++◌, length, Ok, refl, sym, ap, subst, ◌∙◌, arith, inl, inr, le_refl, ltb-false, leb-false, is_eq}
+use Rattle.std.proofs.Common.{◌≡◌, ℕ, ◌+◌, ◌^◌, ◌<◌, ◌≤◌, Bool, true, false, cond, nat_le, nat_lt, ◌||◌, ◌==◌, Option, Some, None, List, [], ◌∷◌, ◌++◌, length, length-append, Ok, refl, sym, ap, subst, ◌∙◌, arith, inl, inr, le_refl, ltb-false, leb-false, is_eq}
 use Rattle.std.specs.declared.cmp.Ordering.{Ordering}
 use Rattle.std.specs.Cmp.{IsTotalOrder, tied_itself}
 use Rattle.std.specs.FinMap as map
@@ -216,19 +216,23 @@ pub lawful_cancel : {Needs : Type 0} (key : TaskKey) → IsLawful Needs Anything
 unfolding act.cancel
 lawful_cancel key = record { at = λ s. cancelled_at s key (map.get s.world.tasks key) refl }
 
--- messages with short bodies, however many
-pub sent_at : {Needs : Type 0} (s : Run) (outs : List (ConnNo × Out)) → (Needs → IsFit s → HaveShortBodies outs) → LawfulAt Needs (Anything {A = Unit {0}}) s (Ok tt, record s { outs = outs })
-sent_at s outs short = record {
-  goes = goes_sending s outs;
-  fit = λ n f. fit_with s f s.mode outs (short n f);
+-- messages with short bodies, as many as a run may send
+pub sent_at : {Needs : Type 0} (s : Run) (sent : List (ConnNo × Out)) → length (s.outs ++ sent) ≤ MESSAGES_MOST_COUNT → (Needs → IsFit s → HaveShortBodies (s.outs ++ sent))
+    → LawfulAt Needs (Anything {A = Unit {0}}) s (Ok tt, record s { outs = s.outs ++ sent })
+sent_at s sent few short = record {
+  goes = goes_sending s (s.outs ++ sent) sent refl;
+  fit = λ n f. fit_with s f s.mode (s.outs ++ sent) few (short n f);
   leaves = λ n f key x y e g. same_left _ x y e g;
   has = λ n f. tt;
 }
+
+one_sent : (outs : List (ConnNo × Out)) (message : ConnNo × Out) → length outs < MESSAGES_MOST_COUNT → length (outs ++ message ∷ []) ≤ MESSAGES_MOST_COUNT
+one_sent outs message few = omega (arith, few, length-append outs (message ∷ []))
 
 -- `send` needs nothing
 pub lawful_send : {Needs : Type 0} (to : ConnNo) (message : Out) → IsLawful Needs Anything (act.send to message)
 unfolding act.send
 lawful_send to message = record {
-  at = λ s. at_if (act.is_too_long (act.body_of message)) (λ _. refused s _) (λ short. at_if (nat_le MESSAGES_MOST_COUNT (length s.outs)) (λ _. refused s _) (λ _.
-      sent_at s (s.outs ++ (to, message) ∷ []) (λ n f. All-push (λ o. HasShortBody o.1) s.outs (to, message) f.bodies (ltb-false _ _ short))));
+  at = λ s. at_if (act.is_too_long (act.body_of message)) (λ _. refused s _) (λ short. at_if (nat_le MESSAGES_MOST_COUNT (length s.outs)) (λ _. refused s _) (λ few.
+      sent_at s ((to, message) ∷ []) (one_sent s.outs (to, message) (leb-false _ _ few)) (λ n f. All-push (λ o. HasShortBody o.1) s.outs (to, message) f.bodies (ltb-false _ _ short))));
 }

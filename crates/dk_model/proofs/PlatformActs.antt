@@ -1,6 +1,7 @@
 -- Each of the platform's calls on sessions and channels is lawful.
-use Rattle.std.proofs.Common.{◌≡◌, ℕ, ◌+◌, ◌<◌, ◌^◌, arith, Bool, true, false, cond, if◌then◌else◌, All, map, not, ◌||◌, nat_eq, nat_lt, is_some, ltb-false, Option, Some, None, List, [], ◌∷◌, ◌++◌, length, refl}
+use Rattle.std.proofs.Common.{◌≡◌, ℕ, ◌+◌, ◌<◌, ◌≤◌, ◌^◌, arith, Bool, true, false, cond, if◌then◌else◌, All, map, not, ◌||◌, nat_eq, nat_lt, is_some, ltb-false, Option, Some, None, List, [], ◌∷◌, ◌++◌, length, length-append, refl}
 use Rattle.std.specs.FinMap as maps
+use Rattle.std.proofs.lemmas.List.{length-map}
 use Rattle.std.proofs.lemmas.List.Elements.{All-nil, All-push, All-append, All-map, All-filter}
 use Rattle.dk_types.specs.declared.number.ObjectId.{ObjectId}
 use Rattle.dk_types.specs.declared.number.ConnNo.{ConnNo}
@@ -186,9 +187,12 @@ pub lawful_members : {Needs : Type 0} (name : List ℕ) → IsLawful Needs (All 
 unfolding does.members
 lawful_members name = lawful_then (lawful_channel_under name) (λ c. lawful_give c.1.members (λ n. n.1.1))
 
+each_sent : (outs : List (ConnNo × Out)) (members : List Session) (message : Out) → length outs + length members ≤ MESSAGES_MOST_COUNT → length (outs ++ map (λ m. (m.conn, message)) members) ≤ MESSAGES_MOST_COUNT
+each_sent outs members message few = omega (arith, few, length-append outs (map (λ m. (m.conn, message)) members), length-map {B = ConnNo × Out} members (λ m. (m.conn, message)))
+
 lawful_send_each : {Needs : Type 0} (members : List Session) (message : Out) → (Needs → HasShortBody message) → IsLawful Needs Anything (does.send_each members message)
 lawful_send_each members message short = record {
-  at = λ s. at_if (nat_lt MESSAGES_MOST_COUNT (length s.outs + length members)) (λ _. refused s _) (λ _. sent_at s (s.outs ++ map (λ m. (m.conn, message)) members) (λ n f.
+  at = λ s. at_if (nat_lt MESSAGES_MOST_COUNT (length s.outs + length members)) (λ _. refused s _) (λ few. sent_at s (map (λ m. (m.conn, message)) members) (each_sent s.outs members message (ltb-false _ _ few)) (λ n f.
       All-append (λ o. HasShortBody o.1) s.outs (map (λ m. (m.conn, message)) members) f.bodies
       (All-map (λ o. HasShortBody o.1) (λ m. (m.conn, message)) members (λ _ _ _. short n))));
 }

@@ -1,6 +1,5 @@
 -- What a script may say is within the limits of the world.
-use Rattle.std.proofs.Common.{◌≡◌, ℕ, ◌<◌, ◌≤◌, true, List, length, arith}
-use Rattle.std.specs.List.{list_all}
+use Rattle.std.proofs.Common.{◌≡◌, ℕ, ◌<◌, true, List, arith}
 use Rattle.std.proofs.lemmas.Bool.Decides.{nat_tests}
 use Rattle.std.proofs.lemmas.List.Sums.{AllPass-from_list_all}
 use Rattle.std.proofs.lemmas.Str.{utf8_valid_len-IsUtf8, IsUtf8-from_ascii}
@@ -27,4 +26,4 @@ text_byte_small b h = grind (arith, nat_tests)
 
 -- a text is a body
 pub text_body : (text : List ℕ) → IsText text → IsBody text
-text_body text h = record { short = h.0; bytes = λ k d l. text_byte_small _ (AllPass-from_list_all is_text_byte text h.1 k d l) }
+text_body text h = record { short = omega (arith, h.0); bytes = λ k d l. text_byte_small _ (AllPass-from_list_all is_text_byte text h.1 k d l) }

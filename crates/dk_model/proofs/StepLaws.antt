@@ -12,16 +12,14 @@ use Rattle.dk_types.specs.declared.item.Item.{Item}
 use Rattle.dk_types.specs.declared.item.Item.TheVariants as ask
 use Rattle.dk_types.specs.declared.job.Job.{Job}
 use Rattle.dk_types.specs.declared.job.Job.TheVariants as job
-use Rattle.dk_types.specs.declared.mode.Mode.TheVariants.{Game}
 use Rattle.dk_model.specs.DurableWorlds.{DurableWorld, Task, task_answer, last_with}
-use Rattle.dk_model.specs.Runs.{Run, begun, within}
-use Rattle.dk_model.specs.Steps.{Stepped, step, work, kept_by, failed, ended, is_too_large}
+use Rattle.dk_model.specs.Runs.{Run, begun}
+use Rattle.dk_model.specs.Steps.{Stepped, step, work, game_part, kept_by, failed, ended, is_too_large}
 use Rattle.dk_model.specs.Events.{Meaning}
 use Rattle.dk_model.specs.Lawful.{Lacks, GoesOn, IsJob, AreLawful}
 use Rattle.dk_model.proofs.Maps.{some_is}
 use Rattle.dk_model.proofs.Goings.{goes_nowhere}
-use Rattle.dk_model.proofs.Acts.{lawful_within, lawful_needs}
-use Rattle.dk_model.proofs.Works.{SteadyAt, IsDueBy, IsOwnKey, own_steady, work_steady, game_lawful}
+use Rattle.dk_model.proofs.Works.{SteadyAt, IsDueBy, IsOwnKey, own_steady, work_steady, parts_lawful}
 
 -- a step is one commit of the run: it keeps what it does not list, and what is new is of the run's own
 pub record StepGoesOn (d : DurableWorld) (run : RunNo) (s : Stepped) : Type 0 where
@@ -48,8 +46,8 @@ kept_steady (job.Channel conn name channel body) s = nothing_kept s
 kept_steady (job.Disconnect conn name graceful) s = nothing_kept s
 
 -- what lawful rules' part and the platform's do from a run's start
-pub works : (rules : Meaning) → AreLawful rules → (j : Job) (run : RunNo) (at : ℕ) (d : DurableWorld) → SteadyAt (IsJob j × IsDueBy j at) (IsOwnKey j) (begun run at d) (work j (within Game (rules j)) (begun run at d))
-works rules lawful j run at d = work_steady j (within Game (rules j)) (begun run at d) (λ n. n) (lawful_within Game (lawful_needs (λ n. n.0) (game_lawful rules lawful j)))
+pub works : (rules : Meaning) → AreLawful rules → (j : Job) (run : RunNo) (at : ℕ) (d : DurableWorld) → SteadyAt (IsJob j × IsDueBy j at) (IsOwnKey j) (begun run at d) (work (game_part rules) j (begun run at d))
+works rules lawful j run at d = work_steady (game_part rules) j (begun run at d) (λ n. n) (parts_lawful rules lawful)
 
 -- what becomes of a run where it ends, of which it is said already
 pub ended_has : (Says : DurableWorld → List Item → Type 0) (j : Job) (d : DurableWorld) (start : Run) (r : Result (Unit {0}) AppFault) (t : Run)
@@ -87,6 +85,6 @@ stepping run at d t p = (
 pub step_goes_on : (rules : Meaning) → AreLawful rules → (j : Job) (run : RunNo) (at : ℕ) (d : DurableWorld) → StepGoesOn d run (step rules j run at d)
 step_goes_on rules lawful j run at d =
     let start = begun run at d in
-    let end = work j (within Game (rules j)) start in
+    let end = work (game_part rules) j start in
     let all = ended_has (Stepping d run) j d start end.0 end.1 (stepping run at d (kept_by j start) (kept_steady j start).goes) (stepping run at d end.1 (works rules lawful j run at d).goes) in
     record { commits = all.0; last = all.1; objects = all.2; names = all.3; tasks = all.4; new_objects = all.5; new_tasks = all.6 }

@@ -9,23 +9,24 @@ use Rattle.dk_types.specs.declared.job.Job.{Job}
 use Rattle.dk_types.specs.declared.job.Job.TheVariants as job
 use Rattle.dk_types.specs.declared.job.Out.TheVariants as out
 use Rattle.dk_types.specs.declared.limits.TheConstants.{MOMENT_MOST_MS, PERIOD_MOST_MS}
+use Rattle.dk_types.specs.declared.mode.Mode.TheVariants.{Game}
+use Rattle.dk_types.specs.Names.{IsName}
 use Rattle.dk_model.specs.declared.records.ChannelRecord.{ChannelRecord}
 use Rattle.dk_model.specs.DurableWorlds.{Task, task_answer}
 use Rattle.dk_model.specs.Validity.{IsTask}
 use Rattle.dk_model.specs.Records.{session_name, channel_name, CHANNEL_KIND, channel_of}
 use Rattle.dk_model.specs.Runs.{Run, Act, give, and_then, carry_on, with_task}
 use Rattle.dk_model.specs.Platforms.{platform_bound, is_member}
-use Rattle.dk_model.specs.Steps as does
-use Rattle.dk_model.specs.Steps.{next_due, own_found, own_task, of_session, login_found, for_session, heard, channel_found, channel_message, leave_channels, disconnect, work}
-use Rattle.dk_model.specs.Lawful.{GoesOn, IsFit, IsJob, AreLawful}
+use Rattle.dk_model.specs.Steps.{next_due, own_found, own_task, of_session, for_session, heard, channel_found, channel_message, leave_channels, end_session, lost, displace, displace_found, displace_recorded, admit, work, game_part}
+use Rattle.dk_model.specs.Lawful.{GoesOn, IsFit, IsJob, IsForGame, AreLawful}
 use Rattle.dk_model.proofs.Maps.{keys_total, exact_keys, get-insert_cases, get-insert_here, get-insert_other, get-remove_other, not_both, some_is}
 use Rattle.dk_model.proofs.Goings.{goes_nowhere, goes_then, goes_task}
 use Rattle.dk_model.proofs.Fits.{fit_tasks, fit_task, leaves_at}
-use Rattle.dk_model.proofs.Acts.{Anything, HasIfOk, LawfulAt, IsLawful, lawful_then, lawful_done, lawful_needs, lawful_if, lawful_looks}
+use Rattle.dk_model.proofs.Acts.{Anything, HasIfOk, LawfulAt, IsLawful, lawful_then, lawful_done, lawful_needs, lawful_if, lawful_looks, lawful_within}
 use Rattle.dk_model.proofs.Operations.{lawful_send}
 use Rattle.dk_model.proofs.RecordFacts.{IsNamed, channel_fits}
 use Rattle.dk_model.proofs.ReferenceActs.{lawful_get_as}
-use Rattle.dk_model.proofs.PlatformActs.{lawful_is_connected, lawful_open_record, lawful_close_record, lawful_own_record, lawful_leave, lawful_channel_send}
+use Rattle.dk_model.proofs.PlatformActs.{lawful_is_connected, lawful_find_session, lawful_open_record, lawful_close_record, lawful_own_record, lawful_leave, lawful_channel_send}
 
 same_left : {X : Type 0} (o : Option X) (x y : X) → o ≡ Some x → o ≡ Some y → y ≡ x
 same_left o x y e g = some_is y x (sym g ∙ e)
@@ -34,8 +35,21 @@ anything : {A : Type 0} (r : Result A AppFault) → HasIfOk Anything r
 anything (Ok x) = tt
 anything (Err fault) = tt
 
--- lawful rules, as acts that need their job within its limits
-pub game_lawful : (rules : Job → Act (Unit {0})) → AreLawful rules → (job : Job) → IsLawful (IsJob job) Anything (rules job)
+-- a job within its limits may be given to a game
+pub for_game : (j : Job) → IsJob j → IsForGame j
+for_game job.Initialize is = is
+for_game (job.Login conn name) is = is.1
+for_game (job.Message conn name body) is = (is.0.1, is.1)
+for_game (job.Channel conn name channel body) is = (is.0.1, is.1, is.2)
+for_game (job.Disconnect conn name graceful) is = is.1
+for_game (job.Task key due period kind arg) is = is
+
+-- acts of a game that are lawful in each job that it may be given
+abbrev pub AreLawfulActs : (Job → Act (Unit {0})) → Type 0
+AreLawfulActs game = (j : Job) → IsLawful (IsForGame j) Anything (game j)
+
+-- lawful rules, as such acts
+pub game_lawful : (rules : Job → Act (Unit {0})) → AreLawful rules → AreLawfulActs rules
 game_lawful rules lawful job = record {
   at = λ s. record {
     goes = lawful.goes_on job s;
@@ -45,15 +59,22 @@ game_lawful rules lawful job = record {
   };
 }
 
-module _ {Needs : Type 0} where
-  lawful_login_found : (o : Option ObjectId) (session : Session) (game : Act (Unit {0})) → (Needs → IsNamed session) → IsLawful Needs Anything game → IsLawful (Needs × Unit {0}) Anything (login_found o session game)
-  lawful_login_found (Some id) session game named p = lawful_then (lawful_send session.conn out.Refused) (λ _. lawful_send session.conn out.Close)
-  lawful_login_found None session game named p =
-      lawful_then (lawful_open_record session (λ n. named n.0)) (λ _. lawful_then (lawful_send session.conn out.Accepted) (λ _. lawful_needs (λ n. n.0.0.0) p))
+-- the same in the game's mode
+pub parts_lawful : (rules : Job → Act (Unit {0})) → AreLawful rules → AreLawfulActs (game_part rules)
+parts_lawful rules lawful j = lawful_within Game (game_lawful rules lawful j)
 
-  lawful_login : (session : Session) (game : Act (Unit {0})) → (Needs → IsNamed session) → IsLawful Needs Anything game → IsLawful Needs Anything (does.login session game)
-  lawful_login session game named p =
-      lawful_looks (λ s. platform_bound s (session_name session.name)) (λ o. login_found o session game) (λ _. Unit {0}) (λ _ _. tt) (λ o. lawful_login_found o session game named p)
+module _ {Needs : Type 0} where
+  lawful_leave_channels : (session : Session) (channels : List (List ℕ)) → IsLawful Needs Anything (leave_channels session channels)
+  lawful_leave_channels session [] = lawful_done tt
+  lawful_leave_channels session (c ∷ channels) = lawful_then (lawful_leave c session) (λ _. lawful_needs (λ n. n.0) (lawful_leave_channels session channels))
+
+  lawful_end_session : (session : Session) (game : Act (Unit {0})) → IsLawful Needs Anything game → IsLawful Needs Anything (end_session session game)
+  lawful_end_session session game p =
+      lawful_then p (λ _. lawful_then (lawful_own_record session) (λ r. lawful_then (lawful_needs (λ n. n.0.0) (lawful_leave_channels session r.1.channels)) (λ _. lawful_close_record session)))
+
+  pub lawful_admit : (session : Session) (game : Act (Unit {0})) → (Needs → IsNamed session) → IsLawful Needs Anything game → IsLawful Needs Anything (admit session game)
+  lawful_admit session game named p =
+      lawful_then (lawful_open_record session named) (λ _. lawful_then (lawful_send session.conn out.Accepted) (λ _. lawful_needs (λ n. n.0.0) p))
 
   lawful_for_session : (session : Session) (act : Act (Unit {0})) → IsLawful Needs Anything act → IsLawful Needs Anything (for_session session act)
   lawful_for_session session act p = lawful_then (lawful_is_connected session) (λ connected. lawful_if connected (lawful_needs (λ n. n.0.0) p) (lawful_done tt))
@@ -71,13 +92,17 @@ module _ {Needs : Type 0} where
   lawful_channel_message session channel body game p =
       lawful_looks (λ s. platform_bound s (channel_name channel)) (λ o. channel_found o session channel body game) (λ _. Unit {0}) (λ _ _. tt) (λ o. lawful_channel_found o session channel body game p)
 
-lawful_leave_channels : {Needs : Type 0} (session : Session) (channels : List (List ℕ)) → IsLawful Needs Anything (leave_channels session channels)
-lawful_leave_channels session [] = lawful_done tt
-lawful_leave_channels session (c ∷ channels) = lawful_then (lawful_leave c session) (λ _. lawful_leave_channels session channels)
+lawful_displace : {Needs : Type 0} (old : Session) (game : Job → Act (Unit {0})) → (Needs → IsName old.name) → AreLawfulActs game → IsLawful Needs Anything (displace old game)
+lawful_displace old game named p = lawful_then (lawful_end_session old (game (lost old)) (lawful_needs named (p (lost old)))) (λ _. lawful_send old.conn out.Close)
 
-lawful_disconnect : {Needs : Type 0} (session : Session) (game : Act (Unit {0})) → IsLawful Needs Anything game → IsLawful Needs Anything (disconnect session game)
-lawful_disconnect session game p =
-    lawful_then p (λ _. lawful_then (lawful_own_record session) (λ r. lawful_then (lawful_leave_channels session r.1.channels) (λ _. lawful_close_record session)))
+lawful_displace_found : {Needs : Type 0} (o : Option ObjectId) (name : List ℕ) (game : Job → Act (Unit {0})) → (Needs → IsName name) → AreLawfulActs game → IsLawful Needs Anything (displace_found o name game)
+lawful_displace_found None name game named p = lawful_done tt
+lawful_displace_found (Some id) name game named p = lawful_then (lawful_find_session name) (λ old. lawful_displace old game (λ n. subst IsName (sym n.1) (named n.0)) p)
+
+-- the end of the session that a login displaces
+pub lawful_displaced : {Needs : Type 0} (name : List ℕ) (game : Job → Act (Unit {0})) → (Needs → IsName name) → AreLawfulActs game → IsLawful Needs Anything (displace_recorded name game)
+lawful_displaced name game named p =
+    lawful_looks (λ s. platform_bound s (session_name name)) (λ o. displace_found o name game) (λ _. Unit {0}) (λ _ _. tt) (λ o. lawful_displace_found o name game (λ n. named n.0) p)
 
 -- each task that stands before and after is as it was, but for the run's own
 abbrev pub LeavesOthers : (TaskKey → Type 0) → Run → Run → Type 0
@@ -160,7 +185,6 @@ own_at {Needs = Needs} key due period s (Some task) e why =
               last = refl;
               number = refl;
               at = refl;
-              mode = refl;
               written = [];
               listed = sym (append-nil s.touched);
               objects = λ id h. refl;
@@ -169,6 +193,8 @@ own_at {Needs = Needs} key due period s (Some task) e why =
               more_objects = le_refl _;
               more_tasks = le_refl _;
               new_objects = λ id object g h. not_both _ object h g;
+              sent = [];
+              behind = sym (append-nil s.outs);
               new_tasks = λ q x g h. elim (get-insert_cases keys_total exact_keys s.world.tasks key new q x h) [
                 | inl p ↦ not_both _ task e (ap (maps.get s.world.tasks) (sym p.0) ∙ g)
                 | inr there ↦ not_both _ x there g
@@ -202,12 +228,22 @@ task_steady key due period game s why p =
     (λ pending. lawful_if pending (lawful_needs (λ n. n.0) p) (lawful_done tt))
 
 -- the platform's part of a job round a game that is lawful
-pub work_steady : {Needs : Type 0} (j : Job) (game : Act (Unit {0})) (s : Run) → (Needs → IsJob j × IsDueBy j s.at) → IsLawful Needs Anything game → SteadyAt Needs (IsOwnKey j) s (work j game s)
-work_steady job.Initialize game s why p = steady (p.at s)
-work_steady (job.Login conn name) game s why p = steady ((lawful_login (of_session conn name) game (λ n. (why n).0.1) p).at s)
-work_steady (job.Message conn name body) game s why p = steady ((lawful_for_session (of_session conn name) game p).at s)
-work_steady (job.Channel conn name channel body) game s why p =
-    steady ((lawful_for_session (of_session conn name) (channel_message (of_session conn name) channel body game) (lawful_channel_message (of_session conn name) channel body game p)).at s)
-work_steady (job.Disconnect conn name graceful) game s why p =
-    steady ((lawful_for_session (of_session conn name) (disconnect (of_session conn name) game) (lawful_disconnect (of_session conn name) game p)).at s)
-work_steady (job.Task key due period kind arg) game s why p = task_steady key due period game s (λ n. ((why n).0.1.period, (why n).1)) p
+pub work_steady : {Needs : Type 0} (game : Job → Act (Unit {0})) (j : Job) (s : Run) → (Needs → IsJob j × IsDueBy j s.at) → AreLawfulActs game → SteadyAt Needs (IsOwnKey j) s (work game j s)
+work_steady game job.Initialize s why p = steady ((lawful_needs (λ n. (why n).0) (p job.Initialize)).at s)
+work_steady {Needs = Needs} game (job.Login conn name) s why p =
+    let mine : IsLawful Needs Anything (game (job.Login conn name)) = lawful_needs (λ n. (why n).0.1) (p (job.Login conn name)) in
+    steady ((lawful_then (lawful_displaced name game (λ n. (why n).0.1) p) (λ _. lawful_needs (λ n. n.0) (lawful_admit (of_session conn name) (game (job.Login conn name)) (λ n. (why n).0.1) mine))).at s)
+work_steady game (job.Message conn name body) s why p =
+    let j = job.Message conn name body in
+    steady ((lawful_for_session (of_session conn name) (game j) (lawful_needs (λ n. for_game j (why n).0) (p j))).at s)
+work_steady game (job.Channel conn name channel body) s why p =
+    let j = job.Channel conn name channel body in
+    let session = of_session conn name in
+    steady ((lawful_for_session session (channel_message session channel body (game j)) (lawful_channel_message session channel body (game j) (lawful_needs (λ n. for_game j (why n).0) (p j)))).at s)
+work_steady game (job.Disconnect conn name graceful) s why p =
+    let j = job.Disconnect conn name graceful in
+    let session = of_session conn name in
+    steady ((lawful_for_session session (end_session session (game j)) (lawful_end_session session (game j) (lawful_needs (λ n. for_game j (why n).0) (p j)))).at s)
+work_steady game (job.Task key due period kind arg) s why p =
+    let j = job.Task key due period kind arg in
+    task_steady key due period (game j) s (λ n. ((why n).0.1.period, (why n).1)) (lawful_needs (λ n. (why n).0) (p j))

@@ -1,6 +1,5 @@
 -- The durable world: what outlives a stop, when it is valid, and what it answers.
-use Rattle.std.specs.Prelude.{◌≡◌, ℕ, Bool, true, if◌then◌else◌, Option, Some, None, List, [], ◌∷◌, max}
-use Rattle.std.specs.Ordering.{is_gt}
+use Rattle.std.specs.Prelude.{◌≡◌, ℕ, Option, Some, None, List, max}
 use Rattle.std.specs.declared.cmp.Ordering.{Ordering}
 use Rattle.std.specs.FinMap.{FinMap, get, entries, insert, remove, empty}
 use Rattle.std.specs.List.{AllByRecursion}

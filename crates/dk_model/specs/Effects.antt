@@ -1,6 +1,5 @@
 -- The net effects between two durable worlds, the world with effects made, and the length that effects are written in.
-use Rattle.std.specs.Prelude.{ℕ, ◌+◌, ◌&&◌, not, Bool, true, false, Option, Some, None, List, [], ◌∷◌, map, length, sum_by, is_some, nat_eq}
-use Rattle.std.specs.Cmp.Lexicographic.{pointwise}
+use Rattle.std.specs.Prelude.{ℕ, ◌+◌, not, Bool, false, Option, Some, None, List, [], ◌∷◌, map, length, sum_by, is_some, nat_eq}
 use Rattle.std.specs.declared.cmp.Ordering.{Ordering}
 use Rattle.std.specs.FinMap.{FinMap, get, insert, remove, entries, retain_keys}
 use Rattle.dk_types.specs.declared.number.ObjectId.{ObjectId}

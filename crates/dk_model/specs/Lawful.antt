@@ -16,7 +16,7 @@ use Rattle.dk_types.specs.declared.job.Input.TheVariants as input
 use Rattle.dk_types.specs.declared.job.Out.{Out}
 use Rattle.dk_types.specs.declared.event.Event.{Event}
 use Rattle.dk_types.specs.declared.event.Event.TheVariants as event
-use Rattle.dk_types.specs.declared.limits.TheConstants.{BODY_MOST_BYTES, NUMBERS_END, MOMENT_MOST_MS, OBJECTS_MOST_COUNT, TASKS_MOST_COUNT}
+use Rattle.dk_types.specs.declared.limits.TheConstants.{BODY_MOST_BYTES, NUMBERS_END, MOMENT_MOST_MS, OBJECTS_MOST_COUNT, TASKS_MOST_COUNT, MESSAGES_MOST_COUNT}
 use Rattle.dk_types.specs.Names.{IsName}
 use Rattle.dk_model.specs.DurableWorlds.{Task, task_answer}
 use Rattle.dk_model.specs.Validity.{IsValid, IsCommitted, IsNumbered, IsBody, IsTask}
@@ -30,13 +30,12 @@ Lacks items item = AllByRecursion (λ y. y ≡ item → ⊥) items
 abbrev pub IsMade : RunNo → ℕ → ℕ → RunNo → ℕ → Type 0
 IsMade number from to run k = (run ≡ number) × (from ≤ k) × (k < to)
 
--- from a to b a run went on: it kept what is the run's, listed each item whose answer it changed, and numbered what it made
+-- from a to b a run went on, whatever its mode: it kept what is the run's, listed each item whose answer it changed, numbered what it made, and put what it sent behind what was sent before
 pub record GoesOn (a b : Run) : Type 0 where
   pub commits : b.world.commits ≡ a.world.commits
   pub last : b.world.last ≡ a.world.last
   pub number : b.number ≡ a.number
   pub at : b.at ≡ a.at
-  pub mode : b.mode ≡ a.mode
   pub written : List Item
   pub listed : b.touched ≡ a.touched ++ written
   pub objects : (id : ObjectId) → Lacks written (ask.Object id) → get b.world.objects id ≡ get a.world.objects id
@@ -46,6 +45,8 @@ pub record GoesOn (a b : Run) : Type 0 where
   pub more_tasks : a.tasks_made ≤ b.tasks_made
   pub new_objects : (id : ObjectId) (object : Object) → get a.world.objects id ≡ None → get b.world.objects id ≡ Some object → IsMade a.number a.objects_made b.objects_made id.run id.k
   pub new_tasks : (key : TaskKey) (task : Task) → get a.world.tasks key ≡ None → get b.world.tasks key ≡ Some task → IsMade a.number a.tasks_made b.tasks_made key.run key.k
+  pub sent : List (ConnNo × Out)
+  pub behind : b.outs ≡ a.outs ++ sent
 
 -- each task that stands before and after is as it was
 abbrev pub LeavesTasks : Run → Run → Type 0
@@ -66,6 +67,7 @@ pub record IsFit (s : Run) : Type 0 where
   pub at : s.at ≤ MOMENT_MOST_MS
   pub few_objects : s.objects_made ≤ OBJECTS_MOST_COUNT
   pub few_tasks : s.tasks_made ≤ TASKS_MOST_COUNT
+  pub few_messages : length s.outs ≤ MESSAGES_MOST_COUNT
   pub bodies : HaveShortBodies s.outs
   pub objects : (id : ObjectId) (object : Object) → get s.world.objects id ≡ Some object → id.run ≡ s.number → id.k < s.objects_made
   pub tasks : (key : TaskKey) (task : Task) → get s.world.tasks key ≡ Some task → key.run ≡ s.number → key.k < s.tasks_made
@@ -92,6 +94,15 @@ IsJob (job.Channel conn name channel body) = IsSessionOf conn name × IsName cha
 IsJob (job.Disconnect conn name graceful) = IsSessionOf conn name
 IsJob (job.Task key due period kind arg) = IsNumbered key.run key.k × IsTask (record { due = due; period = period; kind = kind; arg = arg })
 
+-- a job that a game may be given: each field within its limits, but a session's number, which may be any, since a login ends the session of whatever record it finds
+abbrev pub IsForGame : Job → Type 0
+IsForGame job.Initialize = Unit {0}
+IsForGame (job.Login conn name) = IsName name
+IsForGame (job.Message conn name body) = IsName name × IsBody body
+IsForGame (job.Channel conn name channel body) = IsName name × IsName channel × IsBody body
+IsForGame (job.Disconnect conn name graceful) = IsName name
+IsForGame (job.Task key due period kind arg) = IsNumbered key.run key.k × IsTask (record { due = due; period = period; kind = kind; arg = arg })
+
 -- each field of an input within its limits
 abbrev pub IsInput : Input → Type 0
 IsInput (input.Message body) = IsBody body
@@ -111,4 +122,4 @@ IsWithinLimits (event.Tick pass moment) = Unit {0}
 -- rules that a game may have
 pub record AreLawful (rules : Job → Act (Unit {0})) : Type 0 where
   pub goes_on : (job : Job) → AlwaysGoesOn (rules job)
-  pub keeps : (job : Job) → IsJob job → KeepsFit (rules job)
+  pub keeps : (job : Job) → IsForGame job → KeepsFit (rules job)

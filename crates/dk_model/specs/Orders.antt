@@ -1,5 +1,5 @@
 -- The order of a transcript: the claims and commits of each phase, read back from its text.
-use Rattle.std.specs.Prelude.{ℕ, Bool, Option, Some, None, List, [], ◌∷◌, ◌++◌, map, if◌then◌else◌, codes}
+use Rattle.std.specs.Prelude.{◌≡◌, ℕ, Bool, Option, Some, None, List, [], ◌∷◌, ◌++◌, map, if◌then◌else◌, codes}
 use Rattle.std.specs.List.{filter_map}
 use Rattle.std.specs.Str.Parse.{digits_value}
 use Rattle.std.specs.Fmt.{decimal}
@@ -76,3 +76,11 @@ item_of (event.Post pass conn input reply) = None
 item_of (event.Release pass run) = None
 item_of (event.Hand pass conn most outs end) = None
 item_of (event.Tick pass moment) = None
+
+-- each claim is followed at once by the commit of its run
+abbrev pub AreInTurn : List OrderItem → Type 0
+AreInTurn [] = Unit {0}
+AreInTurn (Claimed run at job ∷ Committed ran outcome ∷ items) = (ran ≡ run) × AreInTurn items
+AreInTurn (Claimed run at job ∷ Claimed other moment task ∷ items) = ⊥
+AreInTurn (Claimed run at job ∷ []) = ⊥
+AreInTurn (Committed run outcome ∷ items) = ⊥

@@ -23,7 +23,7 @@ use Rattle.dk_model.specs.Runs.{Run, Act, begun, give, and_then, within, send, w
 use Rattle.dk_model.specs.declared.records.ChannelRecord.{ChannelRecord}
 use Rattle.dk_model.specs.Records.{session_name, channel_name, CHANNEL_KIND, channel_of}
 use Rattle.dk_model.specs.References.{get_as}
-use Rattle.dk_model.specs.Platforms.{platform_bound, is_connected, open_record, close_record, own_record, leave, is_member, channel_send}
+use Rattle.dk_model.specs.Platforms.{platform_bound, is_connected, find_session, open_record, close_record, own_record, leave, is_member, channel_send}
 
 -- the least `due + m * period` with m at least 1 that is above the moment
 abbrev pub next_due : ℕ → ℕ → ℕ → ℕ
@@ -43,13 +43,34 @@ own_task key due period s = own_found (maps.get s.world.tasks key) key due perio
 abbrev pub of_session : ConnNo → List ℕ → Session
 of_session conn name = record { name = name; conn = conn }
 
--- a login is refused where its name is connected; else it is recorded, told, and the game's
-abbrev pub login_found : Option ObjectId → Session → Act (Unit {0}) → Act (Unit {0})
-login_found (Some id) session game = and_then (send session.conn out.Refused) (λ _. send session.conn out.Close)
-login_found None session game = and_then (open_record session) (λ _. and_then (send session.conn out.Accepted) (λ _. game))
+abbrev pub leave_channels : Session → List (List ℕ) → Act (Unit {0})
+leave_channels session [] = give (Ok tt)
+leave_channels session (c ∷ channels) = and_then (leave c session) (λ _. leave_channels session channels)
 
-abbrev pub login : Session → Act (Unit {0}) → Act (Unit {0})
-login session game s = login_found (platform_bound s (session_name session.name)) session game s
+-- the end of a session: the game's part, and then its channels, as its record has them by then, and its record
+abbrev pub end_session : Session → Act (Unit {0}) → Act (Unit {0})
+end_session session game =
+    and_then game (λ _. and_then (own_record session) (λ r. and_then (leave_channels session r.1.channels) (λ _. close_record session)))
+
+-- the job in which the game is told that a session has lost its connection
+abbrev pub lost : Session → Job
+lost session = job.Disconnect session.conn session.name false
+
+-- a session whose name logs in again ends as if its connection were lost, and the connection is closed
+abbrev pub displace : Session → (Job → Act (Unit {0})) → Act (Unit {0})
+displace old game = and_then (end_session old (game (lost old))) (λ _. send old.conn out.Close)
+
+abbrev pub displace_found : Option ObjectId → List ℕ → (Job → Act (Unit {0})) → Act (Unit {0})
+displace_found None name game = give (Ok tt)
+displace_found (Some id) name game = and_then (find_session name) (λ old. displace old game)
+
+-- the session that a login name is recorded for, where there is one, is displaced
+abbrev pub displace_recorded : List ℕ → (Job → Act (Unit {0})) → Act (Unit {0})
+displace_recorded name game s = displace_found (platform_bound s (session_name name)) name game s
+
+-- a new session is recorded, told, and the game's
+abbrev pub admit : Session → Act (Unit {0}) → Act (Unit {0})
+admit session game = and_then (open_record session) (λ _. and_then (send session.conn out.Accepted) (λ _. game))
 
 -- what follows where the session is recorded with its number, and else nothing
 abbrev pub for_session : Session → Act (Unit {0}) → Act (Unit {0})
@@ -67,23 +88,16 @@ channel_found (Some id) session channel body game = and_then (get_as CHANNEL_KIN
 abbrev pub channel_message : Session → List ℕ → List ℕ → Act (Unit {0}) → Act (Unit {0})
 channel_message session channel body game s = channel_found (platform_bound s (channel_name channel)) session channel body game s
 
-abbrev pub leave_channels : Session → List (List ℕ) → Act (Unit {0})
-leave_channels session [] = give (Ok tt)
-leave_channels session (c ∷ channels) = and_then (leave c session) (λ _. leave_channels session channels)
-
--- the game's part of a session's end, and then its channels and its record
-abbrev pub disconnect : Session → Act (Unit {0}) → Act (Unit {0})
-disconnect session game =
-    and_then game (λ _. and_then (own_record session) (λ r. and_then (leave_channels session r.1.channels) (λ _. close_record session)))
-
--- the platform's part of a job round the game's
-abbrev pub work : Job → Act (Unit {0}) → Act (Unit {0})
-work job.Initialize game = game
-work (job.Login conn name) game = login (of_session conn name) game
-work (job.Message conn name body) game = for_session (of_session conn name) game
-work (job.Channel conn name channel body) game = for_session (of_session conn name) (channel_message (of_session conn name) channel body game)
-work (job.Disconnect conn name graceful) game = for_session (of_session conn name) (disconnect (of_session conn name) game)
-work (job.Task key due period kind arg) game = and_then (own_task key due period) (λ pending. if pending then game else give (Ok tt))
+-- the platform's part of a job round the game's, which may be given two jobs: that of a session that a login displaces, and the login's own
+abbrev pub work : (Job → Act (Unit {0})) → Job → Act (Unit {0})
+work game job.Initialize = game job.Initialize
+work game (job.Login conn name) = and_then (displace_recorded name game) (λ _. admit (of_session conn name) (game (job.Login conn name)))
+work game (job.Message conn name body) = for_session (of_session conn name) (game (job.Message conn name body))
+work game (job.Channel conn name channel body) =
+    for_session (of_session conn name) (channel_message (of_session conn name) channel body (game (job.Channel conn name channel body)))
+work game (job.Disconnect conn name graceful) = for_session (of_session conn name) (end_session (of_session conn name) (game (job.Disconnect conn name graceful)))
+work game (job.Task key due period kind arg) =
+    and_then (own_task key due period) (λ pending. if pending then game (job.Task key due period kind arg) else give (Ok tt))
 
 -- what a run leaves of its own task, also where it fails
 abbrev pub kept_by : Job → Run → Run
@@ -125,6 +139,10 @@ ended job before start (Ok x, s) =
     if is_too_large before s.world then failed job start TooLarge else record { outcome = outcome.Ok; world = s.world; touched = s.touched; outs = s.outs }
 ended job before start (Err fault, s) = failed job start fault
 
+-- what a game does in a job, in the game's mode
+abbrev pub game_part : (Job → Act (Unit {0})) → Job → Act (Unit {0})
+game_part rules job = within Game (rules job)
+
 -- what the job does alone on the world, for a game that means this
 abbrev pub step : (Job → Act (Unit {0})) → Job → RunNo → ℕ → DurableWorld → Stepped
-step rules job run at d = ended job d (begun run at d) (work job (within Game (rules job)) (begun run at d))
+step rules job run at d = ended job d (begun run at d) (work (game_part rules) job (begun run at d))

@@ -1,8 +1,10 @@
 -- Transcripts: the text of a history, and the play of a script by phases.
-use Rattle.std.specs.Prelude.{◌≡◌, ℕ, ◌+◌, Bool, Option, Some, None, List, [], ◌∷◌, ◌++◌, map, max, min, codes}
+use Rattle.std.specs.Prelude.{◌≡◌, ℕ, ◌+◌, Bool, true, false, Option, Some, None, List, [], ◌∷◌, ◌++◌, map, max, min, codes}
+use Rattle.std.specs.List.{AllByRecursion}
 use Rattle.std.specs.FinMap as maps
 use Rattle.std.specs.Fmt.{decimal}
 use Rattle.dk_types.specs.declared.number.ConnNo.{ConnNo}
+use Rattle.dk_types.specs.declared.job.Input.{Input}
 use Rattle.dk_types.specs.declared.job.Input.TheVariants as input
 use Rattle.dk_types.specs.declared.job.Out.{Out}
 use Rattle.dk_types.specs.declared.job.Out.TheVariants as out
@@ -24,7 +26,7 @@ use Rattle.dk_model.specs.Picks.{runnable}
 use Rattle.dk_model.specs.Events.{Meaning, Happens, outbox}
 use Rattle.dk_model.specs.Lines.{text_of, escaped}
 use Rattle.dk_model.specs.Phases.{AreSmall}
-use Rattle.dk_model.specs.Orders.{OrderItem, item_of, job_text, outcome_text}
+use Rattle.dk_model.specs.Orders.{OrderItem, AreInTurn, item_of, job_text, outcome_text}
 
 -- what a reader of events knows so far: the login names of connections, and the moment
 pub record Known : Type 0 where
@@ -123,14 +125,22 @@ pub record Playing : Type 0 where
   pub means : maps.FinMap bytes_cmp ConnNo
   pub opened : List ConnNo
 
--- a line is entered as a Connect or a Post, and the play goes on
+-- an input is posted to the connection that a name means; afterwards names mean this
+abbrev pub PostsTo : Meaning → Playing → List ℕ → Input → Event → Playing → maps.FinMap bytes_cmp ConnNo → Type 0
+PostsTo rules p name input e after means =
+    (pass : ℕ) × (conn : ConnNo) × (reply : PostReply) × (maps.get p.means name ≡ Some conn) × (e ≡ event.Post pass conn input reply) × Happens rules p.world e after.world
+    × (after.means ≡ means) × (after.opened ≡ p.opened)
+
+-- a line is entered as a Connect, a Post or a Tick, and the play goes on; a name means nothing once its connection is posted a Disconnect
 abbrev pub Enters : Meaning → Playing → Line → Event → Playing → Type 0
 Enters rules p (line.Login name) e after =
     (pass : ℕ) × (conn : ConnNo) × (e ≡ event.Connect pass name (connected.Number conn)) × Happens rules p.world e after.world
     × (after.means ≡ maps.insert p.means name conn) × (after.opened ≡ p.opened ++ conn ∷ [])
-Enters rules p (line.Send name text) e after =
-    (pass : ℕ) × (conn : ConnNo) × (reply : PostReply) × (maps.get p.means name ≡ Some conn) × (e ≡ event.Post pass conn (input.Message text) reply) × Happens rules p.world e after.world
-    × (after.means ≡ p.means) × (after.opened ≡ p.opened)
+Enters rules p (line.Send name text) e after = PostsTo rules p name (input.Message text) e after p.means
+Enters rules p (line.Channel name channel text) e after = PostsTo rules p name (input.Channel channel text) e after p.means
+Enters rules p (line.Logout name) e after = PostsTo rules p name (input.Disconnect true) e after (maps.remove p.means name)
+Enters rules p (line.Drop name) e after = PostsTo rules p name (input.Disconnect false) e after (maps.remove p.means name)
+Enters rules p (line.Tick moment) e after = (pass : ℕ) × (e ≡ event.Tick pass moment) × Happens rules p.world e after.world × (after.means ≡ p.means) × (after.opened ≡ p.opened)
 
 abbrev pub EntersAll : Meaning → Playing → List Line → List Event → Playing → Type 0
 EntersAll rules p [] [] after = after ≡ p
@@ -197,3 +207,11 @@ pub record IsPlayed (rules : Meaning) (opening : World) (script : List (List Lin
   pub commits_are : commits ≡ end.world.durable.commits
   pub tasks_are : tasks ≡ maps.len end.world.durable.tasks
   pub small : AreSmall phases
+  -- by one worker, who commits each run before the next is claimed
+  pub turns : AllByRecursion AreInTurn order
+
+-- two plays of one script have one transcript, where each tells every run's claim and commit one behind the other
+abbrev pub DecidesOneTranscript : Meaning → World → List (List Line) → Type 0
+DecidesOneTranscript rules opening script =
+    (order other : List (List OrderItem)) (text told : List ℕ) → AllByRecursion AreInTurn order → AllByRecursion AreInTurn other
+    → IsTranscript rules opening script order text → IsTranscript rules opening script other told → text ≡ told

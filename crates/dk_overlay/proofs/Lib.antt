@@ -7,3 +7,4 @@ pub mod Noting
 pub mod Asking
 pub mod Picking
 pub mod SameItems
+pub mod PutBack

@@ -1,5 +1,7 @@
 -- What a change makes of what stood at its key.
 use Rattle.std.specs.Prelude.{ℕ, Bool, true, false, Option, Some, None}
+use Rattle.std.specs.declared.cmp.Ordering.{Ordering}
+use Rattle.std.specs.FinMap as map
 use Rattle.dk_types.specs.Values.{Task}
 use Rattle.dk_overlay.specs.declared.change.Change.{Change}
 use Rattle.dk_overlay.specs.declared.change.Scheduled.{Scheduled}
@@ -55,3 +57,8 @@ moving (Some (Added s)) from to = Added (record s { due = to })
 moving (Some Withdrawn) from to = Withdrawn
 moving (Some Dropped) from to = Dropped
 moving (Some (Moved first was)) from to = Moved first to
+
+-- the map with what stood at a key before it was changed there
+abbrev pub put_back : {K X : Type 0} {R : K → K → Ordering} → map.FinMap R X → K → Option X → map.FinMap R X
+put_back m k None = map.remove m k
+put_back m k (Some x) = map.insert m k x

@@ -1,5 +1,5 @@
 //! The log of a run in its midst.
-ghost use Rattle.std.specs.Prelude.{◌≡◌, ◌+◌, ◌<◌, ◌≤◌, ◌++◌, ◌∷◌, [], length, OnOk, OnErr, IfOk, IfSome, IfNone};
+ghost use Rattle.std.specs.Prelude.{◌≡◌, ◌+◌, ◌<◌, ◌≤◌, ◌++◌, ◌∷◌, [], Some, length, OnOk, OnErr, IfOk, IfSome, IfNone};
 ghost use Rattle.std.specs.FinMap as map;
 ghost use Rattle.std.specs.Option.{option_copied};
 ghost use Rattle.dk_types.specs.Names.{bytes_cmp};
@@ -255,6 +255,95 @@ impl Log {
         }
     }
 
+    /// Changes an object and a name, or neither. Both are listed as written, in this order.
+    fn change_both(
+        &mut self,
+        listed: (Item, Item),
+        id: ObjectId,
+        change: Change<Object>,
+        name: &Name,
+        binding: Change<ObjectId>,
+    ) -> Result<(), NoMemory>
+        ensures ok { OnOk result (self.new ≡ record self.old { objects = map.insert self.old.objects id change; names = map.insert self.old.names name.now binding; touched = (self.old.touched ++ listed.0 ∷ []) ++ listed.1 ∷ [] }) }
+        ensures err { OnErr result (self.new ≡ self.old) }
+    {
+        self.touched.reserve(2)?;
+        let stood = self.objects.replace(id, change)?;
+        if let Err(error) = self.names.set(name, binding) {
+            self.objects.put_back(id, stood);
+            return Err(error);
+        }
+        self.touched.push_reserved(listed.0);
+        self.touched.push_reserved(listed.1);
+        Ok(())
+    }
+
+    /// A new object, and a name that is bound to it, or neither; `before` is what the name was bound to before the run.
+    pub fn create_named(
+        &mut self,
+        object: Object,
+        name: &Name,
+        before: Option<ObjectId>,
+    ) -> Result<(), NoMemory>
+        requires { self.old.objects_made < 65536 }
+        ensures ok { OnOk result (self.new ≡ changing_name (creating self.old object) name.now (record { before = before; after = Some (new_id self.old) })) }
+        ensures err { OnErr result (self.new ≡ self.old) }
+    {
+        let id = ObjectId {
+            run: self.run,
+            k: self.objects_made,
+        };
+        let change = Change {
+            before: None,
+            after: Some(object),
+        };
+        let binding = Change {
+            before,
+            after: Some(id),
+        };
+        let listed = (Item::Object(id), Item::Bound(name.clone()?));
+        self.change_both(listed, id, change, name, binding)?;
+        self.objects_made += 1;
+        Ok(())
+    }
+
+    /// A change of a name and then one of an object, or neither.
+    pub fn change_named(
+        &mut self,
+        name: &Name,
+        binding: Change<ObjectId>,
+        id: ObjectId,
+        change: Change<Object>,
+    ) -> Result<(), NoMemory>
+        ensures ok { OnOk result (self.new ≡ changing_object (changing_name self.old name.now binding) id change) }
+        ensures err { OnErr result (self.new ≡ self.old) }
+    {
+        let listed = (Item::Bound(name.clone()?), Item::Object(id));
+        self.change_both(listed, id, change, name, binding)
+    }
+
+    /// The changes of two objects, one after the other, or neither.
+    pub fn change_two(
+        &mut self,
+        first: ObjectId,
+        change: Change<Object>,
+        second: ObjectId,
+        next: Change<Object>,
+    ) -> Result<(), NoMemory>
+        ensures ok { OnOk result (self.new ≡ changing_object (changing_object self.old first change) second next) }
+        ensures err { OnErr result (self.new ≡ self.old) }
+    {
+        self.touched.reserve(2)?;
+        let stood = self.objects.replace(first, change)?;
+        if let Err(error) = self.objects.set(second, next) {
+            self.objects.put_back(first, stood);
+            return Err(error);
+        }
+        self.touched.push_reserved(Item::Object(first));
+        self.touched.push_reserved(Item::Object(second));
+        Ok(())
+    }
+
     pub fn schedule_task(&mut self, task: Scheduled) -> Result<TaskKey, NoMemory>
         requires { self.old.tasks_made < 65536 }
         ensures ok { IfOk result (λ key. (key ≡ new_key self.old) × (self.new ≡ scheduling self.old task)) }
@@ -304,6 +393,16 @@ impl Log {
         ensures err { OnErr result (self.new ≡ self.old) }
     {
         self.outs.push((to, out))?;
+        Ok(())
+    }
+
+    /// Puts all these messages last, or none.
+    pub fn add_outs(&mut self, outs: Vec<(ConnNo, Out)>) -> Result<(), NoMemory>
+        ensures ok { OnOk result (self.new ≡ record self.old { outs = self.old.outs ++ outs.items }) }
+        ensures err { OnErr result (self.new ≡ self.old) }
+    {
+        let mut outs = outs;
+        self.outs.append(&mut outs)?;
         Ok(())
     }
 

@@ -1,9 +1,10 @@
 //! The objects that a run has changed.
-ghost use Rattle.std.specs.Prelude.{◌≡◌, IfOk, OnOk, OnErr};
+ghost use Rattle.std.specs.Prelude.{◌≡◌, true, is_some, IfOk, OnOk, OnErr};
 ghost use Rattle.std.specs.FinMap as map;
 ghost use Rattle.std.specs.Map.{keys_of};
 ghost use Rattle.std.specs.Option.{option_copied, option_map};
 ghost use Rattle.dk_types.specs.Values.{same_object, same_value};
+ghost use Rattle.dk_overlay.specs.Changes.{put_back};
 ghost use Rattle.dk_overlay.specs.Picks.{picked, newly_set, taken_away};
 
 use crate::change::{Change, copy_change, copy_object};
@@ -111,6 +112,34 @@ impl ObjectChanges {
         self.changes.reserve(1)?;
         self.changes.insert(id, change);
         Ok(())
+    }
+
+    /// Puts a change at an object, and gives the one that stood there. Refused, it changes nothing.
+    pub fn replace(
+        &mut self,
+        id: ObjectId,
+        change: Change<Object>,
+    ) -> Result<Option<Change<Object>>, NoMemory>
+        ensures ok { IfOk result (λ stood. (stood ≡ map.get self.old id) × (self.new ≡ map.insert self.old id change)) }
+        ensures err { OnErr result (self.new ≡ self.old) }
+    {
+        self.changes.reserve(1)?;
+        Ok(self.changes.insert(id, change))
+    }
+
+    /// Puts back what stood at an object before its last change. It takes no memory.
+    pub fn put_back(&mut self, id: ObjectId, stood: Option<Change<Object>>)
+        requires { is_some (map.get self.old id) ≡ true }
+        ensures { self.new ≡ put_back self.old id stood }
+    {
+        match stood {
+            None => {
+                self.changes.remove(&id);
+            }
+            Some(change) => {
+                self.changes.insert(id, change);
+            }
+        }
     }
 
     /// Copies of the objects that are other than before, in the order of their ids.

@@ -6,11 +6,11 @@ use Rattle.dk_types.specs.declared.limits.TheConstants.{OUTS_MOST_COUNT}
 use Rattle.dk_model.specs.Keys.{conn_cmp}
 use Rattle.dk_model.specs.Worlds.{World, Connection, fresh_world}
 use Rattle.dk_model.specs.Deliveries.{Connections, change_connection, without_done}
-use Rattle.dk_model.specs.Events.{outbox_at}
+use Rattle.dk_model.specs.Events.{outbox_at, ticked}
 use Rattle.dk_model.proofs.Maps.{not_both}
 use Rattle.dk_progress.specs.Fitness.{left_at, IsFit}
-use Rattle.dk_progress.specs.ProgressLaws.{FreshIsFit, HandsTakeAll}
-use Rattle.dk_progress.proofs.Kept.{AtEach, kept_changed}
+use Rattle.dk_progress.specs.ProgressLaws.{FreshIsFit, TicksFit, HandsTakeAll}
+use Rattle.dk_progress.proofs.Kept.{AtEach, kept_changed, kept_swept}
 use Rattle.dk_progress.proofs.Lefts.{LeavesNoMore, StaysWithin, StaysAway, lefts_steady, boxes_steady, left_none}
 use Rattle.dk_progress.proofs.Sums.{sum_no_more, contains_none}
 
@@ -76,7 +76,7 @@ pub fresh_fit : FreshIsFit
 fresh_fit more few = record {
   unclaimed = refl;
   unlimited = refl;
-  moment = refl;
+  moment = omega arith;
   tasks = refl;
   known = λ conn c there. absurd (not_both (get (fresh_world None).connections conn) c there (none_there conn));
   drawn = λ conn there. absurd (contains_none conn there);
@@ -95,3 +95,23 @@ hands_all rules w after conns more pass conn outs end fit h =
       h.0 ∙ take_all OUTS_MOST_COUNT (outbox_at (get w.connections conn)) (fit.boxes conn),
       subst (λ v. IsFit v conns more) (sym h.2) (fit_with w taken conns more less within fit),
     )
+
+-- time goes on
+fit_ticked : (w : World) (conns : List ConnNo) (more moment : ℕ) → IsFit w conns more → IsFit (ticked w moment) conns more
+fit_ticked w conns more moment fit = record {
+  unclaimed = fit.unclaimed;
+  unlimited = fit.unlimited;
+  moment = omega (arith, fit.moment);
+  tasks = fit.tasks;
+  known = fit.known;
+  drawn = fit.drawn;
+  distinct = fit.distinct;
+  boxes = fit.boxes;
+  numbers = fit.numbers;
+}
+
+-- a tick to a fit world
+pub ticks_fit : TicksFit
+ticks_fit rules w after conns more pass moment fit h =
+    subst (λ v. IsFit v conns more) (sym h)
+    (fit_with (ticked w moment) (without_done w.connections) conns more (kept_swept LeavesNoMore lefts_steady w.connections) (kept_swept StaysWithin boxes_steady w.connections) (fit_ticked w conns more moment fit))

@@ -21,8 +21,8 @@ use Rattle.dk_model.specs.Events.{Meaning, is_task}
 use Rattle.dk_model.specs.Runs as act
 use Rattle.dk_model.specs.Runs.{Run, Act, give, and_then, carry_on, within, refuse, send, begun, is_too_long, TOO_LONG, NAME_NOT_BOUND}
 use Rattle.dk_model.specs.Records.{SESSION_KIND, CHANNEL_KIND, session_of, session_bytes, channel_of, channel_bytes, session_name, channel_name, is_name_too_long}
-use Rattle.dk_model.specs.Platforms.{platform_bound, found_as, session_under, channel_under, own_record, numbered, is_connected, new_record, open_record, close_record, is_member, without_member, without_channel, save_both, leave_records, leave, is_sender, send_each, channel_send}
-use Rattle.dk_model.specs.Steps.{of_session, login_found, login, for_session, heard, channel_found, channel_message, leave_channels, disconnect, work, kept_by, is_too_large, Stepped, ended, step}
+use Rattle.dk_model.specs.Platforms.{platform_bound, found_as, session_under, channel_under, own_record, numbered, is_connected, find_session, new_record, open_record, close_record, is_member, without_member, without_channel, save_both, leave_records, leave, is_sender, send_each, channel_send}
+use Rattle.dk_model.specs.Steps.{of_session, displace_found, displace_recorded, lost, admit, for_session, heard, channel_found, channel_message, leave_channels, end_session, work, game_part, kept_by, is_too_large, Stepped, ended, step}
 use Rattle.dk_model.specs.Sendings.{SendsAtMost, IsTerse}
 use Rattle.dk_model.proofs.Sendings.{create_sends, bind_sends, save_sends, get_as_sends, send_sends}
 
@@ -109,6 +109,13 @@ channel_keeps name = record { from = λ s. found_keeps (platform_bound s (channe
 own_keeps : (session : Session) → KeepsTasks (own_record session)
 own_keeps session = then_keeps (session_keeps session.name) (λ r. either_keeps (nat_eq r.1.conn.0 session.conn.0) (give_keeps (Ok r)) (refuse_keeps NAME_NOT_BOUND))
 
+-- a session is found by its name
+find_keeps : (name : List ℕ) → KeepsTasks (find_session name)
+unfolding find_session
+find_keeps name = record {
+  from = λ s. either_kept (is_name_too_long (session_name name)) (record { kept = refl }) ((then_keeps (session_keeps name) (λ r. give_keeps (Ok (record { name = name; conn = r.1.conn })))).from s);
+}
+
 -- a session is asked for, where its name is bound
 numbered_keeps : (o : Option ObjectId) (conn : ConnNo) (s : Run) → IsKept s (numbered o conn s)
 numbered_keeps None conn s = record { kept = refl }
@@ -171,14 +178,9 @@ channel_send_keeps name sender body =
     (either_keeps (is_sender sender c.1.members) (each_keeps c.1.members (out.Channel name body)) (give_keeps (Ok tt))))
 
 module _ {game : Act (Unit {0})} (game_keeps : KeepsTasks game) where
-  -- the platform's part of a login, whether or not the name is connected
-  found_login_keeps : (o : Option ObjectId) (session : Session) → KeepsTasks (login_found o session game)
-  found_login_keeps (Some id) session = then_keeps (of_sends (send_sends session.conn out.Refused)) (λ _. of_sends (send_sends session.conn out.Close))
-  found_login_keeps None session = then_keeps (open_keeps session) (λ _. then_keeps (of_sends (send_sends session.conn out.Accepted)) (λ _. game_keeps))
-
-  -- the platform's part of a login
-  login_keeps : (session : Session) → KeepsTasks (login session game)
-  login_keeps session = record { from = λ s. (found_login_keeps (platform_bound s (session_name session.name)) session).from s }
+  -- the platform's part of a new session
+  admit_keeps : (session : Session) → KeepsTasks (admit session game)
+  admit_keeps session = then_keeps (open_keeps session) (λ _. then_keeps (of_sends (send_sends session.conn out.Accepted)) (λ _. game_keeps))
 
   -- of what a session sends
   for_session_keeps : {f : Act (Unit {0})} (session : Session) → KeepsTasks f → KeepsTasks (for_session session f)
@@ -198,16 +200,26 @@ module _ {game : Act (Unit {0})} (game_keeps : KeepsTasks game) where
   channel_message_keeps session channel body = record { from = λ s. (channel_found_keeps (platform_bound s (channel_name channel)) session channel body).from s }
 
   -- of a session's end
-  disconnect_keeps : (session : Session) → KeepsTasks (disconnect session game)
-  disconnect_keeps session = then_keeps game_keeps (λ _. then_keeps (own_keeps session) (λ r. then_keeps (channels_keep session r.1.channels) (λ _. close_keeps session)))
+  end_keeps : (session : Session) → KeepsTasks (end_session session game)
+  end_keeps session = then_keeps game_keeps (λ _. then_keeps (own_keeps session) (λ r. then_keeps (channels_keep session r.1.channels) (λ _. close_keeps session)))
+
+module _ {game : Job → Act (Unit {0})} (game_keeps : (j : Job) → KeepsTasks (game j)) where
+  -- of a session that a login displaces, where there is one
+  displace_found_keeps : (o : Option ObjectId) (name : List ℕ) → KeepsTasks (displace_found o name game)
+  displace_found_keeps None name = give_keeps (Ok tt)
+  displace_found_keeps (Some id) name = then_keeps (find_keeps name) (λ old. then_keeps (end_keeps (game_keeps (lost old)) old) (λ _. of_sends (send_sends old.conn out.Close)))
+
+  -- of the session that a name is recorded for
+  displace_keeps : (name : List ℕ) → KeepsTasks (displace_recorded name game)
+  displace_keeps name = record { from = λ s. (displace_found_keeps (platform_bound s (session_name name)) name).from s }
 
   -- of a job that is no task
-  work_keeps : (j : Job) → is_task j ≡ false → KeepsTasks (work j game)
-  work_keeps job.Initialize none = game_keeps
-  work_keeps (job.Login conn name) none = login_keeps (of_session conn name)
-  work_keeps (job.Message conn name body) none = for_session_keeps (of_session conn name) game_keeps
-  work_keeps (job.Channel conn name channel body) none = for_session_keeps (of_session conn name) (channel_message_keeps (of_session conn name) channel body)
-  work_keeps (job.Disconnect conn name graceful) none = for_session_keeps (of_session conn name) (disconnect_keeps (of_session conn name))
+  work_keeps : (j : Job) → is_task j ≡ false → KeepsTasks (work game j)
+  work_keeps job.Initialize none = game_keeps job.Initialize
+  work_keeps (job.Login conn name) none = then_keeps (displace_keeps name) (λ _. admit_keeps (game_keeps (job.Login conn name)) (of_session conn name))
+  work_keeps (job.Message conn name body) none = for_session_keeps (game_keeps (job.Message conn name body)) (of_session conn name) (game_keeps (job.Message conn name body))
+  work_keeps (job.Channel conn name channel body) none = let keeps = game_keeps (job.Channel conn name channel body) in for_session_keeps keeps (of_session conn name) (channel_message_keeps keeps (of_session conn name) channel body)
+  work_keeps (job.Disconnect conn name graceful) none = let keeps = game_keeps (job.Disconnect conn name graceful) in for_session_keeps keeps (of_session conn name) (end_keeps keeps (of_session conn name))
   work_keeps (job.Task key due period kind arg) none = absurd cc
 
 -- what a failed run leaves
@@ -233,4 +245,4 @@ ended_keeps j d start (Err fault, s) none same = failed_keeps j start none
 pub step_keeps : (rules : Meaning) (j : Job) (run : RunNo) (at : ℕ) (d : DurableWorld) → IsTerse rules → is_task j ≡ false → (step rules j run at d).world.tasks ≡ d.tasks
 step_keeps rules j run at d terse none =
     let start = begun run at d in
-    ended_keeps j d start (work j (within Game (rules j)) start) none ((work_keeps (within_keeps Game (of_sends (terse j))) j none).from start).kept
+    ended_keeps j d start (work (game_part rules) j start) none ((work_keeps (λ i. within_keeps Game (of_sends (terse i))) j none).from start).kept

@@ -1,5 +1,5 @@
 -- Which job a claim takes in a world without tasks.
-use Rattle.std.proofs.Common.{◌≡◌, ◌≢◌, ℕ, Bool, true, false, ◌==◌, if◌then◌else◌, Option, Some, None, List, [], ◌∷◌, ◌++◌, map, length, refl, sym, ap, subst, ◌∙◌, arith}
+use Rattle.std.proofs.Common.{◌≡◌, ◌≢◌, ℕ, Bool, true, false, ◌==◌, if◌then◌else◌, Option, Some, None, List, [], ◌∷◌, ◌++◌, map, length, refl, sym, ap, ◌∙◌, arith}
 use Rattle.std.specs.FinMap.{FinMap, get, entries, empty, len, len-empty, len-entries, get-empty}
 use Rattle.std.specs.declared.cmp.Ordering.{Ordering}
 use Rattle.std.specs.List.{AllByRecursion, filter}
@@ -12,7 +12,7 @@ use Rattle.dk_model.specs.Keys.{key_cmp}
 use Rattle.dk_model.specs.Worlds.{World, Connection}
 use Rattle.dk_model.specs.Deliveries.{conn_of}
 use Rattle.dk_model.specs.Events.{is_task}
-use Rattle.dk_model.specs.Picks.{is_of, is_claimed, job_of, first_job, Turn, turn_of, input_of, inputs, task_job, is_due, due_tasks, first_runs, runnable, lesser, least, is_sooner, is_earlier, mapped, or_else, pick_task, pick_input, first_of_list, pick}
+use Rattle.dk_model.specs.Picks.{is_of, is_claimed, job_of, first_job, Turn, turn_of, input_of, inputs, task_job, is_due, due_tasks, first_runs, runnable, least, is_sooner, is_earlier, mapped, or_else, pick_task, pick_input, first_of_list, pick}
 use Rattle.dk_model.proofs.Maps.{conns_total, some_is, not_both}
 use Rattle.dk_laws.proofs.Entries.{all_filter_map, all_entries}
 use Rattle.dk_laws.proofs.Picked.{If, least_has, mapped_has, either, turn_has, picked}

@@ -3,7 +3,7 @@ use Rattle.std.specs.Prelude.{◌≡◌, ℕ, ◌+◌, ◌<◌, ◌≤◌, ◌==
 use Rattle.std.specs.List.{Contains}
 use Rattle.std.specs.FinMap.{get, empty}
 use Rattle.dk_types.specs.declared.number.ConnNo.{ConnNo}
-use Rattle.dk_types.specs.declared.limits.TheConstants.{NUMBERS_END, OUTS_MOST_COUNT}
+use Rattle.dk_types.specs.declared.limits.TheConstants.{NUMBERS_END, MOMENT_MOST_MS, OUTS_MOST_COUNT}
 use Rattle.dk_model.specs.Worlds.{World, Connection}
 use Rattle.dk_model.specs.Deliveries.{Connections}
 use Rattle.dk_model.specs.Events.{outbox}
@@ -33,7 +33,7 @@ AreDistinct (conn ∷ conns) = (Contains conns conn → ⊥) × AreDistinct conn
 pub record IsFit (w : World) (conns : List ConnNo) (more : ℕ) : Type 0 where
   pub unclaimed : w.claims ≡ empty
   pub unlimited : w.budget ≡ None
-  pub moment : w.moment ≡ 0
+  pub moment : w.moment ≤ MOMENT_MOST_MS
   pub tasks : w.durable.tasks ≡ empty
   pub known : (conn : ConnNo) (c : Connection) → get w.connections conn ≡ Some c → Contains conns conn
   pub drawn : (conn : ConnNo) → Contains conns conn → conn.0 < w.next

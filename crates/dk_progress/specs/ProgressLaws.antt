@@ -11,7 +11,7 @@ use Rattle.dk_types.specs.declared.event.ConnectReply.{ConnectReply}
 use Rattle.dk_types.specs.declared.event.ConnectReply.TheVariants as connected
 use Rattle.dk_types.specs.declared.event.PostReply.{PostReply}
 use Rattle.dk_types.specs.declared.event.ClaimReply.TheVariants as claimed
-use Rattle.dk_types.specs.declared.limits.TheConstants.{NUMBERS_END, OUTS_MOST_COUNT}
+use Rattle.dk_types.specs.declared.limits.TheConstants.{NUMBERS_END, MOMENT_MOST_MS, OUTS_MOST_COUNT}
 use Rattle.dk_model.specs.Worlds.{World, fresh_world}
 use Rattle.dk_model.specs.Events.{Meaning, Happens, outbox}
 use Rattle.dk_model.specs.Transcripts.{IsQuiet}
@@ -37,12 +37,18 @@ PostsFit =
     (rules : Meaning) (w after : World) (conns : List ConnNo) (more pass : ℕ) (conn : ConnNo) (input : Input) (reply : PostReply)
     → IsFit w conns (4 + more) → Happens rules w (event.Post pass conn input reply) after → IsFit after conns more
 
+-- time goes on, and nothing is added
+abbrev pub TicksFit : Type 0
+TicksFit =
+    (rules : Meaning) (w after : World) (conns : List ConnNo) (more pass moment : ℕ)
+    → IsFit w conns more → Happens rules w (event.Tick pass moment) after → IsFit after conns more
+
 -- a run that was claimed and committed: its numbers fit in what is printed, and less is left to run
 pub record IsRun (w : World) (conns : List ConnNo) (more : ℕ) (run : RunNo) (at : ℕ) (after : World) : Type 0 where
   pub fit : IsFit after conns more
   pub less : left after conns < left w conns
   pub number : run.0 < NUMBERS_END
-  pub moment : at ≡ 0
+  pub moment : at ≤ MOMENT_MOST_MS
 
 abbrev pub RunsLeaveLess : Type 0
 RunsLeaveLess =

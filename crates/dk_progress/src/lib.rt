@@ -2,7 +2,7 @@
 //! anything: each contract is a law of the model, cited by those who run jobs until none is left.
 #![tactic(auto)]
 
-ghost use Rattle.dk_progress.specs.ProgressLaws.{FreshIsFit, ConnectsFit, PostsFit, RunsLeaveLess, ClaimsAreGranted, HandsTakeAll};
+ghost use Rattle.dk_progress.specs.ProgressLaws.{FreshIsFit, ConnectsFit, PostsFit, TicksFit, RunsLeaveLess, ClaimsAreGranted, HandsTakeAll};
 
 /// A world that nothing has happened to is fit, where numbers are enough for the first run and all that is to come.
 pub fn fresh_is_fit()
@@ -17,6 +17,11 @@ pub fn connects_fit()
 /// A post adds one input at most.
 pub fn posts_fit()
     ensures { PostsFit }
+{}
+
+/// A tick adds nothing that could be run, where there are no tasks.
+pub fn ticks_fit()
+    ensures { TicksFit }
 {}
 
 /// A claimed run that is committed leaves less to run than before its claim, where the rules are lawful and terse.

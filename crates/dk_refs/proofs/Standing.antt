@@ -1,5 +1,5 @@
 -- What stands under a platform name where its record was read, or was refused.
-use Rattle.std.proofs.Common.{◌≡◌, ℕ, ◌==◌, Bool, true, false, if◌then◌else◌, Option, Some, None, List, Result, Ok, Err, refl, sym, ap, arith}
+use Rattle.std.proofs.Common.{◌≡◌, ℕ, ◌==◌, nat_eq, Bool, true, false, if◌then◌else◌, Option, Some, None, is_some, List, Result, Ok, Err, refl, sym, ap, subst, ◌∙◌, arith}
 use Rattle.std.proofs.lemmas.Bool.Decides.{nat_tests}
 use Rattle.std.specs.FinMap as map
 use Rattle.dk_types.specs.declared.number.ObjectId.{ObjectId}
@@ -9,7 +9,18 @@ use Rattle.dk_types.specs.declared.fault.AppFault.TheVariants.{Refused}
 use Rattle.dk_model.specs.Runs as act
 use Rattle.dk_model.specs.Runs.{Run, Act, give, and_then, carry_on, found, refuse}
 use Rattle.dk_model.specs.References.{get_as}
-use Rattle.dk_model.specs.Platforms.{platform_bound, found_as, record_under}
+use Rattle.dk_model.specs.declared.records.SessionRecord.{SessionRecord}
+use Rattle.dk_model.specs.DurableWorlds.{DurableWorld, Agrees}
+use Rattle.dk_model.specs.Records.{SESSION_KIND, session_of, session_name}
+use Rattle.dk_model.specs.Platforms.{platform_bound, found_as, record_under, session_under, own_record}
+use Rattle.dk_types.specs.declared.job.Session.{Session}
+use Rattle.dk_overlay.specs.Logged.{Logged}
+use Rattle.dk_txn.specs.Current.{current}
+use Rattle.dk_txn.specs.Does as does
+use Rattle.dk_txn.specs.Does.{Does}
+use Rattle.dk_txn.specs.Refusals.{refusal_fault}
+use Rattle.dk_txn.specs.Sights.{Sights}
+use Rattle.dk_txn.specs.declared.txn.Txn.{Txn}
 use Rattle.dk_refs.specs.Telling.{kind_of, kind_at, kind_under, value_of_bytes, value_at, value_under}
 
 -- a record was read: its kind and its value are so, and nothing was done
@@ -93,3 +104,54 @@ module _ {A : Type 0} (kind : ℕ) (read : List ℕ → Option A) (s t : Run) wh
 
   pub is_other : (name : List ℕ) → record_under name kind read s ≡ (Err (Refused 3), t) → IsOther kind (kind_under name s.world) s t
   is_other name e = other_at (platform_bound s name) e
+
+  -- the id that is answered is the one that was looked up
+  same_id : (id : ObjectId) (r : Result A AppFault) (u : Run) (x : ObjectId × A) → carry_on r (λ y. give (Ok (id, y))) u ≡ (Ok x, t) → id ≡ x.0
+  unfolding give
+  same_id id (Ok y) u x e =
+      let told : ◌≡◌ {A = Result (ObjectId × A) AppFault} (Ok (id, y)) (Ok x) = ap (λ q. q.0) e in
+      let is : (id, y) ≡ x = cc in ap (λ (q : ObjectId × A). q.0) is
+  same_id id (Err fault) u x e = let told : ◌≡◌ {A = Result (ObjectId × A) AppFault} (Err fault) (Ok x) = ap (λ q. q.0) e in absurd cc
+
+  there_at : (o : Option ObjectId) (x : ObjectId × A) → found_as o kind read s ≡ (Ok x, t) → kind_at (Some x.0) s.world ≡ Some kind
+  unfolding and_then get_as act.get
+  there_at None x e = no_answer (Refused 1) x s t e
+  there_at (Some id) x e = subst (λ i. kind_at (Some i) s.world ≡ Some kind) (same_id id _ _ x e) (stands_at (Some id) x e).has_kind
+
+  -- an object of this kind stands under the id
+  pub stands_there : (name : List ℕ) (x : ObjectId × A) → record_under name kind read s ≡ (Ok x, t) → kind_at (Some x.0) s.world ≡ Some kind
+  stands_there name x e = there_at (platform_bound s name) x e
+
+-- a session's own record stands under its name
+pub own_stands : (session : Session) (y : ObjectId × SessionRecord) (s t : Run) → own_record session s ≡ (Ok y, t) → session_under session.name s ≡ (Ok y, t)
+unfolding and_then give
+own_stands session y s t e = by (session_under session.name s) refl e
+  where
+    by : (q : Result (ObjectId × SessionRecord) AppFault × Run) → session_under session.name s ≡ q → carry_on q.0 (λ r. if nat_eq r.1.conn.0 session.conn.0 then give (Ok r) else refuse 1) q.1 ≡ (Ok y, t) → session_under session.name s ≡ (Ok y, t)
+    by (Err fault, u) is h = let told : ◌≡◌ {A = Result (ObjectId × SessionRecord) AppFault} (Err fault) (Ok y) = ap (λ r. r.0) h in absurd cc
+    by (Ok r, u) is h = is ∙ at (nat_eq r.1.conn.0 session.conn.0) h
+      where
+        at : (b : Bool) → (if b then give (Ok r) else refuse 1) u ≡ (Ok y, t) → ◌≡◌ {A = Result (ObjectId × SessionRecord) AppFault × Run} (Ok r, u) (Ok y, t)
+        at true h = h
+        at false h = let told : ◌≡◌ {A = Result (ObjectId × SessionRecord) AppFault} (Err (Refused 1)) (Ok y) = ap (λ r. r.0) h in absurd cc
+
+said : {A : Type 0} (x : A) (s : Result A AppFault) → Some (Ok x) ≡ Some s → Ok x ≡ s
+said x s e = cc
+
+some_kind : (o : Option Object) (kind : ℕ) → kind_of o ≡ Some kind → is_some o ≡ true
+some_kind None kind e = cc
+some_kind (Some object) kind e = refl
+
+module _ {S : Type 0} {sights : Sights S} {a b : Txn S Logged} where
+  -- the object of a record that was read stands
+  pub record_stands : {A : Type 0} (kind : ℕ) (read : List ℕ → Option A) (name : List ℕ) (x : ObjectId × A) → Does sights refusal_fault a b (record_under name kind read) (Ok x) → does.Stands b.log x.0
+  record_stands kind read name x p d agrees =
+      let is = p.does (Ok x) refl d agrees in
+      subst (λ (s : Run). is_some (map.get s.world.objects x.0) ≡ true) (sym (stands kind read (current a.log d) (current b.log d) name x is).same) (some_kind (map.get (current a.log d).world.objects x.0) kind (stands_there kind read (current a.log d) (current b.log d) name x is))
+
+  pub own_record_stands : (session : Session) (y : ObjectId × SessionRecord) → Does sights refusal_fault a b (own_record session) (Ok y) → does.Stands b.log y.0
+  own_record_stands session y p =
+      record_stands SESSION_KIND session_of (session_name session.name) y (record { keeps = p.keeps; does = under })
+    where
+      under : (s : Result (ObjectId × SessionRecord) AppFault) → Some (Ok y) ≡ Some s → (d : DurableWorld) → Agrees d b.log.reads → session_under session.name (current a.log d) ≡ (s, current b.log d)
+      under s t d agrees = subst (λ o. session_under session.name (current a.log d) ≡ (o, current b.log d)) (said y s t) (own_stands session y (current a.log d) (current b.log d) (p.does (Ok y) refl d agrees))

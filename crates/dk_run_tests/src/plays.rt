@@ -81,7 +81,7 @@ fn halted(alloc: Global, call: &mut Words<'_>) -> Option<String> {
         "NameNotBound" => Refusal::NameNotBound,
         "ObjectNotFound" => Refusal::ObjectNotFound,
         "WrongKind" => Refusal::WrongKind { found: 7 },
-        "TooLong" => Refusal::TooLong { len: 65_536 },
+        "TooLong" => Refusal::TooLong { len: 1_048_577 },
         "BadDelay" => Refusal::BadDelay,
         "Reserved" => Refusal::Reserved,
         "NoMemory" => Refusal::NoMemory,

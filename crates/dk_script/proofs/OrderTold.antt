@@ -30,7 +30,7 @@ lines_of-cons b true line rest others h behind = absurd cc
 lines_of-cons b false line rest others h behind = ap (onto_first b) (behind h)
 
 -- a line ends at its 0A
-lines_of-line : (line rest : List ℕ) → lacks 10 line ≡ true → lines_of (line ++ 10 ∷ rest) ≡ line ∷ lines_of rest
+pub lines_of-line : (line rest : List ℕ) → lacks 10 line ≡ true → lines_of (line ++ 10 ∷ rest) ≡ line ∷ lines_of rest
 lines_of-line [] rest h = refl
 lines_of-line (b ∷ line) rest h = lines_of-cons b (eqb b 10) line rest (lacks 10 line) h (lines_of-line line rest)
 

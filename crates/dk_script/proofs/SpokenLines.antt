@@ -1,20 +1,15 @@
--- What a line says is one thing.
-use Rattle.std.proofs.Common.{◌≡◌, ℕ, true, false, not, eqb, Option, Some, None, List, ◌∷◌, ◌++◌, get_or, drop, refl, sym, ap, ◌∙◌, arith}
-use Rattle.std.proofs.lemmas.Bool.{false≢true}
+-- What a line says is one thing, and can be told from its text.
+use Rattle.std.proofs.Common.{◌≡◌, ℕ, true, cond, not, Bool, eqb, List, ◌∷◌, ◌++◌, get_or, drop, refl, sym, ap, ◌∙◌, arith}
+use Rattle.std.specs.Str.Parse.{digits_value}
+use Rattle.std.proofs.lemmas.Fmt.{decimal_is_IsNumeral}
 use Rattle.std.proofs.lemmas.Bool.Decides.{nat_tests}
 use Rattle.std.proofs.lemmas.List.Sums.{AllPass-from_list_all, list_all-from_AllPass}
 use Rattle.dk_model.specs.declared.script.Line.{Line}
-use Rattle.dk_model.specs.declared.script.Line.TheVariants.{Login, Send}
+use Rattle.dk_model.specs.declared.script.Line.TheVariants as line
 use Rattle.dk_model.specs.Lines.{first_word, after_word}
-use Rattle.dk_model.specs.Scripts.{IsLineName, is_name_byte, is_passed_over, line_text}
-use Rattle.dk_script.specs.Spoken.{IsLine, Says}
+use Rattle.dk_model.specs.Scripts.{Spoken, PassedOver, Does, Sync, Says, IsLine, IsLineName, is_name_byte, is_passed_over, line_text}
 use Rattle.dk_script.proofs.Lacking.{lacks}
 use Rattle.dk_script.proofs.FirstWords.{first_word-space, after_word-space}
-
--- a line that says something is not passed over
-pub is_passed_over-line_text : (l : Line) → is_passed_over (line_text l) ≡ false
-is_passed_over-line_text (Login name) = refl
-is_passed_over-line_text (Send name text) = refl
 
 -- a byte of a name is no space
 is_name_byte-no_space : (b : ℕ) → is_name_byte b ≡ true → not (eqb b 32) ≡ true
@@ -33,26 +28,51 @@ first_word-name named name text e is = ap first_word e ∙ first_word-space name
 pub after_word-name : (named name text : List ℕ) → named ≡ name ++ 32 ∷ text → IsLineName name → after_word named ≡ text
 after_word-name named name text e is = ap after_word e ∙ after_word-space name text (lacks-name name is)
 
--- two sends that are written alike are one
-send-once : (m t n u : List ℕ) → m ++ 32 ∷ t ≡ n ++ 32 ∷ u → IsLineName m → IsLineName n → Send m t ≡ Send n u
-send-once m t n u e p q =
-    let named = m ++ 32 ∷ t in
-    let same_name = sym (first_word-name named m t refl p) ∙ first_word-name named n u e q in
-    let same_text = sym (after_word-name named m t refl p) ∙ after_word-name named n u e q in
-    ap (λ (name : List ℕ). Send name t) same_name ∙ ap (λ (text : List ℕ). Send n text) same_text
+-- the line whose fourth byte is this, with what stands behind its word
+abbrev line_of : ℕ → List ℕ → Spoken
+line_of mark text =
+    cond (eqb mark 99) Sync
+    (cond (eqb mark 105) (Does (line.Login (drop 6 text)))
+    (cond (eqb mark 111) (Does (line.Logout (drop 7 text)))
+    (cond (eqb mark 112) (Does (line.Drop (drop 5 text)))
+    (cond (eqb mark 100) (Does (line.Send (first_word (drop 5 text)) (after_word (drop 5 text))))
+    (cond (eqb mark 110) (Does (line.Channel (first_word (drop 8 text)) (first_word (after_word (drop 8 text))) (after_word (after_word (drop 8 text)))))
+    (Does (line.Tick (digits_value 10 (drop 5 text)))))))))
 
--- two lines that are written alike are one
-line_text-once : (l m : Line) → line_text l ≡ line_text m → IsLine l → IsLine m → l ≡ m
-line_text-once (Login a) (Login b) e p q = ap (λ (name : List ℕ). Login name) (ap (drop 6) e)
-line_text-once (Login a) (Send n u) e p q = absurd (false≢true (sym (ap (λ xs. eqb (get_or xs 0 0) 108) e)))
-line_text-once (Send m t) (Login b) e p q = absurd (false≢true (ap (λ xs. eqb (get_or xs 0 0) 108) e))
-line_text-once (Send m t) (Send n u) e p q = send-once m t n u (ap (drop 5) e) p.0 q.0
+-- what a text says, if it says anything
+abbrev spoken_of : List ℕ → Spoken
+spoken_of text = cond (is_passed_over text) PassedOver (line_of (get_or text 3 0) text)
+
+-- the words of a message on a channel
+channel-words : (name channel text : List ℕ) → IsLineName name → IsLineName channel
+    → Does (line.Channel (first_word (name ++ 32 ∷ (channel ++ 32 ∷ text))) (first_word (after_word (name ++ 32 ∷ (channel ++ 32 ∷ text)))) (after_word (after_word (name ++ 32 ∷ (channel ++ 32 ∷ text)))))
+    ≡ Does (line.Channel name channel text)
+channel-words name channel text p q =
+    let rest = channel ++ 32 ∷ text in
+    let all = name ++ 32 ∷ rest in
+    ap (λ (n : List ℕ). Does (line.Channel n (first_word (after_word all)) (after_word (after_word all)))) (first_word-space name rest (lacks-name name p))
+    ∙ ap (λ (r : List ℕ). Does (line.Channel name (first_word r) (after_word r))) (after_word-space name rest (lacks-name name p))
+    ∙ ap (λ (c : List ℕ). Does (line.Channel name c (after_word rest))) (first_word-space channel text (lacks-name channel q))
+    ∙ ap (λ (t : List ℕ). Does (line.Channel name channel t)) (after_word-space channel text (lacks-name channel q))
+
+-- a line is told from its text
+spoken_of-line_text : (l : Line) → IsLine l → spoken_of (line_text l) ≡ Does l
+spoken_of-line_text (line.Login name) is = refl
+spoken_of-line_text (line.Send name text) is =
+    let all = name ++ 32 ∷ text in
+    ap (λ (n : List ℕ). Does (line.Send n (after_word all))) (first_word-space name text (lacks-name name is.0))
+    ∙ ap (λ (t : List ℕ). Does (line.Send name t)) (after_word-space name text (lacks-name name is.0))
+spoken_of-line_text (line.Channel name channel text) is = channel-words name channel text is.0 is.1
+spoken_of-line_text (line.Logout name) is = refl
+spoken_of-line_text (line.Drop name) is = refl
+spoken_of-line_text (line.Tick moment) is = ap (λ (m : ℕ). Does (line.Tick m)) (decimal_is_IsNumeral moment (omega (arith, is))).1
+
+-- what a text says is told from it
+Says-told : (text : List ℕ) (s : Spoken) → Says text s → spoken_of text ≡ s
+Says-told text PassedOver says = ap (λ (b : Bool). cond b PassedOver (line_of (get_or text 3 0) text)) says
+Says-told text (Does l) says = ap spoken_of says.0 ∙ spoken_of-line_text l says.1
+Says-told text Sync says = ap spoken_of says
 
 -- so a line says one thing
-pub Says-once : (text : List ℕ) (a b : Option Line) → Says text a → Says text b → a ≡ b
-Says-once text None None p q = refl
-Says-once text None (Some m) p q =
-    absurd (false≢true (sym (is_passed_over-line_text m) ∙ ap is_passed_over (sym q.0) ∙ p))
-Says-once text (Some l) None p q =
-    absurd (false≢true (sym (is_passed_over-line_text l) ∙ ap is_passed_over (sym p.0) ∙ q))
-Says-once text (Some l) (Some m) p q = ap Some (line_text-once l m (sym p.0 ∙ q.0) p.1 q.1)
+pub Says-once : (text : List ℕ) (a b : Spoken) → Says text a → Says text b → a ≡ b
+Says-once text a b p q = sym (Says-told text a p) ∙ Says-told text b q

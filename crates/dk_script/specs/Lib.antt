@@ -1,3 +1,5 @@
 pub mod Knowledge
 pub mod OrderLaw
-pub mod Spoken
+pub mod Reading
+pub mod Refusals
+pub mod ScriptLaws

@@ -1,44 +1,85 @@
 //! A script's lines, and what one of them says.
-ghost use Rattle.std.specs.Prelude.{◌≡◌, ℕ, ◌<◌, ◌∷◌, ◌++◌, List, Option, length, codes, IsTrue, ◌↔◌, ◌==◌, IfSome, IfNone, position};
+ghost use Rattle.std.specs.Prelude.{◌≡◌, ℕ, ◌<◌, ◌≤◌, ◌∷◌, ◌++◌, List, length, codes, decimal, IsTrue, ◌↔◌, ◌==◌, IfSome, IfNone, position};
 ghost use Rattle.std.specs.List.{list_all};
-ghost use Rattle.dk_model.specs.Lines.{lines_of, first_word, after_word};
-ghost use Rattle.dk_model.specs.declared.script.Line.{Line};
-ghost use Rattle.dk_model.specs.Scripts.{IsLineName, IsText, is_name_byte, is_text_byte, is_passed_over};
-ghost use Rattle.dk_script.specs.Spoken.{Says, said_by};
+ghost use Rattle.dk_types.specs.declared.limits.TheConstants.{MOMENT_MOST_MS};
+ghost use Rattle.dk_model.specs.Lines.{first_word, after_word};
+ghost use Rattle.dk_model.specs.Scripts.{IsLineName, IsText, Says, is_name_byte, is_text_byte, is_passed_over};
+ghost use Rattle.dk_model.specs.Scripts as script;
+ghost use Rattle.dk_script.specs.Reading.{IsBehind, IsCut, IsNamed, said_by};
 
-use dk_model::limits::{BODY_MOST_BYTES, NAME_MOST_BYTES};
+use crate::moment::moment_of;
+use dk_model::limits::{NAME_MOST_BYTES, TEXT_MOST_BYTES};
 
 /// What a line of a script says.
 #[derive(Clone, Copy)]
 pub(crate) enum Spoken<'a> {
     /// Nothing: the line is empty or a comment.
     PassedOver,
-    Login { name: &'a [u8] },
-    Send { name: &'a [u8], text: &'a [u8] },
+    Login {
+        name: &'a [u8],
+    },
+    Send {
+        name: &'a [u8],
+        text: &'a [u8],
+    },
+    Channel {
+        name: &'a [u8],
+        channel: &'a [u8],
+        text: &'a [u8],
+    },
+    Logout {
+        name: &'a [u8],
+    },
+    Drop {
+        name: &'a [u8],
+    },
+    Tick {
+        moment: u64,
+    },
+    /// The end of the phase.
+    Sync,
 }
 
 impl<'a> Spoken<'a> {
     /// What the line says, or nothing where it is no line of a script.
     pub(crate) fn of(line: &'a [u8]) -> Option<Spoken<'a>>
         ensures found { IfSome result (λ spoken. Says line.now (said_by spoken)) }
-        ensures none { IfNone result ((said : Option Line) → Says line.now said → ⊥) }
+        ensures none { IfNone result ((said : script.Spoken) → Says line.now said → ⊥) }
     {
         if is_passed_over(line) {
             return Some(Spoken::PassedOver);
         }
-        if let Some(name) = login_name(line) {
+        if line == b"sync".as_slice() {
+            return Some(Spoken::Sync);
+        }
+        if let Some(name) = named(line, b"login ".as_slice()) {
             return Some(Spoken::Login { name });
         }
-        let (name, text) = send_parts(line)?;
-        Some(Spoken::Send { name, text })
+        if let Some(name) = named(line, b"logout ".as_slice()) {
+            return Some(Spoken::Logout { name });
+        }
+        if let Some(name) = named(line, b"drop ".as_slice()) {
+            return Some(Spoken::Drop { name });
+        }
+        if let Some((name, text)) = sent(line) {
+            return Some(Spoken::Send { name, text });
+        }
+        if let Some((name, channel, text)) = sent_on(line) {
+            return Some(Spoken::Channel {
+                name,
+                channel,
+                text,
+            });
+        }
+        let moment = ticked(line)?;
+        Some(Spoken::Tick { moment })
     }
 }
 
 /// The first line, and what follows it.
 pub(crate) fn cut_line(bytes: &[u8]) -> (&[u8], &[u8])
     requires { 0 < length bytes.now }
-    ensures cut { lines_of bytes.now ≡ result.0.now ∷ lines_of result.1.now }
-    ensures shorter { length result.1.now < length bytes.now }
+    ensures cut { IsCut bytes.now result.0.now result.1.now }
 {
     match place_of(bytes, b'\n') {
         None => (bytes, &bytes[bytes.len()..]),
@@ -55,23 +96,66 @@ fn is_passed_over(line: &[u8]) -> bool
     }
 }
 
-/// The name of a line `login NAME`.
-fn login_name(line: &[u8]) -> Option<&[u8]>
-    ensures found { IfSome result (λ name. (line.now ≡ codes "login " ++ name.now) × IsLineName name.now) }
-    ensures none { IfNone result ((name : List ℕ) → line.now ≡ codes "login " ++ name → IsLineName name → ⊥) }
+/// What stands behind a word at the front of the line.
+fn behind<'a>(line: &'a [u8], word: &[u8]) -> Option<&'a [u8]>
+    ensures found { IfSome result (λ rest. IsBehind word.now line.now rest.now) }
+    ensures none { IfNone result ((rest : List ℕ) → line.now ≡ word.now ++ rest → ⊥) }
 {
-    let name = line.strip_prefix(b"login ".as_slice())?;
+    line.strip_prefix(word)
+}
+
+/// The name of a line that is a word and a name.
+fn named<'a>(line: &'a [u8], word: &[u8]) -> Option<&'a [u8]>
+    ensures found { IfSome result (λ name. (line.now ≡ word.now ++ name.now) × IsLineName name.now) }
+    ensures none { IfNone result ((name : List ℕ) → line.now ≡ word.now ++ name → IsLineName name → ⊥) }
+{
+    let name = behind(line, word)?;
     if is_line_name(name) { Some(name) } else { None }
 }
 
 /// The name and the text of a line `send NAME TEXT`.
-fn send_parts(line: &[u8]) -> Option<(&[u8], &[u8])>
-    ensures found { IfSome result (λ parts. (line.now ≡ codes "send " ++ parts.0.now ++ 32 ∷ parts.1.now) × IsLineName parts.0.now × IsText parts.1.now) }
-    ensures none { IfNone result ((name text : List ℕ) → line.now ≡ codes "send " ++ name ++ 32 ∷ text → IsLineName name → IsText text → ⊥) }
+fn sent(line: &[u8]) -> Option<(&[u8], &[u8])>
+    ensures found { IfSome result (λ parts. (line.now ≡ codes "send " ++ (parts.0.now ++ 32 ∷ parts.1.now)) × IsLineName parts.0.now × IsText parts.1.now) }
+    ensures none { IfNone result ((name text : List ℕ) → line.now ≡ codes "send " ++ (name ++ 32 ∷ text) → IsLineName name → IsText text → ⊥) }
 {
-    let (name, text) = cut_word(line.strip_prefix(b"send ".as_slice())?)?;
-    if is_line_name(name) && is_text(text) {
+    let (name, text) = name_and_rest(behind(line, b"send ".as_slice())?)?;
+    if is_text(text) {
         Some((name, text))
+    } else {
+        None
+    }
+}
+
+/// The name, the channel and the text of a line `channel NAME CHANNEL TEXT`.
+fn sent_on(line: &[u8]) -> Option<(&[u8], &[u8], &[u8])>
+    ensures found { IfSome result (λ parts. (line.now ≡ codes "channel " ++ (parts.0.now ++ 32 ∷ (parts.1.now ++ 32 ∷ parts.2.now))) × IsLineName parts.0.now × IsLineName parts.1.now × IsText parts.2.now) }
+    ensures none { IfNone result ((name channel text : List ℕ) → line.now ≡ codes "channel " ++ (name ++ 32 ∷ (channel ++ 32 ∷ text)) → IsLineName name → IsLineName channel → IsText text → ⊥) }
+{
+    let (name, rest) = name_and_rest(behind(line, b"channel ".as_slice())?)?;
+    let (channel, text) = name_and_rest(rest)?;
+    if is_text(text) {
+        Some((name, channel, text))
+    } else {
+        None
+    }
+}
+
+/// The moment of a line `tick M`.
+fn ticked(line: &[u8]) -> Option<u64>
+    ensures found { IfSome result (λ moment. (line.now ≡ codes "tick " ++ decimal moment) × (moment ≤ MOMENT_MOST_MS)) }
+    ensures none { IfNone result ((moment : ℕ) → line.now ≡ codes "tick " ++ decimal moment → moment ≤ MOMENT_MOST_MS → ⊥) }
+{
+    moment_of(behind(line, b"tick ".as_slice())?)
+}
+
+/// A name and what stands behind the space after it.
+fn name_and_rest(bytes: &[u8]) -> Option<(&[u8], &[u8])>
+    ensures found { IfSome result (λ parts. IsNamed bytes.now parts.0.now parts.1.now) }
+    ensures none { IfNone result ((name rest : List ℕ) → bytes.now ≡ name ++ 32 ∷ rest → IsLineName name → ⊥) }
+{
+    let (name, rest) = cut_word(bytes)?;
+    if is_line_name(name) {
+        Some((name, rest))
     } else {
         None
     }
@@ -108,7 +192,7 @@ fn are_name_bytes(bytes: &[u8]) -> bool
 fn is_text(text: &[u8]) -> bool
     ensures { IsTrue result ↔ IsText text.now }
 {
-    text.len() as u64 <= BODY_MOST_BYTES && are_text_bytes(text)
+    text.len() as u64 <= TEXT_MOST_BYTES && are_text_bytes(text)
 }
 
 fn are_text_bytes(bytes: &[u8]) -> bool

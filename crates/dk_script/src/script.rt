@@ -1,26 +1,32 @@
-//! Scripts of any number of sessions.
-ghost use Rattle.std.specs.Prelude.{◌≤◌, List, length, IfOk, IsErrOf};
-ghost use Rattle.dk_model.specs.declared.script.Line.{Line};
-ghost use Rattle.dk_model.specs.Scripts.{IsScript};
+//! Scripts of any number of sessions and phases.
+ghost use Rattle.std.specs.Prelude.{◌≤◌, length, IfOk};
+ghost use Rattle.std.specs.List.{sum_by};
+ghost use Rattle.std.specs.FinSet as sets;
+ghost use Rattle.dk_model.specs.Scripts.{AllStand, IsBadLine, IsScript};
+ghost use Rattle.dk_script.specs.Refusals.{IfBadLine};
 
 use crate::lines::cut_line;
-use crate::reader::Reader;
+use crate::reader::{LineRefused, Reader};
 use dk_model::Line;
 use dk_model::limits::SCRIPT_MOST_BYTES;
 use dk_types::{Listed, NoMemory};
-use std::alloc::{AllocError, AllocFailed, Global};
+use std::alloc::Global;
+use thiserror::Error;
 
-/// The lines of a script, in their order.
+/// The phases of a script, each with its lines in their order.
 #[derive(Debug, Drop, PartialEq, Eq)]
 pub struct Script {
-    pub lines: Listed<Line>,
+    pub phases: Listed<Listed<Line>>,
 }
 
 /// Why bytes are not read as a script.
-#[derive(Clone, Copy, Debug, PartialEq, Eq)]
+#[derive(Clone, Copy, Debug, PartialEq, Eq, Error)]
 pub enum ScriptRefused {
-    /// They are no script.
-    NotYet,
+    /// The line of this number, counted from 1, is the first that is no line of a script, or has the byte behind as many
+    /// as a script may have.
+    #[error("line {line} is no line of a script")]
+    BadLine { line: u64 },
+    #[error("out of memory")]
     NoMemory,
 }
 
@@ -35,40 +41,33 @@ impl From<NoMemory> for ScriptRefused {
     }
 }
 
-impl<T: Drop> From<AllocFailed<T>> for ScriptRefused {
-    ghost use Rattle.std.specs.Prelude.{◌≡◌};
-    ghost use Rattle.dk_script.specs.declared.script.ScriptRefused.TheVariants.{NoMemory as no_memory};
-
-    ghost from_gives = { λ _ e. e ≡ no_memory };
-
-    fn from(_: AllocFailed<T>) -> Self {
-        ScriptRefused::NoMemory
-    }
-}
-
-/// Reads the bytes as a script: any number of lines `login NAME` and `send NAME TEXT`, at most
-/// 16,777,216 bytes in all.
+/// Reads the bytes as a script, of which at most 16,777,216 are read.
 ///
-/// Empty lines and lines that begin with `#` are passed over. A NAME is 1 to 255 visible bytes, so it
-/// ends at the first space or with its line; a TEXT is at most 65,535 visible bytes and spaces, and
-/// goes on to the end of its line. The NAME of a `send` has to have logged in on an earlier line.
-/// `NotYet` is told of bytes that are no script, and of those alone; the only other refusal is that
-/// there is no memory. The bytes are read once, line by line, and a name is looked up in an index.
-/// The script has at most as many lines as a script may have bytes.
+/// A script's lines are `login NAME`, `send NAME TEXT`, `channel NAME CHANNEL TEXT`, `logout NAME`, `drop NAME`, `tick M`
+/// and `sync`, which ends a phase; an empty line and one that begins with `#` are passed over. A NAME that is no login's
+/// means a connection by an earlier line. The bytes are read once, line by line, and a name is looked up in an index. The
+/// script has at most as many lines as a script may have bytes.
 pub fn parse_script(alloc: Global, bytes: &[u8]) -> Result<Script, ScriptRefused>
-    ensures ok { IfOk result (λ script. IsScript bytes.now script.lines) }
-    ensures refused { IsErrOf result ScriptRefused.NotYet → (lines : List Line) → IsScript bytes.now lines → ⊥ }
-    ensures few { IfOk result (λ script. length script.lines ≤ SCRIPT_MOST_BYTES) }
+    ensures ok { IfOk result (λ script. IsScript bytes.now script.phases) }
+    ensures bad_line { IfBadLine result (IsBadLine bytes.now) }
+    ensures stand { IfOk result (λ script. AllStand sets.empty script.phases) }
+    ensures few { IfOk result (λ script. sum_by length script.phases ≤ SCRIPT_MOST_BYTES) }
 {
-    if bytes.len() as u64 > SCRIPT_MOST_BYTES {
-        return Err(ScriptRefused::NotYet);
-    }
     let mut reader = Reader::new(alloc);
     let mut rest = bytes;
+    let mut line = 0;
     'lines: while !rest.is_empty() {
-        let (line, after) = cut_line(rest);
-        reader.read(alloc, line)?;
-        rest = after;
+        let (text, after) = cut_line(rest);
+        line += 1;
+        if (bytes.len() - after.len()) as u64 > SCRIPT_MOST_BYTES {
+            return Err(ScriptRefused::BadLine { line });
+        }
+        match reader.read(alloc, text) {
+            Ok(()) => rest = after,
+            Err(LineRefused::Outside) => return Err(ScriptRefused::BadLine { line }),
+            Err(LineRefused::NoMemory) => return Err(ScriptRefused::NoMemory),
+        }
     }
-    Ok(reader.into_script())
+    let script = reader.into_script(alloc)?;
+    Ok(script)
 }

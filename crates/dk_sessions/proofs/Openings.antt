@@ -63,10 +63,5 @@ module _ {S : Type 0} {sights : Sights S} (session : Session) where
     pub take_long : {e : Refusal} → is_name_too_long (session_name session.name) ≡ true → Does sights refusal_fault a b (taking session) (Err e)
     take_long long = record { keeps = own.keeps; does = λ s t d agrees. absurd (unrecorded session x (current a.log d) (current b.log d) long (own.does (Ok x) refl d agrees)) }
 
-    pub take_stops : {c : Txn S Logged} {e : Refusal} {r : Result (Unit {0}) Refusal} (key : List ℕ) → key ≡ session_name session.name → Does sights refusal_fault b c (act.unbind key) (Err e) → IsErrAnd r (λ h. h ≡ e)
-        → Does sights refusal_fault a c (taking session) r
-    take_stops {c = c} {e = e} key is p told = then_does _ own (stops _ (subst (λ k. Does sights refusal_fault b c (act.unbind k) (Err e)) is p) told)
-
-    pub take_does : {c d : Txn S Logged} {r : Result (Unit {0}) Refusal} (key : List ℕ) → key ≡ session_name session.name → Does sights refusal_fault b c (act.unbind key) (Ok tt) → Does sights refusal_fault c d (act.remove x.0) r
-        → Does sights refusal_fault a d (taking session) r
-    take_does {c = c} key is p q = then_does _ own (then_does _ (subst (λ k. Does sights refusal_fault b c (act.unbind k) (Ok tt)) is p) q)
+    pub take_does : {c : Txn S Logged} {r : Result (Unit {0}) Refusal} (key : List ℕ) → key ≡ session_name session.name → Does sights refusal_fault b c (and_then (act.unbind key) (λ _. act.remove x.0)) r → Does sights refusal_fault a c (taking session) r
+    take_does {c = c} {r = r} key is p = then_does _ own (subst (λ k. Does sights refusal_fault b c (and_then (act.unbind k) (λ _. act.remove x.0)) r) is p)

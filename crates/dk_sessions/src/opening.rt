@@ -1,15 +1,16 @@
 //! Records that begin and end, on the platform's behalf.
-ghost use Rattle.std.specs.Prelude.{ℕ, List, IfErr};
+ghost use Rattle.std.specs.Prelude.{◌≡◌, ℕ, List, OnErr, IfErr};
+ghost use Rattle.dk_types.specs.declared.mode.Mode.TheVariants as mode;
 ghost use Rattle.dk_model.specs.Records.{session_name as named};
 ghost use Rattle.dk_model.specs.Platforms as platform;
-ghost use Rattle.dk_txn.specs.Does.{Does};
+ghost use Rattle.dk_txn.specs.Does.{Does, SameChanges};
 ghost use Rattle.dk_txn.specs.Refusals.{refusal_fault};
 ghost use Rattle.dk_refs.specs.Telling.{TellsKindOf, TellsLengthIn, kind_under};
 ghost use Rattle.dk_sessions.specs.Openings as opening;
 
 use dk_refs::own_records::own_record;
 use dk_refs::recorded::{session_name, too_long};
-use dk_refs::{ManagedRef, SessionRecord};
+use dk_refs::{Managed, SessionRecord};
 use dk_txn::{Mode, Refusal, Txn, View};
 use dk_types::{ConnNo, Listed, Name, Session};
 use std::alloc::Global;
@@ -21,6 +22,8 @@ pub fn open_record<V: View>(
     session: &Session,
 ) -> Result<(), Refusal>
     ensures does { Does V.sights refusal_fault txn.old txn.new (platform.open_record session.now) result }
+    ensures refused { OnErr result (SameChanges txn.old.log txn.new.log) }
+    ensures same_mode { txn.new.log.mode ≡ txn.old.log.mode }
     ensures length { IfErr result (TellsLengthIn txn.new.log (named session.now.name)) }
 {
     let before = txn.set_mode(Mode::Platform);
@@ -37,6 +40,8 @@ pub fn close_record<V: View>(
     session: &Session,
 ) -> Result<(), Refusal>
     ensures does { Does V.sights refusal_fault txn.old txn.new (platform.close_record session.now) result }
+    ensures refused { OnErr result (SameChanges txn.old.log txn.new.log) }
+    ensures same_mode { txn.new.log.mode ≡ txn.old.log.mode }
     ensures kind { IfErr result (TellsKindOf txn.new.log (kind_under (named session.now.name))) }
 {
     let before = txn.set_mode(Mode::Platform);
@@ -50,7 +55,9 @@ fn new_record<V: View>(
     txn: &mut Txn<'_, V>,
     session: &Session,
 ) -> Result<(), Refusal>
+    requires { txn.old.log.mode ≡ mode.Platform }
     ensures does { Does V.sights refusal_fault txn.old txn.new (platform.new_record session.now) result }
+    ensures refused { OnErr result (SameChanges txn.old.log txn.new.log) }
     ensures length { IfErr result (TellsLengthIn txn.new.log (named session.now.name)) }
 {
     let key = match session_name(alloc, &session.name)? {
@@ -70,15 +77,17 @@ fn record_under<V: View>(
     key: &Name,
     conn: ConnNo,
 ) -> Result<(), Refusal>
+    requires { txn.old.log.mode ≡ mode.Platform }
     ensures does { Does V.sights refusal_fault txn.old txn.new (opening.recording key.now conn) result }
+    ensures refused { OnErr result (SameChanges txn.old.log txn.new.log) }
     ensures length { (bytes : List ℕ) → IfErr result (TellsLengthIn txn.new.log bytes) }
 {
     let session = SessionRecord {
         conn,
         channels: Listed::from_vec(Vec::new(alloc)),
     };
-    let made = ManagedRef::create(alloc, txn, &session)?;
-    txn.bind(key, made.id())
+    let payload = session.encode(alloc)?;
+    txn.create_bound(key, SessionRecord::KIND, payload)
 }
 
 fn take_record<V: View>(
@@ -86,15 +95,14 @@ fn take_record<V: View>(
     txn: &mut Txn<'_, V>,
     session: &Session,
 ) -> Result<(), Refusal>
+    requires { txn.old.log.mode ≡ mode.Platform }
     ensures does { Does V.sights refusal_fault txn.old txn.new (opening.taking session.now) result }
+    ensures refused { OnErr result (SameChanges txn.old.log txn.new.log) }
     ensures kind { IfErr result (TellsKindOf txn.new.log (kind_under (named session.now.name))) }
 {
     let found = own_record(alloc, txn, session)?;
     match session_name(alloc, &session.name)? {
         None => Err(too_long(&session.name)),
-        Some(key) => {
-            txn.unbind(&key)?;
-            found.0.remove(txn)
-        }
+        Some(key) => txn.unbind_and_remove(&key, found.0.id()),
     }
 }

@@ -22,6 +22,11 @@ pub trait Noting<X, E> {
     ghost entry: { X → E };
 }
 
+/// Which entries, if any, are made of a value. None is built.
+pub trait NotingAll<X, E> {
+    ghost entries: { X → List E };
+}
+
 /// The entries of one step.
 trait Noted<E> {
     ghost entries: { List E };
@@ -65,6 +70,14 @@ impl<E> GhostList<E> {
     /// One more entry, which is made of `about`.
     pub fn note<X, M: Noting<X, E>>(&mut self, about: &X)
         ensures { self.new ≡ self.old ++ M.entry about.now ∷ [] }
+    {
+        let GhostList { table, seat } = self;
+        extend::<E, X, Brand>(table, seat, about);
+    }
+
+    /// The entries, if any, that are made of `about`.
+    pub fn note_all<X, M: NotingAll<X, E>>(&mut self, about: &X)
+        ensures { self.new ≡ self.old ++ M.entries about.now }
     {
         let GhostList { table, seat } = self;
         extend::<E, X, Brand>(table, seat, about);

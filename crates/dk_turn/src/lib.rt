@@ -19,7 +19,7 @@ mod turn;
 pub use blank::Blank;
 pub use book::{Book, Step};
 pub use empty_step::EmptyStep;
-pub use ghost_list::{GhostList, Noting};
+pub use ghost_list::{GhostList, Noting, NotingAll};
 pub use naming::Naming;
 pub use pass::Pass;
 pub use turn::{Turn, TurnRefused};

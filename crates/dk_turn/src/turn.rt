@@ -12,7 +12,7 @@ use crate::pass::Pass;
 use crate::rule::{Deals, Ordered, Place, View, Words};
 use atomic_table::Table;
 use std::alloc::Global;
-use std::marker::PhantomData;
+use std::marker::{Model, PhantomData};
 use std::sync::atomic::AtomicU64;
 use std::sync::atomic::Ordering::SeqCst;
 use std::sync::{Mutex, Wait};
@@ -23,16 +23,26 @@ pub struct TurnRefused<O> {
     pub book: O,
 }
 
-/// A lock whose value stands for a history. Those who call it have passes.
+/// A lock whose value stands for a history. Those who call it have passes. Contracts see the name that it was given.
 #[derive(Drop)]
 pub struct Turn<O: Book, J: Naming> {
     table: Table<O, View<O::Entry>, (), Ordered, Global>,
     desk: Mutex<Desk<O, J>>,
     // How many threads are in `wait`.
     waiting: AtomicU64,
-    ghost words: { table.shared.table_id.words ≡ 1 },
-    ghost slots: { table.shared.table_id.slots ≡ 0 },
-    ghost table_is: { table.shared.table_id ≡ J.name.table },
+}
+
+impl<O: Book, J: Naming> Model for Turn<O, J> {
+    ghost use Rattle.std.specs.Prelude.{◌≡◌};
+    ghost use Rattle.dk_turn.specs.Names.{TurnName, turn_name};
+
+    ghost Value = { TurnName };
+
+    ghost view = { λ t. turn_name t.table.shared.table_id J.name.passes };
+
+    ghost invariant = { λ t. (t.table.shared.table_id.words ≡ 1)
+        × (t.table.shared.table_id.slots ≡ 0)
+        × (t.table.shared.table_id ≡ J.name.table) };
 }
 
 impl<O: Book, J: Naming> Turn<O, J> {

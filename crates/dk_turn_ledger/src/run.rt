@@ -12,38 +12,39 @@ use std::sync::ledger::Share;
 use std::sync::{Mutex, Wait, ledger};
 use std::thread::{Threads, join};
 
-// Commits once, in any thread.
-fn commit<L: Side, J: Naming, R: Wait>(
-    rt: &R,
-    world: &Turn<World<L>, J>,
-    store: &Mutex<Store<L, J>>,
-    pass: &mut Pass<World<L>, J>,
-) -> bool
-    requires { (L.all ≡ L.parts) × (L.all ≡ 1) }
-{
-    store.lock(rt).publish(rt, world, pass)
+// The world behind its turn, and the store behind a lock of its own.
+#[derive(Drop)]
+struct StoredWorld<L: Side, J: Naming> {
+    world: Turn<World<L>, J>,
+    store: Mutex<Store<L, J>>,
 }
 
-// What the store has counted is the number of commits.
-fn end<L: Side, J: Naming>(
-    alloc: Global,
-    world: Turn<World<L>, J>,
-    store: Store<L, J>,
-) -> (u64, GhostList<Event>)
-    requires { L.all ≡ L.parts }
-    ensures { result.0 ≡ commits_of result.1 }
-{
-    let Store {
-        stored,
-        pass: _,
-        mut share,
-    } = store;
-    let World {
-        events,
-        mut commits,
-    } = world.close(Vec::new(alloc));
-    commits.audit(&mut share);
-    (stored, events)
+impl<L: Side, J: Naming> StoredWorld<L, J> {
+    // Commits once, in any thread.
+    fn commit<R: Wait>(&self, rt: &R, pass: &mut Pass<World<L>, J>) -> bool
+        requires { (L.all ≡ L.parts) × (L.all ≡ 1) }
+    {
+        self.store.lock(rt).publish(rt, &self.world, pass)
+    }
+
+    // What the store has counted is the number of commits.
+    fn end(self, alloc: Global) -> (u64, GhostList<Event>)
+        requires { L.all ≡ L.parts }
+        ensures { result.0 ≡ commits_of result.1 }
+    {
+        let StoredWorld { world, store } = self;
+        let Store {
+            stored,
+            pass: _,
+            mut share,
+        } = store.into_inner();
+        let World {
+            events,
+            mut commits,
+        } = world.close(Vec::new(alloc));
+        commits.audit(&mut share);
+        (stored, events)
+    }
 }
 
 fn commit_in_threads<L: Side + Send + Sync, J: Naming + Send + Sync, R: Threads + Wait + Sync>(
@@ -68,17 +69,20 @@ fn commit_in_threads<L: Side + Send + Sync, J: Naming + Send + Sync, R: Threads 
     let pass = passes.pop()?;
     let mut one = passes.pop()?;
     let mut other = passes.pop()?;
-    let store = Mutex::new(Store::new(pass, share));
+    let stored = StoredWorld {
+        world,
+        store: Mutex::new(Store::new(pass, share)),
+    };
     join(
         rt,
         || -> bool
             requires { (L.all ≡ L.parts) × (L.all ≡ 1) }
-        { commit(rt, &world, &store, &mut one) },
+        { stored.commit(rt, &mut one) },
         || -> bool
             requires { (L.all ≡ L.parts) × (L.all ≡ 1) }
-        { commit(rt, &world, &store, &mut other) },
+        { stored.commit(rt, &mut other) },
     );
-    Some(end(alloc, world, store.into_inner()))
+    Some(stored.end(alloc))
 }
 
 // The turn gets its name, under the ledger's.

@@ -8,11 +8,10 @@ use Rattle.dk_types.specs.declared.item.Item.{Item}
 use Rattle.dk_types.specs.declared.item.Read.{Read}
 use Rattle.dk_types.specs.declared.job.Job.{Job}
 use Rattle.dk_types.specs.declared.fault.AppFault.{AppFault}
-use Rattle.dk_types.specs.declared.mode.Mode.TheVariants.{Game}
 use Rattle.dk_model.specs.Keys.{key_cmp}
 use Rattle.dk_model.specs.DurableWorlds.{Agrees}
-use Rattle.dk_model.specs.Runs.{Act, begun, within}
-use Rattle.dk_model.specs.Steps.{work, ended}
+use Rattle.dk_model.specs.Runs.{Act, begun}
+use Rattle.dk_model.specs.Steps.{work, game_part, ended}
 use Rattle.dk_model.specs.Finishes.{IsNew, told_step, KeepsLaw}
 use Rattle.dk_overlay.specs.declared.change.TaskChange.TheVariants.{Moved}
 use Rattle.dk_txn.specs.declared.finished.Finished.{Finished}
@@ -48,7 +47,7 @@ moved_own run at key due p start k = k.moves key due p (subst (MovesAlone key du
 -- a run that did as its job does, from its start, and that tells what its end tells, keeps the law
 pub law_kept : {P : TaskKey → ℕ → Type 0} {S E : Type 0} {sights : Sights S} {told_by : E → Option AppFault} {a b : Txn S Logged} {r : Result (Unit {0}) E}
     (rules : Job → Act (Unit {0})) (job : Job) (run : RunNo) (at : ℕ) (end : Result (Unit {0}) AppFault) (f : Finished)
-    → a.log ≡ nothing_done run at → DoesFor P sights told_by a b (work job (within Game (rules job))) r → outcome_told told_by r ≡ Some end
+    → a.log ≡ nothing_done run at → DoesFor P sights told_by a b (work (game_part rules) job) r → outcome_told told_by r ≡ Some end
     → OwnIsAsked job b.log → MovesOwn job b.log → JobFits job → f.reads.items ≡ b.log.reads → TellsEnd b.log job end f → KeepsLaw rules job run at f.reads.items (told f)
 law_kept {a = a} {b = b} rules job run at end f start p is asked own fits reads tells = record {
   keeps = λ d valid agrees new stands.
@@ -60,7 +59,7 @@ law_kept {a = a} {b = b} rules job run at end f start p is asked own fits reads 
       ∙ ap (λ r. told_step d (ended job d (begun r b.log.at d) (end, current b.log d))) same_run
       ∙ ap (λ m. told_step d (ended job d (begun run m d) (end, current b.log d))) same_at
       ∙ ap (λ q. told_step d (ended job d (begun run at d) q)) (sym (p.does end is d agrees_then))
-      ∙ ap (λ s. told_step d (ended job d (begun run at d) (work job (within Game (rules job)) s))) (ap (λ t. current t d) start ∙ current_start run at d);
+      ∙ ap (λ s. told_step d (ended job d (begun run at d) (work (game_part rules) job s))) (ap (λ t. current t d) start ∙ current_start run at d);
 }
 
 -- with no reads each was given

@@ -14,3 +14,4 @@ pub mod NextNames
 pub mod TaskCalls
 pub mod Laws
 pub mod Listing
+pub mod Together

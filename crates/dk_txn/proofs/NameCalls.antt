@@ -48,10 +48,10 @@ name_asked t name said o none e h =
     }
 
 -- the run after one change of a name
-current_named : (t : Logged) (name : List ℕ) (c : Change ObjectId) (d : DurableWorld) → with_name (current t d) name c.after ≡ current (changing_name t name c) d
+pub current_named : (t : Logged) (name : List ℕ) (c : Change ObjectId) (d : DurableWorld) → with_name (current t d) name c.after ≡ current (changing_name t name c) d
 current_named t name c d = ap (λ m. record (current (changing_name t name c) d) { world = record ((current t d).world) { names = m } }) (sym (layered-insert names_total names_same value_now t.names d.names name c))
 
-there_found : {A : Type 0} (o : Option A) → is_some o ≡ true → (v : A) × (o ≡ Some v)
+pub there_found : {A : Type 0} (o : Option A) → is_some o ≡ true → (v : A) × (o ≡ Some v)
 there_found None h = cc
 there_found (Some v) h = (v, refl)
 

@@ -198,18 +198,18 @@ module _ {S : Type 0} {sights : Sights S} where
     periodic_does period short good p = does_as (act.scheduled kind arg delay period) (λ s. rw (short, good) refl) p
 
   module _ {a : Txn S Logged} (to : ConnNo) (out : Out) where
-    pub send_long : {e : Refusal} → refusal_fault e ≡ Some (Refused 4) → 65535 < length (act.body_of out) → Does sights refusal_fault a a (act.send to out) (Err e)
+    pub send_long : {e : Refusal} → refusal_fault e ≡ Some (Refused 4) → 1048576 < length (act.body_of out) → Does sights refusal_fault a a (act.send to out) (Err e)
     unfolding act.send
-    send_long is h = refused_here (Refused 4) is (λ d. rw (lt_true 65535 (length (act.body_of out)) h) refl)
+    send_long is h = refused_here (Refused 4) is (λ d. rw (lt_true 1048576 (length (act.body_of out)) h) refl)
 
-    pub send_many : length (act.body_of out) ≤ 65535 → 65536 ≤ length a.log.outs → Does sights refusal_fault a a (act.send to out) (Err refusal.TooMany)
+    pub send_many : length (act.body_of out) ≤ 1048576 → 65536 ≤ length a.log.outs → Does sights refusal_fault a a (act.send to out) (Err refusal.TooMany)
     unfolding act.send
-    send_many short h = refused_here (Refused 8) refl (λ d. rw (lt_false 65535 (length (act.body_of out)) short, le_true 65536 (length a.log.outs) h) refl)
+    send_many short h = refused_here (Refused 8) refl (λ d. rw (lt_false 1048576 (length (act.body_of out)) short, le_true 65536 (length a.log.outs) h) refl)
 
-    pub send_does : {u : Logged} → length (act.body_of out) ≤ 65535 → length a.log.outs < 65536 → u ≡ sending (a.log) to out
+    pub send_does : {u : Logged} → length (act.body_of out) ≤ 1048576 → length a.log.outs < 65536 → u ≡ sending (a.log) to out
         → Does sights refusal_fault a (record { view = a.view; log = u }) (act.send to out) (Ok tt)
     unfolding act.send
     send_does short few e =
         let t : Logged = sending (a.log) to out in
         done_at t _ (keeps_changed keeps_all t refl refl refl (λ s. sound_as (a.log) t refl refl refl refl refl s) (λ q due p m. m)) refl refl e
-        (λ d agrees. rw (lt_false 65535 (length (act.body_of out)) short, le_false 65536 (length a.log.outs) few) refl)
+        (λ d agrees. rw (lt_false 1048576 (length (act.body_of out)) short, le_false 65536 (length a.log.outs) few) refl)

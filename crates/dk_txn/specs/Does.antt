@@ -86,6 +86,10 @@ pub record KnownObject (t : Logged) (id : ObjectId) (c : Change Object) : Type 0
   pub after : (d : DurableWorld) → Agrees d t.reads → map.get (layered value_now t.objects d.objects) id ≡ c.after
   pub before : IsSound t → (d : DurableWorld) → Agrees d t.reads → IsNew d t.run → c.before ≡ map.get d.objects id
 
+-- in each agreeing world there is an object under the id
+abbrev pub Stands : Logged → ObjectId → Type 0
+Stands t id = (d : DurableWorld) → Agrees d t.reads → is_some (map.get (current t d).world.objects id) ≡ true
+
 -- c is that of an object that stands and may be touched
 pub record CanChange (t : Logged) (id : ObjectId) (c : Change Object) : Type 0 where
   pub known : KnownObject t id c

@@ -7,5 +7,6 @@ pub mod Counting
 pub mod Refusals
 pub mod Listing
 pub mod Bindings
+pub mod Pairs
 pub mod Does
 pub mod Law

@@ -18,6 +18,7 @@ pub mod finished;
 pub mod list_view;
 pub mod names;
 pub mod objects;
+pub mod pairs;
 pub mod refusal;
 pub mod sizes;
 pub mod tasks;

@@ -49,7 +49,7 @@ impl<'a, V: View> Txn<'a, V> {
     ghost use Rattle.dk_txn.specs.Does.{Keeps, Does, SameChanges, KnownName, NextStanding};
 
     /// What a name was bound to before the run, and what it is bound to now.
-    fn known_name(&mut self, name: &Name) -> Result<Change<ObjectId>, NoMemory>
+    pub(crate) fn known_name(&mut self, name: &Name) -> Result<Change<ObjectId>, NoMemory>
         ensures keeps { Keeps V.sights self.old self.new }
         ensures same_changes { SameChanges self.old.log self.new.log }
         ensures known { IfOk result (KnownName self.new.log name.now) }

@@ -31,7 +31,7 @@ impl<'a, V: View> Txn<'a, V> {
     }
 
     /// The same of an object that stands and that may be touched.
-    fn changeable(&mut self, id: ObjectId) -> Result<Change<Object>, Refusal>
+    pub(crate) fn changeable(&mut self, id: ObjectId) -> Result<Change<Object>, Refusal>
         ensures keeps { Keeps V.sights self.old self.new }
         ensures same_changes { SameChanges self.old.log self.new.log }
         ensures ok { IfOk result (CanChange self.new.log id) }

@@ -14,7 +14,7 @@ pub enum Refusal {
     ObjectNotFound,
     /// 3: the object is of another kind; `found` is the one that it has.
     WrongKind { found: u16 },
-    /// 4: an object, an argument or a body has more than 65,535 bytes; `len` is how many.
+    /// 4: an object, an argument or a body has more than 1,048,576 bytes; `len` is how many.
     TooLong { len: u64 },
     /// 5: a delay or a period is out of its limits.
     BadDelay,

@@ -1,11 +1,13 @@
 //! The calls on tasks, and messages.
-ghost use Rattle.std.specs.Prelude.{◌≡◌, ◌+◌, ◌≤◌, ◌<◌, not, nat_lt, length, None, OnErr, IfOk, IfErr};
+ghost use Rattle.std.specs.Prelude.{◌≡◌, ◌+◌, ◌≤◌, ◌<◌, false, not, nat_lt, length, None, OnErr, IfOk, IfErr};
 ghost use Rattle.std.specs.FinMap as map;
+ghost use Rattle.std.specs.List.{AllByRecursion};
 ghost use Rattle.dk_types.specs.declared.item.Item.TheVariants as ask;
 ghost use Rattle.dk_types.specs.declared.limits.TheConstants.{MOMENT_MOST_MS, DELAY_MOST_MS, PERIOD_MOST_MS, MESSAGES_MOST_COUNT};
 ghost use Rattle.dk_model.specs.Runs as act;
 ghost use Rattle.dk_model.specs.Steps.{own_task as own_act};
 ghost use Rattle.dk_overlay.specs.Asked.{IsAsked};
+ghost use Rattle.dk_txn.specs.Pairs.{send_all as sent_all};
 ghost use Rattle.dk_txn.specs.Refusals.{refusal_fault, TellsLength};
 
 use crate::checks::{body_len, is_bad_period, is_too_long, too_long};
@@ -125,6 +127,18 @@ impl<'a, V: View> Txn<'a, V> {
             return Err(Refusal::TooMany);
         }
         self.log.add_out(to, out)?;
+        Ok(())
+    }
+
+    /// Messages to connections, of which nothing else is looked at: all are sent, or none. Their bodies are within the limit, and
+    /// the run may send so many more. Refuses 7 alone.
+    pub fn send_all(&mut self, messages: Vec<(ConnNo, Out)>) -> Result<(), Refusal>
+        requires short { AllByRecursion (λ m. act.is_too_long (act.body_of m.1) ≡ false) messages.items }
+        requires room { nat_lt MESSAGES_MOST_COUNT (length self.old.log.outs + length messages.items) ≡ false }
+        ensures does { Does V.sights refusal_fault self.old self.new (sent_all messages.items) result }
+        ensures refused { OnErr result (SameChanges self.old.log self.new.log) }
+    {
+        self.log.add_outs(messages)?;
         Ok(())
     }
 

@@ -1,7 +1,10 @@
 //! Every limit of the server, with its unit in its name.
 
 /// The most bytes of an object, a task's argument or a message's body.
-pub const BODY_MOST_BYTES: u64 = 65_535;
+pub const BODY_MOST_BYTES: u64 = 1_048_576;
+
+/// The most bytes of a text in a script.
+pub const TEXT_MOST_BYTES: u64 = 65_535;
 
 /// The most bytes of a name.
 pub const NAME_MOST_BYTES: u64 = 255;

@@ -43,6 +43,7 @@ impl Subject for Desk {
             "cut" => payloads::cut(alloc, self.bytes.as_slice(), call),
             "script" => scripts::script(alloc, call),
             "padded" => scripts::padded(alloc, call),
+            "repeated" => scripts::repeated(alloc, call),
             word => values::answer(alloc, word, call),
         }
     }

@@ -7,7 +7,7 @@ use lib.Utf8.{encode}
 use Rattle.dk_types.specs.declared.job.Job.TheVariants as job
 use Rattle.dk_types.specs.declared.job.Out.TheVariants as out
 use Rattle.dk_types.specs.declared.item.Item.TheVariants as ask
-use Rattle.dk_types.specs.Fields.{u8_spelling, u64_spelling, u32_spelling, name_spelling, id_spelling}
+use Rattle.dk_types.specs.Fields.{u8_spelling, u16_spelling, u64_spelling, u32_spelling, name_spelling, id_spelling, blob_spelling}
 use Rattle.dk_types.specs.Payload.{next_u8, next_u32, next_name, next_id, next_end}
 use Rattle.dk_types.specs.Reading.{u8_at, u32_at, name_at, id_at, end_at}
 use Rattle.dk_types.specs.Lists.{list_spelling, items_at, list_at}
@@ -15,13 +15,13 @@ use Rattle.dk_types.specs.declared.mode.Mode.TheVariants.{Game}
 use Rattle.dk_model.specs.DurableWorlds.{DurableWorld}
 use Rattle.dk_model.specs.Runs.{begun, give, and_then, within, get, create, mark, save, remove as remove_object, bound, bind, unbind, send}
 use Rattle.dk_model.specs.References.{get_as, get_for_update_as, save_as}
-use Rattle.dk_model.specs.Platforms.{is_connected, open_record, new_record, close_record}
+use Rattle.dk_model.specs.Platforms.{is_connected, find_session, open_record, new_record, close_record}
 use Rattle.sword_world.specs.Things.{room_of, next_room, thing_of, next_thing, player_of, next_player, next_carried}
 use Rattle.sword_world.specs.Labels.{labels}
 use Rattle.sword_world.specs.Rules.{sword_rules, furnish, initialize, new_player, known_player, room_there, room_to_change, enter, log_in, login, player_under, player_there, scene, last_scene, look, pick_up, take, put_down, drop, answer, message, leave, disconnect}
 use Rattle.dk_examples.specs.Worked.{run, conn, id, listed, nothing}
 use Rattle.dk_examples.specs.SessionRows.{alice, alice_record, session_object}
-use Rattle.sword_examples.specs.SwordRows.{SwordBegins, SwordLogin, SwordLook, SwordLookInOtherLetters, SwordDance, SwordLookAround, SwordTake, SwordTakeAgain, SwordDrop, SwordDropNothing, SwordLeave, SwordLengths, room, sword_object, room_object, alice_player, bob_player, alice_is, furnished, alice_entered, both_entered, sight, bare_object, alice_armed, taken, alice_left}
+use Rattle.sword_examples.specs.SwordRows.{SwordBegins, SwordLogin, SwordLook, SwordLookInOtherLetters, SwordDance, SwordLookAround, SwordTake, SwordTakeAgain, SwordDrop, SwordDropNothing, SwordLeave, SwordLoginAgain, DisplacingLength, SwordLengths, room, sword_object, room_object, alice_player, bob_player, alice_is, furnished, alice_entered, both_entered, sight, bare_object, alice_armed, taken, alice_left, alice_once, alice_twice}
 use Rattle.dk_examples.proofs.SessionRuns.{session_read}
 use Rattle.dk_examples.proofs.Running.{runs_ok, looks, puts, at_end}
 
@@ -155,5 +155,38 @@ sword_leave = runs_ok sword_rules (job.Disconnect (conn 1) alice true) (run 5) 0
     record { objects = refl; names = refl; tasks = refl } (simp (looks, session_read, alice_leaves))
     record { objects = simp puts; names = simp puts; tasks = simp puts; sorted = record { objects = refl; names = refl; tasks = refl } } refl
 
+room_of_alice : room_of (room_object 1 (id 3 1 ∷ [])).bytes ≡ Some (record { players = id 3 1 ∷ []; items = id 0 0 ∷ [] })
+unfolding room_of next_room list_at items_at list_spelling next_u32 u32_at next_id id_at next_end end_at
+room_of_alice = refl
+
+-- the room as the game leaves it where alice is displaced
+cleared_world : DurableWorld
+cleared_world = record (listed alice_once 3 (Some (run 4))) {
+  objects = insert (insert (from_entries alice_once.objects) (id 0 1) (room_object 1 (id 3 1 ∷ []))) (id 0 1) (room_object 0 []);
+}
+
+-- the game's part of that
+alice_makes_room : disconnect alice (record (begun (run 4) 0 (listed alice_once 2 (Some (run 3)))) { mode = Game })
+    ≡ (Ok tt, record (at_end cleared_world (ask.Object (id 0 1) ∷ ask.Object (id 0 1) ∷ []) [] (run 4) 0 0 0) { mode = Game })
+unfolding cleared_world and_then give get get_as get_for_update_as mark save_as save bound disconnect last_scene player_there player_under room_to_change leave u8_spelling u64_spelling u32_spelling list_spelling name_spelling id_spelling
+alice_makes_room = simp (looks, a_player, room_of_alice)
+
+pub sword_login_again : SwordLoginAgain
+unfolding cleared_world within and_then give get get_as get_for_update_as mark save_as create save bound bind send find_session unbind remove_object close_record open_record new_record login log_in known_player room_to_change enter u8_spelling u64_spelling u32_spelling list_spelling name_spelling id_spelling
+sword_login_again = runs_ok sword_rules (job.Login (conn 2) alice) (run 4) 0 alice_once alice_twice 2 (Some (run 3))
+    (at_end
+    (record cleared_world {
+      objects = insert (insert (insert (remove cleared_world.objects (id 3 0)) (id 4 0) (session_object 2)) (id 0 1) (room_object 0 [])) (id 0 1) (room_object 1 (id 3 1 ∷ []));
+      names = insert (remove (from_entries alice_once.names) alice_record) alice_record (id 4 0);
+    })
+    (ask.Object (id 0 1) ∷ ask.Object (id 0 1) ∷ ask.Bound alice_record ∷ ask.Object (id 3 0) ∷ ask.Object (id 4 0) ∷ ask.Bound alice_record ∷ ask.Object (id 0 1) ∷ ask.Object (id 0 1) ∷ [])
+    ((conn 1, out.Close) ∷ (conn 2, out.Accepted) ∷ []) (run 4) 0 1 0)
+    record { objects = refl; names = refl; tasks = refl } (simp (looks, session_read, alice_makes_room, empty_room))
+    record { objects = simp puts; names = simp puts; tasks = simp puts; sorted = record { objects = refl; names = refl; tasks = refl } } refl
+
+pub displacing_length : DisplacingLength
+unfolding u64_spelling u32_spelling list_spelling name_spelling id_spelling u8_spelling u16_spelling blob_spelling
+displacing_length = refl
+
 pub sword_lengths : SwordLengths
-sword_lengths = (refl, refl, refl)
+sword_lengths = (refl, refl, refl, refl)

@@ -1,5 +1,5 @@
 -- SwordWorld: the first run, a login, the commands, and the end of a session.
-use Rattle.std.specs.Prelude.{◌≡◌, ℕ, true, Some, None, List, [], ◌∷◌, ◌++◌, codes}
+use Rattle.std.specs.Prelude.{◌≡◌, ℕ, true, Some, None, List, [], ◌∷◌, ◌++◌, length, codes}
 use Rattle.dk_types.specs.declared.number.ObjectId.{ObjectId}
 use Rattle.dk_types.specs.declared.object.Object.{Object}
 use Rattle.dk_types.specs.declared.durable.Effects.{Effects}
@@ -8,6 +8,7 @@ use Rattle.dk_types.specs.declared.job.Out.TheVariants as out
 use Rattle.dk_types.specs.declared.item.Item.TheVariants as ask
 use Rattle.dk_types.specs.declared.fault.Outcome.TheVariants as outcome
 use Rattle.dk_model.specs.Effects.{effects_length}
+use Rattle.dk_model.specs.Entries.{entry_spelling}
 use Rattle.sword_world.specs.Rules.{sword_rules}
 use Rattle.dk_examples.specs.Worked.{run, conn, id, object, in_eight, in_four, Lists, listed, nothing, no_effects, does_nothing, Runs}
 use Rattle.dk_examples.specs.SessionRows.{alice, alice_record, session_object}
@@ -183,6 +184,42 @@ SwordLeave = Runs sword_rules (job.Disconnect (conn 1) alice true) (run 5) 0 (li
     })
     (listed alice_left 4 (Some (run 5)))
 
+-- alice in the room, as run 3 logged her in at connection 1
+abbrev pub alice_once : Lists
+alice_once = record {
+  objects = (id 0 0, sword_object) ∷ (id 0 1, room_object 1 (id 3 1 ∷ [])) ∷ (id 3 0, session_object 1) ∷ (id 3 1, alice_player) ∷ [];
+  names = (alice_record, id 3 0) ∷ (alice_is, id 3 1) ∷ (room, id 0 1) ∷ [];
+  tasks = [];
+}
+
+-- and as run 4 logged her in again, at connection 2
+abbrev pub alice_twice : Lists
+alice_twice = record {
+  objects = (id 0 0, sword_object) ∷ (id 0 1, room_object 1 (id 3 1 ∷ [])) ∷ (id 3 1, alice_player) ∷ (id 4 0, session_object 2) ∷ [];
+  names = (alice_record, id 4 0) ∷ (alice_is, id 3 1) ∷ (room, id 0 1) ∷ [];
+  tasks = [];
+}
+
+abbrev pub displacing : Effects
+displacing = record no_effects { written = (id 4 0, session_object 2) ∷ []; removed = id 3 0 ∷ []; bound = (alice_record, id 4 0) ∷ [] }
+
+-- a login of a connected name: the player leaves the room and enters it again, which is then as it was, and the record alone is another
+abbrev pub SwordLoginAgain : Type 0
+SwordLoginAgain = Runs sword_rules (job.Login (conn 2) alice) (run 4) 0 (listed alice_once 2 (Some (run 3)))
+    (record {
+      outcome = outcome.Ok;
+      effects = displacing;
+      touched =
+          ask.Object (id 0 1) ∷ ask.Object (id 0 1) ∷ ask.Bound alice_record ∷ ask.Object (id 3 0)
+          ∷ ask.Object (id 4 0) ∷ ask.Bound alice_record ∷ ask.Object (id 0 1) ∷ ask.Object (id 0 1) ∷ [];
+      outs = (conn 1, out.Close) ∷ (conn 2, out.Accepted) ∷ [];
+    })
+    (listed alice_twice 3 (Some (run 4)))
+
 -- how many bytes these effects are written in
 abbrev pub SwordLengths : Type 0
-SwordLengths = (effects_length no_effects ≡ 28) × (effects_length furnishing ≡ 115) × (effects_length entering ≡ 179)
+SwordLengths = (effects_length no_effects ≡ 28) × (effects_length furnishing ≡ 115) × (effects_length entering ≡ 179) × (effects_length displacing ≡ 91)
+
+-- an object of 30 bytes written, one of 12 removed and a name of 21 bound: with its number and its run the entry has 107 bytes
+abbrev pub DisplacingLength : Type 0
+DisplacingLength = length (entry_spelling (record { seq = 3; run = run 4; effects = displacing })) ≡ 107

@@ -5,9 +5,9 @@
 
 pub use histories::sword_history;
 pub use swords::{
-    sword_begins, sword_dance, sword_drop, sword_drop_nothing, sword_leave, sword_lengths,
-    sword_login, sword_look, sword_look_around, sword_look_in_other_letters, sword_take,
-    sword_take_again,
+    displacing_length, sword_begins, sword_dance, sword_drop, sword_drop_nothing, sword_leave,
+    sword_lengths, sword_login, sword_login_again, sword_look, sword_look_around,
+    sword_look_in_other_letters, sword_take, sword_take_again,
 };
 
 mod histories;

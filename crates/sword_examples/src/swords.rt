@@ -1,5 +1,5 @@
 //! SwordWorld.
-ghost use Rattle.sword_examples.specs.SwordRows.{SwordBegins, SwordLogin, SwordLook, SwordLookInOtherLetters, SwordDance, SwordLookAround, SwordTake, SwordTakeAgain, SwordDrop, SwordDropNothing, SwordLeave, SwordLengths};
+ghost use Rattle.sword_examples.specs.SwordRows.{SwordBegins, SwordLogin, SwordLook, SwordLookInOtherLetters, SwordDance, SwordLookAround, SwordTake, SwordTakeAgain, SwordDrop, SwordDropNothing, SwordLeave, SwordLoginAgain, DisplacingLength, SwordLengths};
 
 /// The first run makes the sword and the room.
 pub fn sword_begins()
@@ -54,6 +54,16 @@ pub fn sword_drop_nothing()
 /// The end of a session leaves the room, and the sword in it.
 pub fn sword_leave()
     ensures { SwordLeave }
+{}
+
+/// A login of a connected name leaves the room as it was, and another record.
+pub fn sword_login_again()
+    ensures { SwordLoginAgain }
+{}
+
+/// The length of its entry, in bytes.
+pub fn displacing_length()
+    ensures { DisplacingLength }
 {}
 
 /// The lengths of these effects, in bytes.

@@ -11,7 +11,7 @@ use Rattle.dk_types.specs.Fields.{u8_spelling, name_spelling, id_spelling}
 use Rattle.dk_types.specs.Lists.{list_spelling}
 use Rattle.dk_model.specs.Runs.{TOO_LONG}
 use Rattle.dk_model.specs.Records.{is_name_too_long}
-use Rattle.dk_model.specs.Lawful.{IsJob, AreLawful}
+use Rattle.dk_model.specs.Lawful.{IsForGame, AreLawful}
 use Rattle.dk_model.proofs.Acts.{Anything, AreBytes, IsLawful, lawful_rules, lawful_then, lawful_give, lawful_done, lawful_refuse, lawful_if, lawful_looks}
 use Rattle.dk_model.proofs.Operations.{lawful_create, lawful_bound, lawful_bind, lawful_send}
 use Rattle.dk_model.proofs.ReferenceActs.{lawful_get_as, lawful_get_for_update_as, lawful_save_as}
@@ -196,9 +196,9 @@ lawful_disconnect : {Needs : Type 0} (name : List ℕ) → IsLawful Needs Anythi
 unfolding does.disconnect
 lawful_disconnect name = lawful_then (lawful_last_scene name) (λ scene. lawful_leave scene (λ n. n.1))
 
-lawful_job : (j : Job) → IsLawful (IsJob j) Anything (sword_rules j)
+lawful_job : (j : Job) → IsLawful (IsForGame j) Anything (sword_rules j)
 lawful_job job.Initialize = lawful_initialize
-lawful_job (job.Login conn name) = lawful_login name (λ n. n.1)
+lawful_job (job.Login conn name) = lawful_login name (λ n. n)
 lawful_job (job.Message conn name body) = lawful_message conn name body
 lawful_job (job.Channel conn name channel body) = lawful_done tt
 lawful_job (job.Disconnect conn name graceful) = lawful_disconnect name

@@ -3,7 +3,7 @@ use Rattle.dk_txn.proofs.Kit.{then_does, stops, give_does}
 use Rattle.dk_channels.proofs.channel.get_channel.Goals as goal
 
 pub returns-in_err-find_channel-clause-does : goal.returns-in_err-find_channel-clause-does
-returns-in_err-find_channel-clause-does g c = stops _ c.in_err-find_channel.ensures.does c.from_residual.ensures.1
+returns-in_err-find_channel-clause-does g c = stops _ c.in_err-find_channel.ensures.does c.from_residual-in_err-find_channel.ensures.1
 
 pub returns-clause-does : goal.returns-clause-does
 returns-clause-does g c =

@@ -6,23 +6,23 @@ use Rattle.dk_channels.proofs.Tellings.{recorded_avoids, record_kind}
 use Rattle.dk_channels.proofs.channel.record_of.Goals as goal
 
 pub returns-in_err-recorded-clause-does : goal.returns-in_err-recorded-clause-does
-returns-in_err-recorded-clause-does g c = under_stops c.args.name.now c.in_err-recorded.ensures c.from_residual.ensures.1
+returns-in_err-recorded-clause-does g c = under_stops c.args.name.now c.in_err-recorded.ensures.does c.from_residual.ensures.1
 
 pub returns-in-None-clause-does : goal.returns-in-None-clause-does
-returns-in-None-clause-does g c = under_none c.args.name.now (rw c.in-None.is at c.in_ok-recorded.ensures)
+returns-in-None-clause-does g c = under_none c.args.name.now (rw c.in-None.is at c.in_ok-recorded.ensures.does)
 
 pub returns-in_err-record-in-Some-clause-does : goal.returns-in_err-record-in-Some-clause-does
-returns-in_err-record-in-Some-clause-does g c = under_halts c.args.name.now (rw c.in-Some.is at c.in_ok-recorded.ensures) (rw c.of-reference.ensures at c.in_err-record-in-Some.ensures.does) c.from_residual-in_err-record-in-Some.ensures.1
+returns-in_err-record-in-Some-clause-does g c = under_halts c.args.name.now (rw c.in-Some.is at c.in_ok-recorded.ensures.does) (rw c.of-reference.ensures at c.in_err-record-in-Some.ensures.does) c.from_residual-in_err-record-in-Some.ensures.1
 
 pub returns-in_ok-record-in-Some-clause-does : goal.returns-in_ok-record-in-Some-clause-does
-returns-in_ok-record-in-Some-clause-does g c = rw c.of-reference.ensures (under_finds c.args.name.now (rw c.in-Some.is at c.in_ok-recorded.ensures) (rw c.of-reference.ensures at c.in_ok-record-in-Some.ensures.does))
+returns-in_ok-record-in-Some-clause-does g c = rw c.of-reference.ensures (under_finds c.args.name.now (rw c.in-Some.is at c.in_ok-recorded.ensures.does) (rw c.of-reference.ensures at c.in_ok-record-in-Some.ensures.does))
 
 pub returns-in_err-recorded-clause-kind : goal.returns-in_err-recorded-clause-kind
 returns-in_err-recorded-clause-kind g c =
     let at = kind_under (channel_name c.args.name.now) in
-    kind_passes c.in_err-recorded.ensures _ at (kind_never c.in_err-recorded.ensures at (recorded_avoids c.args.name.now 3)) c.from_residual.ensures.1
+    kind_passes c.in_err-recorded.ensures.does _ at (kind_never c.in_err-recorded.ensures.does at (recorded_avoids c.args.name.now 3)) c.from_residual.ensures.1
 
 pub returns-in_err-record-in-Some-clause-kind : goal.returns-in_err-record-in-Some-clause-kind
 returns-in_err-record-in-Some-clause-kind g c =
-    record_kind _ c.args.name.now (rw c.in-Some.is at c.in_ok-recorded.ensures) (rw c.of-reference.ensures at c.in_err-record-in-Some.ensures.does) c.in_err-record-in-Some.ensures.same_changes
+    record_kind _ c.args.name.now (rw c.in-Some.is at c.in_ok-recorded.ensures.does) (rw c.of-reference.ensures at c.in_err-record-in-Some.ensures.does) c.in_err-record-in-Some.ensures.same_changes
     (rw c.of-reference.ensures at c.in_err-record-in-Some.ensures.kind) c.from_residual-in_err-record-in-Some.ensures.1

@@ -1,8 +1,22 @@
+use Rattle.std.proofs.Common.{ap, ◌∙◌}
+use Rattle.dk_model.specs.Records.{CHANNEL_KIND, channel_of, channel_name}
+use Rattle.dk_overlay.specs.Logged.{Logged}
 use Rattle.dk_txn.proofs.Kit.{then_does, stops}
+use Rattle.dk_txn.proofs.Together.{stands_later}
+use Rattle.dk_refs.proofs.Standing.{record_stands, own_record_stands}
 use Rattle.dk_refs.proofs.Tellings.{length_of_never, kind_never_last}
 use Rattle.dk_channels.specs.BothRecords.{kind_of_records, records_after, left}
 use Rattle.dk_channels.proofs.Tellings.{under_avoids, own_avoids, leave_avoids, first_kind, second_kind, both_length}
 use Rattle.dk_channels.proofs.leaving.step_out.Goals as goal
+
+pub leave_records-requires-clause-platform : goal.leave_records-requires-clause-platform
+leave_records-requires-clause-platform g c = ap (λ (t : Logged). t.mode) c.own_record.ensures.same_changes ∙ ap (λ (t : Logged). t.mode) c.record_of.ensures.same_changes ∙ c.requires
+
+pub leave_records-requires-clause-stand : goal.leave_records-requires-clause-stand
+leave_records-requires-clause-stand g c = (
+  stands_later _ c.own_record.ensures.does.keeps c.own_record.ensures.same_changes (record_stands CHANNEL_KIND channel_of (channel_name c.args.name.now) _ c.in_ok-channel.ensures.does),
+  own_record_stands c.args.session.now _ c.in_ok-own.ensures.does,
+)
 
 pub returns-in_err-channel-clause-does : goal.returns-in_err-channel-clause-does
 returns-in_err-channel-clause-does g c = stops _ c.in_err-channel.ensures.does c.from_residual.ensures.1

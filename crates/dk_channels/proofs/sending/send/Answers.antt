@@ -26,7 +26,7 @@ pub returns-clause-does : goal.returns-clause-does
 unfolding platform.channel_send
 returns-clause-does g c =
     let on : c.is_sender.result ≡ true = search rules in
-    then_does _ c.in_ok-record.ensures.does (if_false_does _ (sym c.is_too_long.ensures ∙ c.if-is_too_long.false) (if_true_does _ (sym (rw c.as_slice.ensures at c.is_sender.ensures) ∙ on) (rw c.as_slice-2.ensures at c.send_each.ensures)))
+    then_does _ c.in_ok-record.ensures.does (if_false_does _ (sym c.is_too_long.ensures ∙ c.if-is_too_long.false) (if_true_does _ (sym (rw c.as_slice.ensures at c.is_sender.ensures) ∙ on) (rw c.as_slice-2.ensures at c.send_each.ensures.does)))
 
 pub returns-in_err-record-clause-length : goal.returns-in_err-record-clause-length
 returns-in_err-record-clause-length g c =
@@ -36,7 +36,7 @@ pub returns-then-is_too_long-clause-kind : goal.returns-then-is_too_long-clause-
 returns-then-is_too_long-clause-kind g c = long_tells c.record_of.new.txn.log (kind_under (channel_name c.args.channel.now.name)) c.too_long.result c.too_long.ensures.told
 
 pub returns-clause-kind : goal.returns-clause-kind
-returns-clause-kind g c = kind_never_last (kind_under (channel_name c.args.channel.now.name)) (each_avoids _ _ 3 (λ e. cc)) c.send_each.ensures
+returns-clause-kind g c = kind_never_last (kind_under (channel_name c.args.channel.now.name)) (each_avoids _ _ 3 (λ e. cc)) c.send_each.ensures.does
 
 pub returns-clause-length : goal.returns-clause-length
-returns-clause-length g c = length_never_last c.args.body.now (each_avoids _ _ 4 (λ e. cc)) c.send_each.ensures
+returns-clause-length g c = length_never_last c.args.body.now (each_avoids _ _ 4 (λ e. cc)) c.send_each.ensures.does

@@ -1,13 +1,14 @@
 use Rattle.std.proofs.Common.{◌+◌}
-use Rattle.dk_script.proofs.LinesOf.{lines_of-at, lines_of-none, take-rest, take-none}
+use Rattle.dk_script.proofs.LinesOf.{take-rest, take-none}
+use Rattle.dk_script.proofs.Cuts.{IsCut-at, IsCut-none}
 use Rattle.dk_script.proofs.lines.cut_line.Goals as goal
 
-pub returns-in-None-clause-cut : goal.returns-in-None-clause-cut
-returns-in-None-clause-cut c =
+pub returns-in-None : goal.returns-in-None
+returns-in-None c =
     let bytes = c.args.bytes.now in
-    rw (take-none bytes) (lines_of-none bytes c.requires c.in-None.ensures)
+    rw (take-none bytes) (record { cut = IsCut-none bytes c.requires c.in-None.ensures })
 
-pub returns-in-Some-clause-cut : goal.returns-in-Some-clause-cut
-returns-in-Some-clause-cut c =
+pub returns-in-Some : goal.returns-in-Some
+returns-in-Some c =
     let bytes = c.args.bytes.now in
-    rw (take-rest (c.in-Some.at + 1) bytes) (lines_of-at bytes c.in-Some.at c.in-Some.ensures).0
+    rw (take-rest (c.in-Some.at + 1) bytes) (record { cut = IsCut-at bytes c.in-Some.at c.in-Some.ensures })

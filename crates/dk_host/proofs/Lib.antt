@@ -1,0 +1,4 @@
+pub mod Stepping
+pub mod Calling
+pub mod Opening
+pub mod Looking

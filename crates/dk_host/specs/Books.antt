@@ -1,0 +1,15 @@
+-- What the value behind the world's lock keeps.
+use Rattle.std.specs.Prelude.{◌≡◌, ℕ, List}
+use Rattle.dk_types.specs.declared.event.Event.{Event}
+use Rattle.dk_model.specs.Lawful.{AreLawful}
+use Rattle.dk_model.specs.Legal.{Opened, commits_of}
+use Rattle.dk_core.specs.declared.world.Core.{Core}
+use Rattle.dk_core.specs.Cores.{StandsFor}
+
+-- from this opening on, the core stands for these events
+abbrev pub IsAt : Opened → List Event → Core → Type 0
+IsAt o events c = StandsFor o.rules o.durable o.budget events c
+
+-- the rules are lawful, the core stands for the events, and the total counts their commits
+abbrev pub IsKept : Opened → List Event → Core → ℕ → Type 0
+IsKept o events c total = AreLawful o.rules × IsAt o events c × (total ≡ commits_of events)

@@ -1,0 +1,5 @@
+pub mod Openings
+pub mod Books
+pub mod Calls
+pub mod Steps
+pub mod Looks

@@ -1,0 +1,8 @@
+-- What a host is opened with where nobody says.
+use Rattle.std.specs.Prelude.{Ok, None}
+use Rattle.dk_model.specs.DurableWorlds.{empty_world}
+use Rattle.dk_model.specs.Legal.{Opened}
+use Rattle.dk_model.specs.Runs.{give}
+
+abbrev pub nothing_opened : Opened
+nothing_opened = record { rules = λ _. give (Ok tt); durable = empty_world; budget = None }

@@ -1,0 +1,38 @@
+//! The value behind the world's lock.
+
+use crate::hosting::{CommitLedger, Hosting};
+use dk_core::Core;
+use dk_turn::{Book, GhostList};
+use dk_types::Event;
+use std::marker::Model;
+use std::sync::ledger;
+
+/// A core, which stands for the history of the events from the opening on. The ledger's total is the number of its commits.
+#[derive(Drop)]
+pub struct WorldBook<W: Hosting> {
+    pub(crate) core: Core,
+    pub(crate) events: GhostList<Event>,
+    pub(crate) commits: ledger::Book<CommitLedger<W>>,
+}
+
+impl<W: Hosting> Model for WorldBook<W> {
+    ghost use Rattle.std.specs.Prelude.{List};
+    ghost use Rattle.dk_types.specs.declared.event.Event.{Event};
+    ghost use Rattle.dk_host.specs.Books.{IsKept};
+
+    ghost Value = { List Event };
+
+    ghost view = { λ b. b.events };
+
+    ghost invariant = { λ b. IsKept W.opened b.events b.core b.commits.total };
+}
+
+impl<W: Hosting> Book for WorldBook<W> {
+    ghost use Rattle.dk_model.specs.Legal.{pass_of};
+
+    type Entry = Event;
+
+    ghost history = { λ b. b };
+
+    ghost number = { pass_of };
+}

@@ -1,0 +1,112 @@
+//! The calls by a pass.
+ghost use Rattle.std.specs.Prelude.{◌≡◌, ◌≤◌, ◌<◌, ◌∷◌, []};
+ghost use Rattle.std.specs.List.{All};
+ghost use Rattle.dk_types.specs.declared.event.Event.TheVariants as event;
+ghost use Rattle.dk_model.specs.Lawful.{IsInput};
+ghost use Rattle.dk_model.specs.Legal.{pass_of};
+ghost use Rattle.dk_host.specs.Calls.{Entered, Grants, IsClaimOf, ReadsAt, claim_events, connect_events, hand_events, post_events};
+
+use crate::book::WorldBook;
+use crate::host::Host;
+use crate::hosting::Hosting;
+use crate::steps::{Claim, Connect, Hand, Post, ReadItem, Release, Tick};
+use dk_core::{ClaimRefused, Claimed, ConnectRefused, Handed, PostRefused};
+use dk_turn::{Naming, Pass};
+use dk_types::{ConnNo, Input, Item, Name, NoMemory, Read};
+use std::sync::Wait;
+
+impl<W: Hosting, J: Naming> Host<W, J> {
+    /// Makes a connection, whose login waits.
+    pub fn connect<R: Wait>(
+        &self,
+        rt: &R,
+        pass: &mut Pass<WorldBook<W>, J>,
+        name: &Name,
+    ) -> Result<ConnNo, ConnectRefused>
+        ensures number { pass.new.number ≡ pass.old.number }
+        ensures entered { Entered W.opened pass.old.number (connect_events pass.old.number name.now result) pass.old.front pass.new.front }
+        ensures named { All (λ e. pass_of e < J.name.passes) pass.new.front }
+    {
+        self.world.with(rt, pass, Connect { name })
+    }
+
+    /// Puts an input last in its connection's queue.
+    pub fn post<R: Wait>(
+        &self,
+        rt: &R,
+        pass: &mut Pass<WorldBook<W>, J>,
+        conn: ConnNo,
+        input: Input,
+    ) -> Result<(), PostRefused>
+        requires within { IsInput input }
+        ensures number { pass.new.number ≡ pass.old.number }
+        ensures entered { Entered W.opened pass.old.number (post_events pass.old.number conn input result) pass.old.front pass.new.front }
+        ensures named { All (λ e. pass_of e < J.name.passes) pass.new.front }
+    {
+        self.world.with(rt, pass, Post { conn, input })
+    }
+
+    /// Claims the job that is to be run next. None where nothing can be run.
+    pub fn claim<R: Wait>(
+        &self,
+        rt: &R,
+        pass: &mut Pass<WorldBook<W>, J>,
+    ) -> Result<Option<Claimed>, ClaimRefused>
+        ensures number { pass.new.number ≡ pass.old.number }
+        ensures entered { Entered W.opened pass.old.number (claim_events pass.old.number result) pass.old.front pass.new.front }
+        ensures grants { Grants W.opened pass.new result }
+        ensures named { All (λ e. pass_of e < J.name.passes) pass.new.front }
+    {
+        self.world.with(rt, pass, Claim)
+    }
+
+    /// Gives a claim back: its job can be run again where it still waits. It takes no memory.
+    pub fn release<R: Wait>(&self, rt: &R, pass: &mut Pass<WorldBook<W>, J>, claimed: Claimed)
+        requires claim { IsClaimOf W.opened pass.old claimed }
+        ensures number { pass.new.number ≡ pass.old.number }
+        ensures entered { Entered W.opened pass.old.number (event.Release pass.old.number claimed.run ∷ []) pass.old.front pass.new.front }
+        ensures named { All (λ e. pass_of e < J.name.passes) pass.new.front }
+    {
+        self.world.with(rt, pass, Release { claimed })
+    }
+
+    /// What the world answers to an item at the new front, and what is seen of it there.
+    pub fn read<R: Wait>(
+        &self,
+        rt: &R,
+        pass: &mut Pass<WorldBook<W>, J>,
+        item: &Item,
+    ) -> Result<Read, NoMemory>
+        ensures number { pass.new.number ≡ pass.old.number }
+        ensures entered { Entered W.opened pass.old.number [] pass.old.front pass.new.front }
+        ensures read { ReadsAt W.opened pass.new.front item.now result }
+        ensures named { All (λ e. pass_of e < J.name.passes) pass.new.front }
+    {
+        self.world.with(rt, pass, ReadItem { item })
+    }
+
+    /// Hands a connection's first messages, `most` of them or all; `end` says whether it is gone.
+    pub fn hand<R: Wait>(
+        &self,
+        rt: &R,
+        pass: &mut Pass<WorldBook<W>, J>,
+        conn: ConnNo,
+        most: u32,
+    ) -> Result<Handed, NoMemory>
+        requires some { 1 ≤ most }
+        ensures number { pass.new.number ≡ pass.old.number }
+        ensures entered { Entered W.opened pass.old.number (hand_events pass.old.number conn most result) pass.old.front pass.new.front }
+        ensures named { All (λ e. pass_of e < J.name.passes) pass.new.front }
+    {
+        self.world.with(rt, pass, Hand { conn, most })
+    }
+
+    /// Time goes on to a moment, in ms, and never back. It takes no memory.
+    pub fn tick<R: Wait>(&self, rt: &R, pass: &mut Pass<WorldBook<W>, J>, moment: u64)
+        ensures number { pass.new.number ≡ pass.old.number }
+        ensures entered { Entered W.opened pass.old.number (event.Tick pass.old.number moment ∷ []) pass.old.front pass.new.front }
+        ensures named { All (λ e. pass_of e < J.name.passes) pass.new.front }
+    {
+        self.world.with(rt, pass, Tick { moment })
+    }
+}

@@ -1,0 +1,19 @@
+//! The shared host: a world that threads share, each call with its place in one history.
+//!
+//! The world's core lies behind a turn, whose book stands for the history from the opening on. Whoever calls has a pass:
+//! each call enters at most one event of its own behind all that the pass had seen, and answers what that event is
+//! answered there. A run reads through a look at the host; what it reads is honest at the pass's front, and its claim
+//! stands there for as long as the pass neither commits nor releases it, whatever other passes do.
+#![tactic(auto)]
+
+mod book;
+mod calls;
+mod host;
+mod hosting;
+mod look;
+mod steps;
+
+pub use book::WorldBook;
+pub use host::{Closed, Host};
+pub use hosting::{CommitLedger, Hosting};
+pub use look::HostLook;

@@ -1,0 +1,17 @@
+//! The calls of the core as steps of the turn: each notes its event behind the history, where it has one.
+
+mod connections;
+mod events;
+mod runs;
+
+pub(crate) use connections::{Connect, Hand, Post};
+pub(crate) use events::{ReadItem, Tick};
+pub(crate) use runs::{Claim, Release};
+
+/// A call by a pass: what was asked, and what was answered.
+#[derive(Drop)]
+pub(crate) struct Told<'a, A, T> {
+    pub(crate) pass: u32,
+    pub(crate) ask: &'a A,
+    pub(crate) reply: &'a T,
+}

@@ -1,0 +1,134 @@
+//! Connections, their inputs, and what they are handed.
+
+use crate::book::WorldBook;
+use crate::hosting::Hosting;
+use crate::steps::Told;
+use dk_core::{ConnectRefused, Handed, PostRefused};
+use dk_turn::{NotingAll, Step};
+use dk_types::{ConnNo, Event, Input, Name, NoMemory};
+use std::snapshot::Snapshot;
+
+/// A new connection.
+#[derive(Drop)]
+pub(crate) struct Connect<'a> {
+    pub(crate) name: &'a Name,
+}
+
+impl<'a, 'b> NotingAll<Told<'b, Name, Result<ConnNo, ConnectRefused>>, Event> for Connect<'a> {
+    ghost use Rattle.dk_host.specs.Calls.{connect_events};
+
+    ghost entries = { λ t. connect_events t.pass t.ask.now t.reply.now };
+}
+
+impl<'a, W: Hosting> Step<WorldBook<W>> for Connect<'a> {
+    ghost use Rattle.dk_host.specs.Calls.{connect_events};
+    ghost use Rattle.dk_host.specs.Steps.{Adds};
+
+    type Reply = Result<ConnNo, ConnectRefused>;
+
+    ghost may = { λ _ _ _. Unit {0} };
+
+    ghost gives = { λ s pass before reply added. Adds W.opened (connect_events pass s.name.now reply) before added };
+
+    fn apply(self, pass: u32, book: &mut WorldBook<W>) -> Result<ConnNo, ConnectRefused> {
+        let reply = book.core.connect(self.name);
+        book.events
+            .note_all::<Told<'_, Name, Result<ConnNo, ConnectRefused>>, Connect<'a>>(&Told {
+                pass,
+                ask: self.name,
+                reply: &reply,
+            });
+        reply
+    }
+
+    fn wakes(reply: &Result<ConnNo, ConnectRefused>) -> bool {
+        reply.is_ok()
+    }
+}
+
+/// An input for a connection, as contracts see it once it is put there.
+pub(crate) struct Posted {
+    conn: ConnNo,
+    input: Snapshot<Input>,
+}
+
+/// An input.
+#[derive(Drop)]
+pub(crate) struct Post {
+    pub(crate) conn: ConnNo,
+    pub(crate) input: Input,
+}
+
+impl<'a> NotingAll<Told<'a, Posted, Result<(), PostRefused>>, Event> for Post {
+    ghost use Rattle.dk_host.specs.Calls.{post_events};
+
+    ghost entries = { λ t. post_events t.pass t.ask.now.conn t.ask.now.input.value t.reply.now };
+}
+
+impl<W: Hosting> Step<WorldBook<W>> for Post {
+    ghost use Rattle.dk_model.specs.Lawful.{IsInput};
+    ghost use Rattle.dk_host.specs.Calls.{post_events};
+    ghost use Rattle.dk_host.specs.Steps.{Adds};
+
+    type Reply = Result<(), PostRefused>;
+
+    ghost may = { λ s _ _. IsInput s.input };
+
+    ghost gives = { λ s pass before reply added. Adds W.opened (post_events pass s.conn s.input reply) before added };
+
+    fn apply(self, pass: u32, book: &mut WorldBook<W>) -> Result<(), PostRefused> {
+        let Post { conn, input } = self;
+        let posted = Posted {
+            conn,
+            input: Snapshot::of(&input),
+        };
+        let reply = book.core.post(conn, input);
+        book.events
+            .note_all::<Told<'_, Posted, Result<(), PostRefused>>, Post>(&Told {
+                pass,
+                ask: &posted,
+                reply: &reply,
+            });
+        let Posted { conn: _, input: _ } = posted;
+        reply
+    }
+
+    fn wakes(reply: &Result<(), PostRefused>) -> bool {
+        reply.is_ok()
+    }
+}
+
+/// Messages that are handed out.
+#[derive(Drop)]
+pub(crate) struct Hand {
+    pub(crate) conn: ConnNo,
+    pub(crate) most: u32,
+}
+
+impl<'a> NotingAll<Told<'a, Hand, Result<Handed, NoMemory>>, Event> for Hand {
+    ghost use Rattle.dk_host.specs.Calls.{hand_events};
+
+    ghost entries = { λ t. hand_events t.pass t.ask.now.conn t.ask.now.most t.reply.now };
+}
+
+impl<W: Hosting> Step<WorldBook<W>> for Hand {
+    ghost use Rattle.dk_host.specs.Calls.{hand_events};
+    ghost use Rattle.dk_host.specs.Steps.{Adds};
+
+    type Reply = Result<Handed, NoMemory>;
+
+    ghost may = { λ _ _ _. Unit {0} };
+
+    ghost gives = { λ s pass before reply added. Adds W.opened (hand_events pass s.conn s.most reply) before added };
+
+    fn apply(self, pass: u32, book: &mut WorldBook<W>) -> Result<Handed, NoMemory> {
+        let reply = book.core.hand(self.conn, self.most);
+        book.events
+            .note_all::<Told<'_, Hand, Result<Handed, NoMemory>>, Hand>(&Told {
+                pass,
+                ask: &self,
+                reply: &reply,
+            });
+        reply
+    }
+}

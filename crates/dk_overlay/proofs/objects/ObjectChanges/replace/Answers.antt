@@ -1,0 +1,12 @@
+use Rattle.std.proofs.Common.{ap, ◌∙◌}
+use Rattle.dk_map.specs.Entries.{find, put}
+use Rattle.dk_map.proofs.Seen.{get_seen, put_seen}
+use Rattle.dk_types.specs.Keys.{id_cmp}
+use Rattle.dk_overlay.proofs.Keys.{ids_total}
+use Rattle.dk_overlay.proofs.objects.ObjectChanges.replace.Goals as goal
+
+pub returns-clause-ok : goal.returns-clause-ok
+returns-clause-ok c = (
+  c.insert.ensures.old ∙ ap (find id_cmp c.args.id) c.reserve.ensures.entries ∙ get_seen _ c.self.view_is c.self.invariant c.args.id,
+  put_seen ids_total _ c.self.view_is c.self.invariant _ _ _ (c.insert.ensures.entries ∙ ap (put id_cmp c.args.id c.args.change) c.reserve.ensures.entries),
+)

@@ -1,0 +1,102 @@
+//! Two changes of the platform's records as one: both are made, or neither.
+ghost use Rattle.std.specs.Prelude.{◌≡◌, false, OnErr, IfErr};
+ghost use Rattle.dk_types.specs.declared.mode.Mode.TheVariants as mode;
+ghost use Rattle.dk_model.specs.Runs as act;
+ghost use Rattle.dk_txn.specs.Pairs.{with_bytes};
+ghost use Rattle.dk_txn.specs.Refusals.{refusal_fault, TellsLength};
+
+use crate::checks::{is_too_long, too_long};
+use crate::refusal::Refusal;
+use crate::txn::Txn;
+use crate::view::View;
+use dk_model::limits::OBJECTS_MOST_COUNT;
+use dk_overlay::Change;
+use dk_types::{Blob, Name, Object, ObjectId};
+
+/// A change that leaves the object with other bytes.
+fn rewritten(known: Change<Object>, bytes: Blob) -> Change<Object>
+    ensures { result ≡ with_bytes known bytes }
+{
+    let kind = match &known.after {
+        None => {
+            return Change {
+                before: known.before,
+                after: None,
+            };
+        }
+        Some(object) => object.kind,
+    };
+    Change {
+        before: known.before,
+        after: Some(Object { kind, bytes }),
+    }
+}
+
+impl<'a, V: View> Txn<'a, V> {
+    ghost use Rattle.dk_txn.specs.Does.{Does, SameChanges, Stands};
+
+    /// A new object, and the name bound to it. Refuses 4, 8.
+    pub fn create_bound(&mut self, name: &Name, kind: u16, bytes: Blob) -> Result<(), Refusal>
+        requires { self.old.log.mode ≡ mode.Platform }
+        ensures does { Does V.sights refusal_fault self.old self.new (act.and_then (act.create kind bytes) (λ id. act.bind name.now id)) result }
+        ensures refused { OnErr result (SameChanges self.old.log self.new.log) }
+        ensures length { IfErr result (TellsLength bytes) }
+    {
+        if is_too_long(&bytes) {
+            return Err(too_long(&bytes));
+        }
+        if self.log.objects_made() as u64 >= OBJECTS_MOST_COUNT {
+            return Err(Refusal::TooMany);
+        }
+        let known = self.known_name(name)?;
+        self.log
+            .create_named(Object { kind, bytes }, name, known.before)?;
+        Ok(())
+    }
+
+    /// Takes the name's binding away, and an object that stands. Refuses 1.
+    pub fn unbind_and_remove(&mut self, name: &Name, id: ObjectId) -> Result<(), Refusal>
+        requires platform { self.old.log.mode ≡ mode.Platform }
+        requires stands { Stands self.old.log id }
+        ensures does { Does V.sights refusal_fault self.old self.new (act.and_then (act.unbind name.now) (λ _. act.remove id)) result }
+        ensures refused { OnErr result (SameChanges self.old.log self.new.log) }
+    {
+        let known = self.known_name(name)?;
+        if known.after.is_none() {
+            return Err(Refusal::NameNotBound);
+        }
+        let object = self.changeable(id)?;
+        let unbound = Change {
+            before: known.before,
+            after: None,
+        };
+        let removed = Change {
+            before: object.before,
+            after: None,
+        };
+        self.log.change_named(name, unbound, id, removed)?;
+        Ok(())
+    }
+
+    /// Gives both objects, which stand, these bytes. Refuses 7 alone.
+    pub fn save_both(
+        &mut self,
+        first: ObjectId,
+        payload: Blob,
+        second: ObjectId,
+        behind: Blob,
+    ) -> Result<(), Refusal>
+        requires platform { self.old.log.mode ≡ mode.Platform }
+        requires short { (act.is_too_long payload ≡ false) × (act.is_too_long behind ≡ false) }
+        requires stand { Stands self.old.log first × Stands self.old.log second }
+        ensures does { Does V.sights refusal_fault self.old self.new (act.and_then (act.save first payload) (λ _. act.save second behind)) result }
+        ensures refused { OnErr result (SameChanges self.old.log self.new.log) }
+    {
+        let known = self.changeable(first)?;
+        let next = self.changeable(second)?;
+        let change = rewritten(known, payload);
+        self.log
+            .change_two(first, change, second, rewritten(next, behind))?;
+        Ok(())
+    }
+}
