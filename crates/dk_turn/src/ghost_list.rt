@@ -60,6 +60,7 @@ impl<E> Model for GhostList<E> {
 }
 
 impl<E> GhostList<E> {
+    /// An empty list.
     pub fn new(alloc: Global) -> Result<GhostList<E>, AllocError>
         ensures { IfOk result (λ g. g ≡ []) }
     {
