@@ -28,12 +28,12 @@ hands-push rules a b c (k ∷ conns) [] conn e f g = absurd f
 -- one connection more
 pub hands_then : (a b c : Play) (conns : List ConnNo) (conn : ConnNo) → HandsAll a conns b → IsHanded b.core b.events.items conn c.core c.events.items
     → c.means.entries ≡ b.means.entries → c.opened.items ≡ b.opened.items → HandsAll a (conns ++ conn ∷ []) c
-hands_then a b c conns conn first next means opened rules lawful going =
-    let f = first rules lawful going in
+hands_then a b c conns conn first next means opened rules more lawful going =
+    let f = first rules more lawful going in
     let e = event.Hand 0 conn OUTS_MOST_COUNT next.outs next.end in
     let goes = enters_goes rules lawful b.core c.core e next.enters in
     let h = goes_happens rules b.core c.core e f.going.standing goes in
-    let all = hands_all rules (world_of b.core) (world_of c.core) b.opened.items 0 0 conn next.outs next.end f.going.fit h in
+    let all = hands_all rules (world_of b.core) (world_of c.core) b.opened.items more 0 conn next.outs next.end f.going.fit h in
     record {
       events = f.events ++ e ∷ [];
       told = next.told ∙ ap (λ es. es ++ e ∷ []) f.told ∙ append_assoc a.events.items f.events (e ∷ []);
@@ -44,6 +44,6 @@ hands_then a b c conns conn first next means opened rules lawful going =
       same_opened = opened ∙ f.same_opened;
       going = record {
         standing = standing_then rules b.core c.core (e ∷ []) f.going.standing goes;
-        fit = subst (λ cs. IsFit (world_of c.core) cs 0) (sym opened) all.1;
+        fit = subst (λ cs. IsFit (world_of c.core) cs more) (sym opened) all.1;
       };
     }

@@ -8,3 +8,5 @@ pub mod Ran
 pub mod Phasing
 pub mod PlayOrder
 pub mod SinkPieces
+pub mod Fronts
+pub mod Told

@@ -1,9 +1,9 @@
 -- Which connection a name means.
-use Rattle.std.proofs.Common.{◌≡◌, ℕ, ◌||◌, Bool, true, false, cond, Option, Some, None, List, [], ◌∷◌, is_some, refl, sym, ap, ◌∙◌}
+use Rattle.std.proofs.Common.{◌≡◌, ℕ, ◌||◌, ◌&&◌, not, Bool, true, false, cond, Option, Some, None, List, [], ◌∷◌, is_some, refl, sym, ap, ◌∙◌}
 use Rattle.std.specs.FinMap as maps
-use Rattle.std.specs.FinMap.{find, get-insert, get-from_entries, same_map}
+use Rattle.std.specs.FinMap.{find, get-insert, get-remove, get-from_entries, same_map}
 use Rattle.std.specs.FinSet as sets
-use Rattle.std.specs.FinSet.{contains-insert, contains-empty}
+use Rattle.std.specs.FinSet.{contains-insert, contains-remove, contains-empty}
 use Rattle.std.specs.BTreeMap.{is_at}
 use Rattle.std.specs.Map.{lookup}
 use Rattle.std.specs.Ordering.{eq_by_cmp}
@@ -30,6 +30,14 @@ means_of-Updates es fs name conn h =
     get-means_of fs q ∙ h q ∙ ap (λ b. cond b (Some conn) (lookup (is_at (bytes_cmp q)) es)) ((eq_by_cmp_equiv names_total).symm name q)
     ∙ ap (cond (eq_by_cmp bytes_cmp q name) (Some conn)) (sym (get-means_of es q)) ∙ sym (get-insert names_total (means_of es) name conn q))
 
+-- a table without a name is the map without it
+pub means_of-Removes : (es fs : List (List ℕ × ConnNo)) (name : List ℕ)
+    → ((q : List ℕ) → lookup (is_at (bytes_cmp q)) fs ≡ cond (is_at (bytes_cmp name) q) None (lookup (is_at (bytes_cmp q)) es)) → means_of fs ≡ maps.remove (means_of es) name
+means_of-Removes es fs name h =
+    same_map names_total exact_names _ _ (λ q.
+    get-means_of fs q ∙ h q ∙ ap (λ b. cond b None (lookup (is_at (bytes_cmp q)) es)) ((eq_by_cmp_equiv names_total).symm name q)
+    ∙ ap (cond (eq_by_cmp bytes_cmp q name) None) (sym (get-means_of es q)) ∙ sym (get-remove names_total (means_of es) name q))
+
 -- a name that means a connection has one in the table
 pub found_means : (es : List (List ℕ × ConnNo)) (name : List ℕ) → maps.contains_key (means_of es) name ≡ true → None ≡ lookup (is_at (bytes_cmp name)) es → ⊥
 found_means es name has none = absurd (no (ap is_some (none ∙ sym (get-means_of es name)) ∙ has)) where
@@ -52,3 +60,14 @@ pub login_means : (names : LineNames) (means : maps.FinMap bytes_cmp ConnNo) (na
 login_means names means name conn mean q e =
     ap is_some (get-insert names_total means name conn q)
     ∙ either (eq_by_cmp bytes_cmp q name) conn (maps.get means q) (sets.contains names q) (mean q) (sym (contains-insert names_total names name q) ∙ e)
+
+-- where one of the names is the one that goes, or means something still
+neither : (b : Bool) (o : Option ConnNo) (had : Bool) → (had ≡ true → is_some o ≡ true) → (not b && had) ≡ true → is_some (cond b None o) ≡ true
+neither true o had h e = absurd cc
+neither false o had h e = h e
+
+-- the other names mean their connections
+pub left_means : (names : LineNames) (means : maps.FinMap bytes_cmp ConnNo) (name : List ℕ) → AllMean names means → AllMean (sets.remove names name) (maps.remove means name)
+left_means names means name mean q e =
+    ap is_some (get-remove names_total means name q)
+    ∙ neither (eq_by_cmp bytes_cmp q name) (maps.get means q) (sets.contains names q) (mean q) (sym (contains-remove names_total names name q) ∙ e)

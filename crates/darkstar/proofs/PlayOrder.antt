@@ -1,6 +1,6 @@
 -- The order of a play is that of its events: each phase's part of the order is the claims and commits among the phase's events.
 use Rattle.std.proofs.Common.{◌≡◌, ℕ, Option, None, List, [], ◌∷◌, ◌++◌, map, refl, sym, ap, ◌∙◌, subst}
-use Rattle.std.specs.List.{cons_option, filter_map}
+use Rattle.std.specs.List.{AllByRecursion, cons_option, filter_map}
 use Rattle.std.proofs.lemmas.List.{append-nil}
 use Rattle.std.proofs.lemmas.List.Elements.{filter_map-append}
 use Rattle.dk_types.specs.declared.event.Event.{Event}
@@ -9,7 +9,7 @@ use Rattle.dk_model.specs.declared.script.Line.{Line}
 use Rattle.dk_model.specs.declared.script.Line.TheVariants as line
 use Rattle.dk_model.specs.Worlds.{World}
 use Rattle.dk_model.specs.Events.{Meaning}
-use Rattle.dk_model.specs.Orders.{OrderItem, item_of, order_of}
+use Rattle.dk_model.specs.Orders.{OrderItem, AreInTurn, item_of, order_of}
 use Rattle.dk_model.specs.Transcripts.{Playing, Enters, EntersAll, Follows, Hands, PlaysPhase, Plays, IsPlayed, IsTranscript, playing, transcript_text}
 use Rattle.dk_script.proofs.OrderTold.{order_of-transcript_text}
 
@@ -21,6 +21,10 @@ without_item e events none rest = ap (λ (o : Option OrderItem). cons_option o (
 item_of-Enters : (rules : Meaning) (p : Playing) (l : Line) (e : Event) (after : Playing) → Enters rules p l e after → item_of e ≡ None
 item_of-Enters rules p (line.Login name) e after h = ap item_of h.2
 item_of-Enters rules p (line.Send name text) e after h = ap item_of h.4
+item_of-Enters rules p (line.Channel name channel text) e after h = ap item_of h.4
+item_of-Enters rules p (line.Logout name) e after h = ap item_of h.4
+item_of-Enters rules p (line.Drop name) e after h = ap item_of h.4
+item_of-Enters rules p (line.Tick moment) e after h = ap item_of h.1
 
 items_of-EntersAll : (rules : Meaning) (p : Playing) (lines : List Line) (events : List Event) (after : Playing) → EntersAll rules p lines events after → filter_map item_of events ≡ []
 items_of-EntersAll rules p [] [] after h = refl
@@ -75,3 +79,9 @@ IsTranscript-IsPlayed rules opening script phases commits tasks text h is =
       plays = subst (λ (order : List (List OrderItem)). Plays rules (playing opening) ([] ∷ script) order phases h.end) told h.plays;
       told = is ∙ ap (λ (n : ℕ). transcript_text phases n tasks) h.commits_are ∙ ap (λ (n : ℕ). transcript_text phases h.end.world.durable.commits n) h.tasks_are;
     }
+
+-- in which each claim is followed by its commit
+pub turns-IsPlayed : (rules : Meaning) (opening : World) (script : List (List Line)) (phases : List (List Event)) (commits tasks : ℕ) (text : List ℕ) → IsPlayed rules opening script phases commits tasks → text ≡ transcript_text phases commits tasks → AllByRecursion AreInTurn (order_of text)
+turns-IsPlayed rules opening script phases commits tasks text h is =
+    let told = order_of-Plays rules (playing opening) ([] ∷ script) h.order phases h.end h.plays ∙ sym (ap order_of is ∙ order_of-transcript_text phases commits tasks h.small) in
+    subst (AllByRecursion AreInTurn) told h.turns

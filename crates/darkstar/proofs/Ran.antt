@@ -7,7 +7,7 @@ use Rattle.dk_types.specs.declared.event.ClaimReply.TheVariants as reply
 use Rattle.dk_model.specs.Worlds.{World}
 use Rattle.dk_model.specs.Events.{Meaning}
 use Rattle.dk_model.specs.Lawful.{AreLawful}
-use Rattle.dk_model.specs.Orders.{OrderItem, Claimed, Committed, job_text, outcome_text}
+use Rattle.dk_model.specs.Orders.{OrderItem, AreInTurn, Claimed, Committed, job_text, outcome_text}
 use Rattle.dk_model.specs.Phases.{IsSmall}
 use Rattle.dk_model.specs.Sendings.{IsTerse}
 use Rattle.dk_model.specs.Transcripts.{Follows, IsQuiet}
@@ -45,6 +45,7 @@ module _ (rules : Meaning) (lawful : AreLawful rules) (terse : IsTerse rules) (o
         items = Claimed ran.run.0 ran.at (job_text ran.job) ∷ Committed ran.run.0 (outcome_text ran.outcome) ∷ [];
         told = told;
         small = ((number, at), (number, tt));
+        turns = (refl, tt);
         follows = (two.mid, refl, two.one, (world_of new.core, refl, two.two, refl));
         same_means = ap (λ (p : Play). p.means.entries) same;
         same_opened = opened;
@@ -83,6 +84,7 @@ idle_quiet rules old new start goes told means opened =
         items = [];
         told = told ∙ sym (append-nil old.events.items);
         small = tt;
+        turns = tt;
         follows = q.1;
         same_means = means;
         same_opened = opened;
@@ -101,6 +103,7 @@ serves_none rules p = record {
   items = [];
   told = sym (append-nil p.events.items);
   small = tt;
+  turns = tt;
   follows = refl;
   same_means = refl;
   same_opened = refl;
@@ -114,6 +117,14 @@ follows-append rules a b c (i ∷ is) js (e ∷ es) fs f g = (f.0, f.1, f.2, fol
 follows-append rules a b c [] js (e ∷ es) fs f g = absurd f
 follows-append rules a b c (i ∷ is) js [] fs f g = absurd f
 
+-- two parts in turn are in turn
+turns-append : (is js : List OrderItem) → AreInTurn is → AreInTurn js → AreInTurn (is ++ js)
+turns-append [] js s t = t
+turns-append (Claimed run at job ∷ Committed ran outcome ∷ is) js s t = (s.0, turns-append is js s.1 t)
+turns-append (Claimed run at job ∷ Claimed other moment task ∷ is) js s t = absurd s
+turns-append (Claimed run at job ∷ []) js s t = absurd s
+turns-append (Committed run outcome ∷ is) js s t = absurd s
+
 -- one part is run, and then the next
 pub serves_then : (rules : Meaning) (a b c : Play) → Serves rules a b → Serves rules b c → Serves rules a c
 serves_then rules a b c s t = record {
@@ -121,6 +132,7 @@ serves_then rules a b c s t = record {
   items = s.items ++ t.items;
   told = t.told ∙ ap (λ l. l ++ t.events) s.told ∙ append_assoc a.events.items s.events t.events;
   small = all-append IsSmall s.events t.events s.small t.small;
+  turns = turns-append s.items t.items s.turns t.turns;
   follows = follows-append rules (world_of a.core) (world_of b.core) (world_of c.core) s.items t.items s.events t.events s.follows t.follows;
   same_means = t.same_means ∙ s.same_means;
   same_opened = t.same_opened ∙ s.same_opened;

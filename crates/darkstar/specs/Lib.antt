@@ -1,4 +1,4 @@
 pub mod Statuses
+pub mod Headline
 pub mod Reading
 pub mod Plays
-pub mod Headline

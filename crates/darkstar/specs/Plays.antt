@@ -1,22 +1,24 @@
 -- A play of several sessions, seen as the definitions see it.
-use Rattle.std.specs.Prelude.{◌≡◌, ℕ, ◌+◌, ◌*◌, ◌<◌, Bool, true, false, List, [], ◌∷◌, ◌++◌, length}
+use Rattle.std.specs.Prelude.{◌≡◌, ℕ, ◌+◌, ◌*◌, ◌<◌, Some, Bool, true, false, List, [], ◌∷◌, ◌++◌, length}
 use Rattle.std.specs.List.{AllByRecursion}
 use Rattle.std.specs.FinMap as maps
 use Rattle.std.specs.FinSet as sets
 use Rattle.dk_types.specs.declared.number.ConnNo.{ConnNo}
+use Rattle.dk_types.specs.declared.job.Input.{Input}
 use Rattle.dk_types.specs.declared.job.Out.{Out}
 use Rattle.dk_types.specs.declared.event.Event.{Event}
 use Rattle.dk_types.specs.declared.event.Event.TheVariants as event
+use Rattle.dk_types.specs.declared.event.PostReply.{PostReply}
 use Rattle.dk_types.specs.declared.limits.TheConstants.{OUTS_MOST_COUNT}
 use Rattle.dk_types.specs.Names.{bytes_cmp}
 use Rattle.dk_model.specs.declared.script.Line.{Line}
 use Rattle.dk_model.specs.declared.script.Line.TheVariants as line
 use Rattle.dk_model.specs.Events.{Meaning}
 use Rattle.dk_model.specs.Lawful.{AreLawful}
-use Rattle.dk_model.specs.Orders.{OrderItem}
+use Rattle.dk_model.specs.Orders.{OrderItem, AreInTurn}
 use Rattle.dk_model.specs.Phases.{IsSmall}
-use Rattle.dk_model.specs.Scripts.{LineNames, AllMayStand, IsText}
-use Rattle.dk_model.specs.Transcripts.{Playing, Enters, EntersAll, Follows, IsQuiet, Hands}
+use Rattle.dk_model.specs.Scripts.{LineNames, AllMayStand, IsLineName, IsText}
+use Rattle.dk_model.specs.Transcripts.{Playing, Enters, EntersAll, Follows, IsQuiet, Hands, PlaysPhase}
 use Rattle.dk_progress.specs.Fitness.{IsFit, left}
 use Rattle.dk_core.specs.declared.world.Core.{Core}
 use Rattle.dk_core.specs.Cores.{world_of}
@@ -41,10 +43,24 @@ pub record IsGoing (rules : Meaning) (p : Play) (more : ℕ) : Type 0 where
   pub standing : IsStandingFor rules p.core
   pub fit : IsFit (world_of p.core) p.opened.items more
 
--- a line can be entered: the name of a send means a connection, and its text is one
+-- a line can be entered: its name means a connection, and what is posted is within its limits
 abbrev pub CanBeEntered : Playing → Line → Type 0
 CanBeEntered p (line.Login name) = Unit {0}
 CanBeEntered p (line.Send name text) = (maps.contains_key p.means name ≡ true) × IsText text
+CanBeEntered p (line.Channel name channel text) = (maps.contains_key p.means name ≡ true) × IsLineName channel × IsText text
+CanBeEntered p (line.Logout name) = maps.contains_key p.means name ≡ true
+CanBeEntered p (line.Drop name) = maps.contains_key p.means name ≡ true
+CanBeEntered p (line.Tick moment) = Unit {0}
+
+-- an input was posted to the connection that the name means, and that is told; names mean this afterwards
+pub record IsPosted (old : Play) (name : List ℕ) (input : Input) (means : maps.FinMap bytes_cmp ConnNo) (new : Play) : Type 0 where
+  pub conn : ConnNo
+  pub reply : PostReply
+  pub meant : maps.get (means_of old.means.entries) name ≡ Some conn
+  pub enters : (pass : ℕ) → core.Adds old.core new.core (event.Post pass conn input reply ∷ [])
+  pub told : new.events.items ≡ old.events.items ++ event.Post 0 conn input reply ∷ []
+  pub now_means : means_of new.means.entries ≡ means
+  pub same_opened : new.opened.items ≡ old.opened.items
 
 -- a play by some lawful rules, at which the line can be entered
 pub record IsReadyFor (p : Play) (l : Line) : Type 0 where
@@ -56,6 +72,12 @@ pub record IsReadyFor (p : Play) (l : Line) : Type 0 where
 -- each of the names means a connection
 abbrev pub AllMean : LineNames → maps.FinMap bytes_cmp ConnNo → Type 0
 AllMean names means = (name : List ℕ) → sets.contains names name ≡ true → maps.contains_key means name ≡ true
+
+-- the lines may stand where these names mean a connection, and so they do
+pub record MayStandAll (p : Play) (lines : List Line) : Type 0 where
+  pub names : LineNames
+  pub mean : AllMean names (means_of p.means.entries)
+  pub stand : AllMayStand names lines
 
 -- a play by some lawful rules, at which the lines can be entered one after another
 pub record IsReadyForAll (p : Play) (lines : List Line) : Type 0 where
@@ -94,6 +116,7 @@ pub record Serves (rules : Meaning) (old new : Play) : Type 0 where
   pub items : List OrderItem
   pub told : new.events.items ≡ old.events.items ++ events
   pub small : AllByRecursion IsSmall events
+  pub turns : AreInTurn items
   pub follows : Follows rules (world_of old.core) items events (world_of new.core)
   pub same_means : new.means.entries ≡ old.means.entries
   pub same_opened : new.opened.items ≡ old.opened.items
@@ -112,14 +135,27 @@ pub record IsHanded (old : Core) (before : List Event) (conn : ConnNo) (new : Co
   pub enters : core.Adds old new (event.Hand 0 conn OUTS_MOST_COUNT outs end ∷ [])
 
 -- the connections were handed all that waited for them, and that is told
-pub record AreHanded (rules : Meaning) (old : Play) (conns : List ConnNo) (new : Play) : Type 0 where
+pub record AreHanded (rules : Meaning) (old : Play) (conns : List ConnNo) (more : ℕ) (new : Play) : Type 0 where
   pub events : List Event
   pub told : new.events.items ≡ old.events.items ++ events
   pub small : AllByRecursion IsSmall events
   pub hands : Hands rules (world_of old.core) conns events (world_of new.core)
   pub same_means : new.means.entries ≡ old.means.entries
   pub same_opened : new.opened.items ≡ old.opened.items
-  pub going : IsGoing rules new 0
+  pub going : IsGoing rules new more
 
 abbrev pub HandsAll : Play → List ConnNo → Play → Type 0
-HandsAll old conns new = (rules : Meaning) → AreLawful rules → IsGoing rules old 0 → AreHanded rules old conns new
+HandsAll old conns new = (rules : Meaning) (more : ℕ) → AreLawful rules → IsGoing rules old more → AreHanded rules old conns more new
+
+-- a phase of these lines was played, and its events are told
+pub record IsPhase (rules : Meaning) (old : Play) (lines : List Line) (more : ℕ) (new : Play) : Type 0 where
+  pub items : List OrderItem
+  pub events : List Event
+  pub plays : PlaysPhase rules (playing_of old) lines items events (playing_of new)
+  pub told : new.events.items ≡ old.events.items ++ events
+  pub small : AllByRecursion IsSmall events
+  pub turns : AreInTurn items
+  pub going : IsGoing rules new more
+
+abbrev pub PlaysLines : Meaning → Play → List Line → Play → Type 0
+PlaysLines rules old lines new = (more : ℕ) → IsGoing rules old (4 * length lines + more) → IsPhase rules old lines more new

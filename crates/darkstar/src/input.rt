@@ -1,7 +1,10 @@
 //! What a command reads.
-ghost use Rattle.std.specs.Prelude.{◌≡◌, ◌<◌, ◌≤◌, length, IfOk, IfSome, IsErrOf, MatchResult};
-ghost use Rattle.darkstar.specs.Headline.{ReadsAll, IsReadScript, IsNoScript};
-ghost use Rattle.darkstar.specs.Reading.{CountsRead};
+ghost use Rattle.std.specs.Prelude.{◌≤◌, length, IfOk, IfSome};
+ghost use Rattle.std.specs.FinSet as sets;
+ghost use Rattle.std.specs.List.{sum_by};
+ghost use Rattle.dk_model.specs.Scripts.{AllStand, IsBadLine};
+ghost use Rattle.darkstar.specs.Headline.{IsReadScript, ReadsFront};
+ghost use Rattle.darkstar.specs.Reading.{CountsRead, IfBadLine, ReadsFewAt};
 
 use dk_edge::Source;
 use dk_model::limits::SCRIPT_MOST_BYTES;
@@ -18,8 +21,8 @@ pub enum Refused {
     NoMemory,
     /// The source failed.
     ReadFault,
-    /// The bytes are no script.
-    NotYet,
+    /// The line of this number is the first that is no line of a script, or has the byte behind as many as a script may have.
+    BadScript { line: u64 },
 }
 
 impl From<NoMemory> for Refused {
@@ -57,35 +60,35 @@ impl From<Failed> for Refused {
 
 /// Reads the source to its end as a script. Its bytes are let go before this returns.
 pub fn read_script<S: Source>(alloc: Global, input: &mut S) -> Result<Script, Refused>
-    ensures ok { IfOk result (λ script. IsReadScript (S.remaining input.old) (S.remaining input.new) script.lines) }
-    ensures few { IfOk result (λ script. length script.lines ≤ SCRIPT_MOST_BYTES) }
-    ensures not_yet { IsErrOf result Refused.NotYet → IfSome (S.remaining input.old) IsNoScript }
+    ensures ok { IfOk result (λ script. IsReadScript (S.remaining input.old) (S.remaining input.new) script.phases) }
+    ensures stand { IfOk result (λ script. AllStand sets.empty script.phases) }
+    ensures few { IfOk result (λ script. sum_by length script.phases ≤ SCRIPT_MOST_BYTES) }
+    ensures bad_line { IfBadLine result (λ line. IfSome (S.remaining input.old) (λ bytes. IsBadLine bytes line)) }
+    ensures few_read { ReadsFewAt result (S.remaining input.old) (S.remaining input.new) }
     ensures count { CountsRead result (S.counted input.old) (S.counted input.new) }
 {
     let bytes = read_all(alloc, input)?;
     match parse_script(alloc, bytes.as_slice()) {
         Ok(script) => Ok(script),
-        Err(ScriptRefused::NotYet) => Err(Refused::NotYet),
+        Err(ScriptRefused::BadLine { line }) => Err(Refused::BadScript { line }),
         Err(ScriptRefused::NoMemory) => Err(Refused::NoMemory),
     }
 }
 
-/// All the bytes up to the end of the source, if they are no more than a script may have.
+/// The bytes up to the end of the source, or so many of them that they are more than a script may have.
 fn read_all<S: Source>(alloc: Global, input: &mut S) -> Result<Vec<u8>, Refused>
-    ensures ok { IfOk result (λ bytes. ReadsAll (S.remaining input.old) (S.remaining input.new) bytes.items) }
-    ensures long { IsErrOf result Refused.NotYet → IfSome (S.remaining input.old) (λ bytes. SCRIPT_MOST_BYTES < length bytes) }
+    ensures ok { IfOk result (λ bytes. ReadsFront (S.remaining input.old) (S.remaining input.new) bytes.items) }
+    ensures good { IfBadLine result (λ _. ⊥) }
+    ensures few_read { ReadsFewAt result (S.remaining input.old) (S.remaining input.new) }
     ensures count { CountsRead result (S.counted input.old) (S.counted input.new) }
 {
     let mut bytes = Vec::new(alloc);
     let mut piece = [0u8; PIECE_BYTES];
     'pieces: loop {
         let count = input.take(&mut piece)?;
-        if count == 0 {
+        bytes.extend_from_slice(&piece[..count])?;
+        if count == 0 || bytes.len() as u64 > SCRIPT_MOST_BYTES {
             return Ok(bytes);
         }
-        if count as u64 > SCRIPT_MOST_BYTES - bytes.len() as u64 {
-            return Err(Refused::NotYet);
-        }
-        bytes.extend_from_slice(&piece[..count])?;
     }
 }

@@ -11,8 +11,6 @@ mod play;
 mod program;
 mod session;
 mod status;
-#[cfg(test)]
-mod tests;
 
 use dk_edge::{StdSink, StdSource};
 use dk_types::Words;
@@ -33,7 +31,10 @@ fn main(rt: HostRuntime) -> ExitCode {
         Err(status) => status,
     };
     if let Some(text) = status.text() {
-        let _ = rt.eprintln(text);
+        let _ = match status.number() {
+            None => eprintln!(rt; "{text}"),
+            Some(number) => eprintln!(rt; "{text} {number}"),
+        };
     }
     ExitCode::from(status.code())
 }

@@ -1,7 +1,7 @@
 //! How a command ended.
 ghost use Rattle.std.specs.Prelude.{◌≡◌};
 ghost use Rattle.std.specs.Option.{option_copied};
-ghost use Rattle.darkstar.specs.Statuses.{code_of, fault_text};
+ghost use Rattle.darkstar.specs.Statuses.{code_of, fault_number, fault_text};
 
 /// How a command ended.
 #[derive(Clone, Copy, Debug, PartialEq, Eq)]
@@ -13,8 +13,8 @@ pub enum Status {
     Usage,
     ReadFault,
     WriteFault,
-    /// The input is no script that can be played yet.
-    NotYet,
+    /// The line of this number is the first that is no line of a script, or has the byte behind as many as a script may have.
+    BadScript { line: u64 },
 }
 
 impl Status {
@@ -28,11 +28,11 @@ impl Status {
             Status::Usage => 2,
             Status::ReadFault => 4,
             Status::WriteFault => 5,
-            Status::NotYet => 14,
+            Status::BadScript { .. } => 6,
         }
     }
 
-    /// What the program says of a fault, in one line without its end.
+    /// What the program says of a fault, in one line without its end; its number stands behind it.
     pub fn text(&self) -> Option<&'static str>
         ensures { option_copied result ≡ fault_text self.now }
     {
@@ -42,7 +42,17 @@ impl Status {
             Status::Usage => Some("darkstar: usage"),
             Status::ReadFault => Some("darkstar: read fault"),
             Status::WriteFault => Some("darkstar: write fault"),
-            Status::NotYet => Some("darkstar: not yet"),
+            Status::BadScript { .. } => Some("darkstar: bad script at line"),
+        }
+    }
+
+    /// The number that the program says of a fault, where it has one.
+    pub fn number(&self) -> Option<u64>
+        ensures { result ≡ fault_number self.now }
+    {
+        match self {
+            Status::BadScript { line } => Some(*line),
+            _ => None,
         }
     }
 }

@@ -2,6 +2,7 @@
 ghost use Rattle.std.specs.Prelude.{OnOk};
 ghost use Rattle.darkstar.specs.Plays.{HandsAll, IsHanded};
 
+use super::record;
 use super::state::Play;
 use dk_core::Core;
 use dk_types::limits::OUTS_MOST_COUNT;
@@ -13,13 +14,14 @@ fn hand(core: &mut Core, conn: ConnNo, events: &mut Vec<Event>) -> Result<(), No
 {
     let most = OUTS_MOST_COUNT as u32;
     let handed = core.hand(conn, most)?;
-    events.push(Event::Hand {
+    let event = Event::Hand {
         pass: 0,
         conn,
         most,
         outs: handed.outs,
         end: handed.end,
-    })?;
+    };
+    record(events, event)?;
     Ok(())
 }
 

@@ -6,6 +6,7 @@ ghost use Rattle.dk_core.specs.Cores.{world_of};
 ghost use Rattle.dk_workers.specs.Working.{claim_of, commit_of};
 ghost use Rattle.darkstar.specs.Plays.{IsGoing, Serves, ServesNext};
 
+use super::record;
 use super::state::Play;
 use dk_game::Game;
 use dk_types::{ClaimReply, Event, NoMemory};
@@ -25,16 +26,15 @@ impl Play {
             seq,
             outcome,
         } = ran;
-        self.events.push(Event::Claim {
-            pass: 0,
-            reply: ClaimReply::Granted { run, at, job },
-        })?;
-        self.events.push(Event::Commit {
+        let reply = ClaimReply::Granted { run, at, job };
+        record(&mut self.events, Event::Claim { pass: 0, reply })?;
+        let commit = Event::Commit {
             pass: 0,
             run,
             seq,
             outcome,
-        })?;
+        };
+        record(&mut self.events, commit)?;
         Ok(())
     }
 

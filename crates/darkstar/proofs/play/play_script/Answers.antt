@@ -1,58 +1,69 @@
-use Rattle.std.proofs.Common.{◌≡◌, ◌∷◌, ◌++◌, [], List, ℕ, length, Vec, Global, None, sym, ap, ◌∙◌, subst, arith}
-use Rattle.std.proofs.lemmas.List.{length-append}
+use Rattle.std.proofs.Common.{◌≡◌, ◌∷◌, ◌++◌, ◌+◌, ◌*◌, [], List, ℕ, length, take, drop, refl, sym, ap, ◌∙◌, subst, Vec, Global, None, arith}
+use Rattle.std.proofs.lemmas.List.{drop_more, take_more, take_all}
 use Rattle.dk_types.specs.declared.event.Event.{Event}
+use Rattle.dk_model.specs.declared.script.Line.{Line}
 use Rattle.dk_model.specs.Worlds.{fresh_world}
 use Rattle.dk_model.specs.Phases.{phases_of}
 use Rattle.dk_model.specs.Transcripts.{IsPlayed}
-use Rattle.darkstar.specs.Plays.{IsReadyForAll, EntersLines}
-use Rattle.darkstar.proofs.Phasing.{both_played, ready_lines, entered_lines, later, lines_told, marks_within}
+use Rattle.darkstar.specs.Plays.{IsGoing, MayStandAll, PlaysLines}
+use Rattle.darkstar.proofs.Phasing.{IsPlayedTo, none_played, phase_going, phase_stands, phase_more, whole_played}
 use Rattle.darkstar.proofs.play.play_script.Goals as goal
 
-pub enter_all-requires : goal.enter_all-requires
-enter_all-requires g c =
+pub play_phase-requires-clause-going : goal.play_phase-requires-clause-going
+play_phase-requires-clause-going g c =
     let rules = g.G.Rules.rules c.args.game.now in
-    let lawful = g.G.Rules.lawful c.args.game.now in
-    let lines = c.args.lines.items in
-    subst (IsReadyForAll c.drain.new.self) (sym c.as_slice-2.ensures.value)
-    (ready_lines rules lawful c.in_ok-play.play c.drain.new.self lines (c.in_ok-play.ensures.going rules) c.in_ok-drain.ensures.serves c.requires.stand c.requires.few)
+    let p = c.in_ok-play in
+    phase_going rules [] c.args.script.now [] p.play p.play [] (none_played rules c.args.script.now p.play p.ensures.fresh p.ensures.untold (p.ensures.going rules) c.requires.stand c.requires.few)
 
-pub drain-requires-2-clause-going : goal.drain-requires-2-clause-going
-drain-requires-2-clause-going g c =
+pub play_phase-requires-clause-stand : goal.play_phase-requires-clause-stand
+play_phase-requires-clause-stand g c =
     let rules = g.G.Rules.rules c.args.game.now in
-    let lawful = g.G.Rules.lawful c.args.game.now in
-    let enters = subst (λ ls. EntersLines c.drain.new.self ls c.enter_all.new.self) c.as_slice-2.ensures.value c.in_ok-enter_all.ensures in
-    (entered_lines rules lawful c.in_ok-play.play c.drain.new.self c.enter_all.new.self c.args.lines.items (c.in_ok-play.ensures.going rules) c.in_ok-drain.ensures.serves c.requires.few enters).going
+    let p = c.in_ok-play in
+    phase_stands rules [] c.args.script.now [] p.play p.play [] (none_played rules c.args.script.now p.play p.ensures.fresh p.ensures.untold (p.ensures.going rules) c.requires.stand c.requires.few)
 
-pub returns-clause-played : goal.returns-clause-played
-returns-clause-played g c =
+pub loop-lines-init : goal.loop-lines-init
+loop-lines-init g c =
     let rules = g.G.Rules.rules c.args.game.now in
-    let lawful = g.G.Rules.lawful c.args.game.now in
-    let lines = c.args.lines.items in
-    let first = c.in_ok-drain.ensures.serves in
-    let enters = subst (λ ls. EntersLines c.drain.new.self ls c.enter_all.new.self) c.as_slice-2.ensures.value c.in_ok-enter_all.ensures in
-    let entered = entered_lines rules lawful c.in_ok-play.play c.drain.new.self c.enter_all.new.self lines (c.in_ok-play.ensures.going rules) first c.requires.few enters in
-    let then = c.in_ok-drain-2.ensures.serves in
-    let handed = c.in_ok-hand_all.ensures rules lawful (then.going 0 entered.going) in
-    let marks : c.push-2.new.self.items ≡ 0 ∷ length c.drain.new.self.events.items ∷ [] = c.in_ok-push-2.ensures.items
-    ∙ (λ i. (c.in_ok-push.ensures.items ∙ ap (λ (l : List ℕ). l ++ 0 ∷ []) c.new-marks.ensures.items) i ++ (ap length c.as_slice.ensures.value) i ∷ []) in
-    let whole = both_played rules c.drain.new.self c.enter_all.new.self c.drain-2.new.self c.hand_all.new.self lines entered then c.in_ok-drain-2.ensures.quiet handed
-    c.in_ok-play.play first c.in_ok-drain.ensures.quiet c.in_ok-play.ensures.fresh c.in_ok-play.ensures.untold c.push-2.new.self.items marks c.commits-commits.result c.pending_len-tasks.result c.commits-commits.ensures c.pending_len-tasks.ensures in
-    subst (λ (es : Vec Event Global). IsPlayed rules (fresh_world None) (lines ∷ []) (phases_of es.items c.push-2.new.self.items) c.commits-commits.result c.pending_len-tasks.result) (sym c.into_events.ensures) whole
+    let p = c.in_ok-play in
+    let none = none_played rules c.args.script.now p.play p.ensures.fresh p.ensures.untold (p.ensures.going rules) c.requires.stand c.requires.few in
+    subst (λ (ms : List ℕ). IsPlayedTo rules ([] ∷ []) c.args.script.now c.play_phase.new.play ms)
+    (ap (λ (n : ℕ). n ∷ []) (ap length p.ensures.untold) ∙ sym (c.in_ok-push.ensures.items ∙ ap (λ (l : List ℕ). l ++ 0 ∷ []) c.new-marks.ensures.items))
+    (phase_more rules [] c.args.script.now [] p.play c.play_phase.new.play [] none c.in_ok-play_phase.ensures)
 
-pub returns-clause-within : goal.returns-clause-within
-returns-clause-within g c =
+pub play_phase-requires-2-clause-going : goal.play_phase-requires-2-clause-going
+play_phase-requires-2-clause-going g c =
     let rules = g.G.Rules.rules c.args.game.now in
-    let lawful = g.G.Rules.lawful c.args.game.now in
-    let lines = c.args.lines.items in
-    let before = c.drain.new.self.events.items in
-    let first = c.in_ok-drain.ensures.serves in
-    let enters = subst (λ ls. EntersLines c.drain.new.self ls c.enter_all.new.self) c.as_slice-2.ensures.value c.in_ok-enter_all.ensures in
-    let entered = entered_lines rules lawful c.in_ok-play.play c.drain.new.self c.enter_all.new.self lines (c.in_ok-play.ensures.going rules) first c.requires.few enters in
-    let then = c.in_ok-drain-2.ensures.serves in
-    let handed = c.in_ok-hand_all.ensures rules lawful (then.going 0 entered.going) in
-    let marks : c.push-2.new.self.items ≡ 0 ∷ length before ∷ [] = c.in_ok-push-2.ensures.items
-    ∙ (λ i. (c.in_ok-push.ensures.items ∙ ap (λ (l : List ℕ). l ++ 0 ∷ []) c.new-marks.ensures.items) i ++ (ap length c.as_slice.ensures.value) i ∷ []) in
-    let told = lines_told rules c.drain.new.self c.enter_all.new.self c.drain-2.new.self c.hand_all.new.self lines entered then c.in_ok-drain-2.ensures.quiet handed in
-    let more = length-append before (later rules c.drain.new.self c.enter_all.new.self c.drain-2.new.self c.hand_all.new.self lines entered then c.in_ok-drain-2.ensures.quiet handed) in
-    let whole : length c.into_events.result.items ≡ length c.hand_all.new.self.events.items = ap (λ (es : Vec Event Global). length es.items) c.into_events.ensures in
-    marks_within c.push-2.new.self.items (length before) (length c.into_events.result.items) marks (omega (arith, ap length told, more, whole))
+    let script = c.args.script.now in
+    let i = c.loop-lines.lines-index in
+    let p = c.loop-lines.play in
+    let l = c.lines-item.result in
+    let parted : drop i script ≡ l ∷ drop (i + 1) script = drop_more script i l c.loop-lines-test.true ∙ ap (λ (x : List Line). x ∷ drop (i + 1) script) (sym c.lines-item.is) in
+    let to = subst (λ (ls : List (List Line)). IsPlayedTo rules ([] ∷ take i script) ls p c.loop-lines.marks.items) parted c.loop-lines.invariant in
+    subst (λ (x : List Line). IsGoing rules p (4 * length x)) (sym c.as_slice-2.ensures) (phase_going rules ([] ∷ take i script) (drop (i + 1) script) l p p c.loop-lines.marks.items to)
+
+pub play_phase-requires-2-clause-stand : goal.play_phase-requires-2-clause-stand
+play_phase-requires-2-clause-stand g c =
+    let rules = g.G.Rules.rules c.args.game.now in
+    let script = c.args.script.now in
+    let i = c.loop-lines.lines-index in
+    let p = c.loop-lines.play in
+    let l = c.lines-item.result in
+    let parted : drop i script ≡ l ∷ drop (i + 1) script = drop_more script i l c.loop-lines-test.true ∙ ap (λ (x : List Line). x ∷ drop (i + 1) script) (sym c.lines-item.is) in
+    let to = subst (λ (ls : List (List Line)). IsPlayedTo rules ([] ∷ take i script) ls p c.loop-lines.marks.items) parted c.loop-lines.invariant in
+    subst (MayStandAll p) (sym c.as_slice-2.ensures) (phase_stands rules ([] ∷ take i script) (drop (i + 1) script) l p p c.loop-lines.marks.items to)
+
+pub loop-lines-preserved : goal.loop-lines-preserved
+loop-lines-preserved g c =
+    let rules = g.G.Rules.rules c.args.game.now in
+    let script = c.args.script.now in
+    let i = c.loop-lines.lines-index in
+    let p = c.loop-lines.play in
+    let q = c.play_phase-2.new.play in
+    let l = c.lines-item.result in
+    let marks = c.loop-lines.marks.items in
+    let parted : drop i script ≡ l ∷ drop (i + 1) script = drop_more script i l c.loop-lines-test.true ∙ ap (λ (x : List Line). x ∷ drop (i + 1) script) (sym c.lines-item.is) in
+    let more : take (i + 1) script ≡ take i script ++ l ∷ [] = take_more script i l c.loop-lines-test.true ∙ ap (λ (x : List Line). take i script ++ x ∷ []) (sym c.lines-item.is) in
+    let to = subst (λ (ls : List (List Line)). IsPlayedTo rules ([] ∷ take i script) ls p marks) parted c.loop-lines.invariant in
+    let next = subst (λ (x : List Line). PlaysLines rules p x q) c.as_slice-2.ensures c.in_ok-play_phase-2.ensures in
+    subst (λ (ms : List ℕ). IsPlayedTo rules ([] ∷ take (i + 1) script) (drop (i + 1) script) q ms) (ap (λ (n : ℕ). marks ++ n ∷ []) (sym (ap length c.as_slice.ensures.value)) ∙ sym c.in_ok-push-2.ensures.items)
+    (subst (λ (ls : List (List Line)). IsPlayedTo rules ([] ∷ ls) (drop (i + 1) script) q (marks ++ length p.events.items ∷ [])) (sym more) (phase_more rules ([] ∷ take i script) (drop (i + 1) script) l p q marks to next))

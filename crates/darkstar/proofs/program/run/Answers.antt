@@ -1,11 +1,21 @@
-use Rattle.std.proofs.Common.{ap, List, ℕ, Err, Option, None, Some, IfSome, IsSomeAnd}
-use Rattle.darkstar.specs.Headline.{IsPlayable, IsNoScript}
+use Rattle.darkstar.proofs.Told.{told_played, told_once, not_both}
 use Rattle.darkstar.proofs.program.run.Goals as goal
 
--- told bytes are not both a script and none
-not_both : (bytes : Option (List ℕ)) → IsSomeAnd bytes IsPlayable → IfSome bytes IsNoScript → ⊥
-not_both None is isnt = absurd is
-not_both (Some xs) is isnt = isnt is.0 is.1
+pub returns-clause-bad_line : goal.returns-clause-bad_line
+returns-clause-bad_line g c = rw c.in-Err-BadScript.field-0-is at c.in-Err-BadScript.ensures.bad_line
+
+pub returns-clause-told_line : goal.returns-clause-told_line
+returns-clause-told_line g c = λ line.
+    told_once (g.S.Source.remaining c.args.input.now) line c.in-Err-BadScript.line (rw c.in-Err-BadScript.field-0-is at c.in-Err-BadScript.ensures.bad_line)
 
 pub returns-clause-complete : goal.returns-clause-complete
-returns-clause-complete g c = λ words script read put. not_both _ script (c.in-Err-NotYet.ensures.not_yet (ap Err c.in-Err-NotYet.field-0-is))
+returns-clause-complete g c = λ words script read put.
+    not_both (g.S.Source.remaining c.args.input.now) c.in-Err-BadScript.line script (rw c.in-Err-BadScript.field-0-is at c.in-Err-BadScript.ensures.bad_line)
+
+pub returns-in-Ok-put_all-clause-told_line : goal.returns-in-Ok-put_all-clause-told_line
+returns-in-Ok-put_all-clause-told_line g c = λ line.
+    told_played (g.S.Source.remaining c.args.input.now) (g.S.Source.remaining c.play.new.input) c.in-Ok.text line c.in-Ok.ensures.ok
+
+pub returns-in-Ok-clause-told_line : goal.returns-in-Ok-clause-told_line
+returns-in-Ok-clause-told_line g c = λ line.
+    told_played (g.S.Source.remaining c.args.input.now) (g.S.Source.remaining c.play.new.input) c.in-Ok.text line c.in-Ok.ensures.ok

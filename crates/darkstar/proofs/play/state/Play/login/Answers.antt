@@ -1,4 +1,4 @@
-use Rattle.std.proofs.Common.{Err, refl, subst, ◌++◌, ◌∷◌, [], ap, ◌∙◌, List, ℕ}
+use Rattle.std.proofs.Common.{Err, ◌++◌, ◌∷◌, [], ap, ◌∙◌, subst, List, ℕ}
 use Rattle.dk_types.specs.declared.event.Event.TheVariants as event
 use Rattle.dk_types.specs.declared.event.ConnectReply.TheVariants as reply
 use Rattle.dk_model.specs.declared.script.Line.TheVariants as line
@@ -19,8 +19,8 @@ unreachable-requires c =
 pub returns : goal.returns
 returns c =
     let old = c.args.self.now in
-    let new : Play = record { core = c.connect.new.self; means = c.insert.new.self; opened = c.push.new.self; events = c.push-2.new.self } in
+    let new : Play = record { core = c.connect.new.self; means = c.insert.new.self; opened = c.push.new.self; events = c.record.new.events } in
     let name = c.args.name.now in
     let found = rw c.in_ok-clone.ensures.cases at c.in_ok-insert.ensures.updates.0 in
     login_entered old new name c.in-Ok.conn c.in-Ok.ensures.event (means_of-Updates old.means.entries new.means.entries name c.in-Ok.conn found) c.in_ok-push.ensures.items
-    (c.in_ok-push-2.ensures.items ∙ ap (λ (n : List ℕ). old.events.items ++ event.Connect 0 n (reply.Number c.in-Ok.conn) ∷ []) c.in_ok-clone-2.ensures.cases)
+    (c.in_ok-record.ensures ∙ ap (λ (n : List ℕ). old.events.items ++ event.Connect 0 n (reply.Number c.in-Ok.conn) ∷ []) c.in_ok-name.ensures.cases)
