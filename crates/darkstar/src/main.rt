@@ -11,6 +11,8 @@ mod play;
 mod program;
 mod session;
 mod status;
+#[cfg(test)]
+mod tests;
 
 use dk_edge::{StdSink, StdSource};
 use dk_types::Words;
