@@ -6,14 +6,17 @@ use Rattle.dk_types.specs.declared.event.Event.{Event}
 use Rattle.dk_types.specs.declared.fault.NoMemory.{NoMemory}
 use Rattle.dk_types.specs.declared.item.Item.{Item}
 use Rattle.dk_types.specs.declared.item.Read.{Read}
+use Rattle.dk_types.specs.declared.job.Input.{Input}
+use Rattle.dk_types.specs.declared.number.ConnNo.{ConnNo}
 use Rattle.dk_model.specs.Legal.{Opened, IsLegal, IsFront, pass_of}
 use Rattle.dk_laws.proofs.LaterOn.{claims_stand}
+use Rattle.dk_connections.specs.declared.answers.PostRefused.{PostRefused}
 use Rattle.dk_core.specs.declared.claimed.Claimed.{Claimed}
 use Rattle.dk_core.specs.declared.answers.ClaimRefused.{ClaimRefused}
 use Rattle.dk_turn.proofs.Beginnings.{own-append}
 use Rattle.dk_turn.specs.Fronts.{Known, known, own, Continues, Called}
-use Rattle.dk_host.specs.Calls.{Entered, Grants, ReadsAt, IsClaimOf, claim_events}
-use Rattle.dk_host.specs.Steps.{Adds, Claims, Reads, MayEnd}
+use Rattle.dk_host.specs.Calls.{Entered, Grants, ReadsAt, IsClaimOf, IsSpared, claim_events, post_events}
+use Rattle.dk_host.specs.Steps.{Adds, Posts, Claims, Reads, MayEnd}
 
 -- events of which none is the pass's are of others
 others : (pass : ℕ) (events : List Event) → own pass_of pass events ≡ [] → AllByRecursion (λ e. pass_of e ≢ pass) events
@@ -58,6 +61,13 @@ module _ (o : Opened) (pass : ℕ) (r : Result (Option Claimed) ClaimRefused) (o
 
   pub claim_granted : new.number ≡ pass → Grants o new r
   claim_granted number = subst (λ n. Grants o (known n new.front) r) (sym number) (subst (λ es. Grants o (known pass es) r) (sym c.front) c.given.grants)
+
+module _ (o : Opened) (pass : ℕ) (conn : ConnNo) (input : Input) (r : Result (Unit {0}) PostRefused) (old new : List Event) (c : Called pass_of pass (λ before added. Posts o pass conn input before r added) old new) where
+  pub post_entered : Entered o pass (post_events pass conn input r) old new
+  post_entered = entered_by o pass (post_events pass conn input r) old new c c.given.adds
+
+  pub post_spared : IsSpared input r
+  post_spared = c.given.spared
 
 module _ (o : Opened) (pass : ℕ) (item : Item) (r : Result Read NoMemory) (old new : List Event) (c : Called pass_of pass (λ before added. Reads o item before r added) old new) where
   pub read_entered : Entered o pass [] old new

@@ -25,7 +25,7 @@ use Rattle.dk_core.specs.Answers as core
 use Rattle.dk_core.specs.Cores.{world_of, Adds as AddsEvents, IsStanding, IsGranted}
 use Rattle.dk_turn.specs.Fronts.{known}
 use Rattle.dk_host.specs.Books.{IsAt, IsKept}
-use Rattle.dk_host.specs.Calls.{connect_events, post_events, claim_events, hand_events, Stands, Grants}
+use Rattle.dk_host.specs.Calls.{connect_events, post_events, claim_events, hand_events, Stands, IsSpared, Grants}
 use Rattle.dk_host.specs.Steps.{Adds, MayEnd}
 
 -- the core stands for a legal history
@@ -113,6 +113,12 @@ module _ (o : Opened) (before : List Event) (old new : Core) (total : ℕ) (k : 
   post_at pass conn input (Err post_refused.Closed) h = more _ (h pass)
   post_at pass conn input (Err (post_refused.QueueFull waiting)) h = more _ (h pass)
   post_at pass conn input (Err post_refused.NoMemory) h = none_at h.0
+
+  pub post_spared : (conn : ConnNo) (input : Input) (r : Result (Unit {0}) PostRefused) → core.Posted old new conn input r → IsSpared input r
+  post_spared conn input (Ok taken) h = tt
+  post_spared conn input (Err post_refused.Closed) h = tt
+  post_spared conn input (Err (post_refused.QueueFull waiting)) h = tt
+  post_spared conn input (Err post_refused.NoMemory) h = h.1
 
   pub claim_at : (pass : ℕ) (r : Result (Option Claimed) ClaimRefused) → core.Claims old new pass r → IsAt o (before ++ claim_events pass r) new
   claim_at pass (Ok (Some c)) h = more _ h.0

@@ -1,5 +1,5 @@
 -- What a call by a pass does to the one history, and what it is answered.
-use Rattle.std.specs.Prelude.{◌≡◌, ℕ, List, [], ◌∷◌, ◌++◌, Option, Some, None, Result, Ok, Err, IfOk, IfSome}
+use Rattle.std.specs.Prelude.{◌≡◌, ℕ, List, [], ◌∷◌, ◌++◌, false, Option, Some, None, Result, Ok, Err, IfOk, IfSome}
 use Rattle.std.specs.List.{All}
 use Rattle.std.specs.FinMap.{get}
 use Rattle.dk_types.specs.declared.event.Event.{Event}
@@ -13,6 +13,8 @@ use Rattle.dk_types.specs.declared.item.Read.{Read}
 use Rattle.dk_types.specs.declared.job.Input.{Input}
 use Rattle.dk_types.specs.declared.number.ConnNo.{ConnNo}
 use Rattle.dk_model.specs.Legal.{Opened, opening_of, world_after, IsLegal, IsFront, pass_of}
+use Rattle.dk_model.specs.declared.waiting.Waiting.TheVariants as waits
+use Rattle.dk_model.specs.Deliveries.{is_disconnect}
 use Rattle.dk_model.specs.Finishes.{IsHonest}
 use Rattle.dk_model.specs.Sights.{IsReadAt}
 use Rattle.dk_txn.specs.declared.finished.Finished.{Finished}
@@ -48,6 +50,13 @@ post_events pass conn input (Ok taken) = event.Post pass conn input posted.Taken
 post_events pass conn input (Err post_refused.Closed) = event.Post pass conn input posted.Closed ∷ []
 post_events pass conn input (Err (post_refused.QueueFull waiting)) = event.Post pass conn input (posted.QueueFull waiting) ∷ []
 post_events pass conn input (Err post_refused.NoMemory) = []
+
+-- want of memory is no answer to a Disconnect
+abbrev pub IsSpared : Input → Result (Unit {0}) PostRefused → Type 0
+IsSpared input (Ok taken) = Unit {0}
+IsSpared input (Err post_refused.Closed) = Unit {0}
+IsSpared input (Err (post_refused.QueueFull waiting)) = Unit {0}
+IsSpared input (Err post_refused.NoMemory) = is_disconnect (waits.Input input) ≡ false
 
 abbrev pub claim_events : ℕ → Result (Option Claimed) ClaimRefused → List Event
 claim_events pass (Ok (Some c)) = event.Claim pass (claimed.Granted c.run c.at c.job) ∷ []

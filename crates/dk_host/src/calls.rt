@@ -4,7 +4,7 @@ ghost use Rattle.std.specs.List.{All};
 ghost use Rattle.dk_types.specs.declared.event.Event.TheVariants as event;
 ghost use Rattle.dk_model.specs.Lawful.{IsInput};
 ghost use Rattle.dk_model.specs.Legal.{pass_of};
-ghost use Rattle.dk_host.specs.Calls.{Entered, Grants, IsClaimOf, ReadsAt, claim_events, connect_events, hand_events, post_events};
+ghost use Rattle.dk_host.specs.Calls.{Entered, Grants, IsClaimOf, IsSpared, ReadsAt, claim_events, connect_events, hand_events, post_events};
 
 use crate::book::WorldBook;
 use crate::host::Host;
@@ -30,7 +30,7 @@ impl<W: Hosting, J: Naming> Host<W, J> {
         self.world.with(rt, pass, Connect { name })
     }
 
-    /// Puts an input last in its connection's queue.
+    /// Puts an input last in its connection's queue. A Disconnect takes no memory.
     pub fn post<R: Wait>(
         &self,
         rt: &R,
@@ -41,6 +41,7 @@ impl<W: Hosting, J: Naming> Host<W, J> {
         requires within { IsInput input }
         ensures number { pass.new.number ≡ pass.old.number }
         ensures entered { Entered W.opened pass.old.number (post_events pass.old.number conn input result) pass.old.front pass.new.front }
+        ensures spared { IsSpared input result }
         ensures named { All (λ e. pass_of e < J.name.passes) pass.new.front }
     {
         self.world.with(rt, pass, Post { conn, input })

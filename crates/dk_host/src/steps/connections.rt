@@ -67,14 +67,13 @@ impl<'a> NotingAll<Told<'a, Posted, Result<(), PostRefused>>, Event> for Post {
 
 impl<W: Hosting> Step<WorldBook<W>> for Post {
     ghost use Rattle.dk_model.specs.Lawful.{IsInput};
-    ghost use Rattle.dk_host.specs.Calls.{post_events};
-    ghost use Rattle.dk_host.specs.Steps.{Adds};
+    ghost use Rattle.dk_host.specs.Steps.{Posts};
 
     type Reply = Result<(), PostRefused>;
 
     ghost may = { λ s _ _. IsInput s.input };
 
-    ghost gives = { λ s pass before reply added. Adds W.opened (post_events pass s.conn s.input reply) before added };
+    ghost gives = { λ s pass before reply added. Posts W.opened pass s.conn s.input before reply added };
 
     fn apply(self, pass: u32, book: &mut WorldBook<W>) -> Result<(), PostRefused> {
         let Post { conn, input } = self;

@@ -1,7 +1,7 @@
 use Rattle.std.proofs.Common.{◌++◌, ap, subst, ◌∙◌}
 use Rattle.dk_host.specs.Calls.{post_events}
 use Rattle.dk_host.specs.Books.{IsKept}
-use Rattle.dk_host.proofs.Stepping.{adds, kept, post_of, post_at}
+use Rattle.dk_host.proofs.Stepping.{adds, kept, post_of, post_at, post_spared}
 use Rattle.dk_host.proofs.steps.connections.PostStepWorldBook.apply.Goals as goal
 
 pub invariant_of-book : goal.invariant_of-book
@@ -17,5 +17,8 @@ returns g c =
       post_events c.args.pass c.args.self.conn c.args.self.input c.post-reply.result,
       (c.note_all.ensures ∙ ap (λ x. c.book.inside.events ++ post_events c.args.pass c.args.self.conn x c.post-reply.result) c.of.ensures) ∙ ap (λ es. es ++ (post_events c.args.pass c.args.self.conn c.args.self.input c.post-reply.result)) c.book.view_is,
       (post_of c.args.pass c.args.self.conn c.args.self.input c.post-reply.result).by,
-      adds o c.args.book.now c.book.inside.core c.post-reply.new.self c.book.inside.commits.total k (post_events c.args.pass c.args.self.conn c.args.self.input c.post-reply.result) (post_at o c.args.book.now c.book.inside.core c.post-reply.new.self c.book.inside.commits.total k c.args.pass c.args.self.conn c.args.self.input c.post-reply.result c.post-reply.ensures.event),
+      record {
+        adds = adds o c.args.book.now c.book.inside.core c.post-reply.new.self c.book.inside.commits.total k (post_events c.args.pass c.args.self.conn c.args.self.input c.post-reply.result) (post_at o c.args.book.now c.book.inside.core c.post-reply.new.self c.book.inside.commits.total k c.args.pass c.args.self.conn c.args.self.input c.post-reply.result c.post-reply.ensures.event);
+        spared = post_spared o c.args.book.now c.book.inside.core c.post-reply.new.self c.book.inside.commits.total k c.args.self.conn c.args.self.input c.post-reply.result c.post-reply.ensures.event;
+      },
     )
