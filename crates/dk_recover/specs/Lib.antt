@@ -1,0 +1,5 @@
+pub mod Changes
+pub mod TaskChanges
+pub mod Worlds
+pub mod Bytes
+pub mod Records
