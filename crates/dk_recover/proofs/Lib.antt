@@ -11,3 +11,5 @@ pub mod Walked
 pub mod Spelled
 pub mod Damages
 pub mod Faults
+pub mod Table
+pub mod OnlyRead

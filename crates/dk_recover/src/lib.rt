@@ -8,6 +8,7 @@
 pub use fault::OpenFault;
 pub use reading::{after_payload, world_of_image};
 pub use records::next_world;
+pub use standing::{Standing, find_standing};
 pub use world::{Unfit, World};
 
 mod changes;
@@ -15,5 +16,6 @@ pub mod fault;
 mod listing;
 pub mod reading;
 pub mod records;
+pub mod standing;
 mod tasks;
 pub mod world;
