@@ -1,9 +1,10 @@
 -- One record read after others.
-use Rattle.std.specs.Prelude.{◌≡◌, ⊤, ℕ, Bool, true, false, List, [], ◌∷◌, ◌++◌, Result, Ok, Err}
+use Rattle.std.specs.Prelude.{◌≡◌, ⊤, ℕ, ◌+◌, Bool, true, false, List, [], ◌∷◌, ◌++◌, Result, Ok, Err}
 use Rattle.dk_model.specs.DurableWorlds.{DurableWorld}
-use Rattle.dk_model.specs.Stores.{StoreHeader, header_spelling, Reads}
+use Rattle.dk_model.specs.Stores.{StoreHeader, header_spelling, end_of, Reads}
 use Rattle.dk_model.specs.Recovered.{HasWorld, IsDamaged}
 use Rattle.dk_journal.specs.Scanning.{IsScanned}
+use Rattle.dk_journal.specs.declared.journal.Journal.{Journal}
 use Rattle.dk_journal.specs.declared.refused.JournalRefused.{JournalRefused}
 use Rattle.dk_journal.specs.declared.refused.JournalRefused.TheVariants as journal
 use Rattle.dk_types.specs.declared.side.Side.{Side}
@@ -26,6 +27,15 @@ IsStep file header done at end (Err NoMemory) = ⊤
 IsStep file header done at end (Err DiskFault) = ⊤
 IsStep file header done at end (Err (NotAStore side place)) = ⊥
 IsStep file header done at end (Err (WrongGame found)) = ⊥
+
+-- all records, with their world and the journal; or damage
+abbrev pub IsWhole : List ℕ → StoreHeader → Result (DurableWorld × Journal) OpenFault → Type 0
+IsWhole file header (Ok r) = (payloads : List (List ℕ)) × Reads file (header_spelling header) payloads × HasWorld header payloads r.0 × (r.1.length ≡ end_of (header_spelling header) payloads + 1)
+IsWhole file header (Err (Damaged side place)) = IsDamaged file header place
+IsWhole file header (Err NoMemory) = ⊤
+IsWhole file header (Err DiskFault) = ⊤
+IsWhole file header (Err (NotAStore side place)) = ⊥
+IsWhole file header (Err (WrongGame found)) = ⊥
 
 -- what a scan's refusal is to one who opens the store
 abbrev pub IsFaultOf : JournalRefused → Side → OpenFault → Type 0
