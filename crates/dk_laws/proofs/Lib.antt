@@ -18,3 +18,5 @@ pub mod SoundOpenings
 pub mod SoundHistories
 pub mod ShortBodies
 pub mod Lawfuls
+pub mod LaterOn
+pub mod Between

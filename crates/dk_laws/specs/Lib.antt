@@ -3,3 +3,4 @@ pub mod EffectsLaw
 pub mod MessagesLaw
 pub mod HistoryLaws
 pub mod SightsLaw
+pub mod FrontsLaw

@@ -5,6 +5,10 @@
 #![tactic(auto)]
 
 pub use effects::effects_lead_there;
+pub use fronts::{
+    changes_tell_of_commits, claims_stand_on, commits_alone_change, commits_are_counted,
+    fronts_are_legal, handed_from_the_first, honest_runs_stay_honest, valid_runs_stay_valid,
+};
 pub use histories::{
     claims_stand_ready, each_commit_was_claimed_once, events_lead_to_one_world, keys_do_not_return,
     numbers_are_new, worlds_stay_valid,
@@ -14,6 +18,7 @@ pub use operations::{calls_are_lawful, operations_are_lawful};
 pub use sights::sights_tell;
 
 mod effects;
+mod fronts;
 mod histories;
 mod messages;
 mod operations;

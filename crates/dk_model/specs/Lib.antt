@@ -16,6 +16,7 @@ pub mod Events
 pub mod Histories
 pub mod Successors
 pub mod Openings
+pub mod Legal
 pub mod Messages
 pub mod Sights
 pub mod Finishes
