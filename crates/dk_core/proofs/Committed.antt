@@ -10,6 +10,7 @@ use Rattle.dk_types.specs.declared.number.TaskKey.{TaskKey}
 use Rattle.dk_types.specs.declared.item.Item.{Item}
 use Rattle.dk_types.specs.declared.item.Item.TheVariants as ask
 use Rattle.dk_types.specs.declared.item.Read.{Read}
+use Rattle.dk_types.specs.declared.durable.Effects.{Effects}
 use Rattle.dk_types.specs.declared.job.Out.{Out}
 use Rattle.dk_types.specs.declared.event.Event.{Event}
 use Rattle.dk_types.specs.declared.event.Event.TheVariants as event
@@ -18,6 +19,7 @@ use Rattle.dk_model.specs.Worlds.{World, Claim}
 use Rattle.dk_model.specs.Deliveries.{delivered, without_done}
 use Rattle.dk_model.specs.Events.{Meaning, step_of}
 use Rattle.dk_model.specs.Finishes.{told_step, IsHonest}
+use Rattle.dk_model.specs.Histories.{Leads}
 use Rattle.dk_model.specs.Lawful.{AreLawful}
 use Rattle.dk_model.specs.Openings.{opening}
 use Rattle.dk_model.specs.Picks.{is_task_of, is_claimed}
@@ -42,12 +44,14 @@ use Rattle.dk_core.specs.declared.world.Core.{Core}
 use Rattle.dk_core.specs.declared.claimed.Claimed.{Claimed}
 use Rattle.dk_core.specs.Claiming.{Claiming, without_run}
 use Rattle.dk_core.specs.declared.prepared.Prepared.{Prepared}
-use Rattle.dk_core.specs.Rooms.{HasRoom}
-use Rattle.dk_core.specs.Cores.{world_of, IsTracked, StandsFor, Stays, IsStanding, IsGranted, KeepsReady}
+use Rattle.dk_core.specs.Rooms.{HasPlaces, HasRoom, IsNoLess, places_of}
+use Rattle.dk_core.specs.Numbers.{HasNumbers}
+use Rattle.dk_core.specs.Cores.{world_of, IsTracked, StandsFor, Stays, HasMoreRoom, IsGranted, KeepsReady}
 use Rattle.dk_core.specs.Marking.{IsTaskFreed}
-use Rattle.dk_core.specs.Answers.{Commits, IsPrepared}
+use Rattle.dk_core.specs.Answers.{Commits, HasRoomFor, IsPrepared}
 use Rattle.dk_core.proofs.Having.{never, has_which}
 use Rattle.dk_core.proofs.Standing.{sound_of, entered}
+use Rattle.dk_core.proofs.Entering.{with_connections}
 use Rattle.dk_core.proofs.Tracked.{tracked_less}
 use Rattle.dk_core.proofs.Granted.{own_key, task_alone, freed_tasks}
 
@@ -102,14 +106,15 @@ module _ (rules : Meaning) (lawful : AreLawful rules) (d : DurableWorld) (budget
       ] refl
 
 -- the world after the effects, and the claims without the run's
-abbrev pub with_run_ended : Core → Stamped → Claiming → Core
-with_run_ended c world claims = record c { world = world; claims = claims }
+abbrev pub with_run_ended : (c : Core) (world : Stamped) (claims : Claiming) → HasNumbers world.commits claims c.connections.connections → Core
+with_run_ended c world claims numbers = record c { world = world; claims = claims; numbers = numbers }
 
-module _ (old : Core) (claimed : Claimed) (f : Finished) (seq : ℕ) (mid : Stamped) (claims : Claiming) (freed : Core) (shown : Shown) (messages : List (ConnNo × Out)) where
+module _ (old : Core) (claimed : Claimed) (f : Finished) (seq : ℕ) (mid : Stamped) (claims : Claiming) (ended_numbers : HasNumbers mid.commits claims old.connections.connections) (freed : Core) (shown : Shown)
+    (numbers : HasNumbers freed.world.commits freed.claims shown.connections) (messages : List (ConnNo × Out)) where
   pub commits : IsGranted old claimed → AllByRecursion (Stands old.world) f.reads.items → messages ≡ f.outs.items
-      → seq ≡ old.world.commits + 1 → CommitsSteps old.world mid claimed.run (told f) → claims ≡ without_run claimed.run old.claims → IsTaskFreed claimed.job (with_run_ended old mid claims) freed
+      → seq ≡ old.world.commits + 1 → CommitsSteps old.world mid claimed.run (told f) → claims ≡ without_run claimed.run old.claims → IsTaskFreed claimed.job (with_run_ended old mid claims ended_numbers) freed
       → all_of shown.connections ≡ without_done (delivered claimed.job messages (all_of freed.connections.connections)) → KeepsMarksBut claimed.job freed.connections.connections shown.connections → IsSwept shown.connections
-      → Commits old (record freed { connections = shown }) claimed f seq
+      → Commits old (with_connections freed shown numbers) claimed f seq
   commits held stand sent number steps ended t connected marks swept rules d budget events lawful honest s =
       let w = world_of old in
       let claim : Claim = record { pass = claimed.pass; job = claimed.job; at = claimed.at } in
@@ -122,7 +127,7 @@ module _ (old : Core) (claimed : Claimed) (f : Finished) (seq : ℕ) (mid : Stam
       let less : freed.claims ≡ without_run claimed.run old.claims = t.same.claims ∙ ended in
       let world : durable_of freed.world ≡ stepped.world = t.same.durable ∙ comes.world in
       let outs : messages ≡ stepped.outs = sent ∙ ap (λ x. x.outs) is in
-      let new : Core = record freed { connections = shown } in
+      let new : Core = with_connections freed shown numbers in
       let e = event.Commit claimed.pass claimed.run seq f.outcome in
       let left : (key : TaskKey) (k : Kept) → get freed.world.tasks key ≡ Some k → k.claimed ≡ (is_claimed (is_task_of key) w && not (is_task_of key claimed.job))
       = λ key k g. let x = freed_tasks claimed.job mid.tasks key k (sym (ap (λ m. get m key) t.tasks) ∙ g) in
@@ -161,12 +166,33 @@ seen_with_room room w (ask.Bound name) = refl
 seen_with_room room w (ask.NextAfter after) = refl
 seen_with_room room w (ask.Task key) = refl
 
+roomy_seen : (new old : Stamped) → new ≡ with_room new.room old → (item : Item) → seen_now new item ≡ seen_now old item
+roomy_seen new old is item = ap (λ v. seen_now v item) is ∙ seen_with_room new.room old item
+
 -- so a core with more room stands for the same history
-pub stays_with : (old : Core) (world : Stamped) → world ≡ with_room world.room old.world → Stays old (record old { world = world })
-stays_with old world is rules d budget events s =
-    subst (λ v. StandsFor rules d budget (events ++ []) (record old { world = v })) (sym is)
-    (subst (λ es. StandsFor rules d budget es (record old { world = with_room world.room old.world })) (sym (append-nil events))
-    record { valid = s.valid; within = s.within; leads = s.leads; stamps = λ item. seen_with_room world.room old.world item ∙ s.stamps item; tracked = s.tracked })
+pub stays_with : (old new : Core) → HasMoreRoom old new → Stays old new
+stays_with old new more rules d budget events s =
+    let world : world_of new ≡ world_of old = λ i. record {
+      durable = durable_of (more.world i);
+      moment = more.moment i;
+      next = (more.claims i).next;
+      budget = (more.claims i).budget;
+      after_task = more.after_task i;
+      claims = (more.claims i).claims;
+      connections = all_of (more.connections i).connections;
+    } in
+    subst (λ es. StandsFor rules d budget es new) (sym (append-nil events)) record {
+      valid = s.valid;
+      within = s.within;
+      leads = subst (Leads rules (opening d budget) events) (sym world) s.leads;
+      stamps = λ item. roomy_seen new.world old.world more.world item ∙ s.stamps item ∙ ap (λ (w : World). seen_in w.durable (stamp rules (opening d budget) events item) item) (sym world);
+      tracked = subst (λ x. x) (λ i. IsTracked (sym world i) (sym more.connections i).connections (sym more.world i).tasks) s.tracked;
+    }
+
+-- the core with other room
+pub more_room : (old : Core) (world : Stamped) (numbers : HasNumbers world.commits old.claims old.connections.connections) → world ≡ with_room world.room old.world → IsNoLess old.world.room world.room
+    → HasMoreRoom old (record old { world = world; numbers = numbers })
+more_room old world numbers is kept = record { world = is; connections = refl; claims = refl; moment = refl; after_task = refl; room = kept }
 
 -- and the reads that stood stand
 pub stand_with : (old world : Stamped) (reads : List (Item × Read)) → world ≡ with_room world.room old → AllByRecursion (Stands old) reads → AllByRecursion (Stands world) reads
@@ -178,10 +204,6 @@ pub stood_with : (old world : Stamped) (reads : List (Item × Read)) → world �
 stood_with old world [] is h = tt
 stood_with old world (r ∷ reads) is h = (h.0 ∙ ap (λ v. seen_now v r.0) is ∙ seen_with_room world.room old r.0, stood_with old world reads is h.1)
 
--- it stands for some history still
-pub standing_still : (old new : Core) → IsStanding old → Stays old new → IsStanding new
-standing_still old new s stays = record { rules = s.rules; opened = s.opened; budget = s.budget; events = s.events ++ []; lawful = s.lawful; stands = stays s.rules s.opened s.budget s.events s.stands }
-
 seen_still : (old new : Stamped) → ((item : Item) → seen_now new item ≡ seen_now old item) → (reads : List (Item × Read)) → AllByRecursion (Stands old) reads → AllByRecursion (Stands new) reads
 seen_still old new seen [] h = tt
 seen_still old new seen (r ∷ reads) h = (h.0 ∙ sym (seen r.0), seen_still old new seen reads h.1)
@@ -191,8 +213,19 @@ pub prepared_still : (old new : Core) (claimed : Claimed) (f : Finished) (p : Pr
 prepared_still old new claimed f p keeps is = record {
   ready = record {
     stand = seen_still old.world new.world keeps.seen f.reads.items is.ready.stand;
-    room = subst (λ r. HasRoom r f.effects) (sym keeps.room) is.ready.room;
     messages = is.ready.messages;
   };
   entry = is.entry ∙ (λ i. record { seq = sym keeps.commits i + 1; run = claimed.run; effects = f.effects });
 }
+
+-- and so is the room
+pub room_still : (old new : Core) (f : Finished) → KeepsReady old new → HasRoomFor old f → HasRoomFor new f
+room_still old new f keeps room = subst (λ r. HasPlaces r (places_of f.effects)) (sym keeps.room) room
+
+-- where there are places enough, there is room for each kind
+pub room_of : (room : Room) (e : Effects) → HasPlaces room (places_of e) → HasRoom room e
+room_of room e h =
+    let objects = h.objects in
+    let names = h.names in
+    let tasks = h.tasks in
+    record { objects = omega (arith, objects); names = omega (arith, names); tasks = omega (arith, tasks) }

@@ -35,6 +35,7 @@ use Rattle.dk_core.specs.declared.choice.Choice.TheVariants as choose
 use Rattle.dk_core.specs.declared.world.Core.{Core}
 use Rattle.dk_core.specs.declared.claimed.Claimed.{Claimed}
 use Rattle.dk_core.specs.Claiming.{Claiming, with_grant, without_grant}
+use Rattle.dk_core.specs.Numbers.{HasNumbers, HasNumbers-prop}
 use Rattle.dk_core.specs.Cores.{world_of, IsTracked, StandsFor, Adds, IsGranted}
 use Rattle.dk_core.specs.Picking.{job_of, AreMarks, IsThere, IsPick}
 use Rattle.dk_core.specs.Marking.{is_task, conn_in, tasks_marked, tasks_freed, IsMarked, IsFreed}
@@ -116,13 +117,19 @@ module _ (rules : Meaning) (lawful : AreLawful rules) (d : DurableWorld) (budget
       free_at conn (get old.connections.connections conn) refl (subst (IsThere old) at there)
 
 -- the core with other claims
-abbrev pub with_claims : Core → Claiming → Core
-with_claims c claims = record c { claims = claims }
+abbrev pub with_claims : (c : Core) (claims : Claiming) → HasNumbers c.world.commits claims c.connections.connections → Core
+with_claims c claims numbers = record c { claims = claims; numbers = numbers }
 
-pub claims_granted : (old new : Core) (pass : ℕ) (x : Choice) (j : Job) (claims : Claiming) → IsPick old (Some x) → IsThere old x → (old.world.commits ≡ 0 → x ≡ choose.First)
+-- where they are the same, it is the same core
+pub same_claims : (c : Core) (claims : Claiming) (numbers : HasNumbers c.world.commits claims c.connections.connections) → claims ≡ c.claims → with_claims c claims numbers ≡ c
+same_claims c claims numbers same =
+    subst (λ x. (n : HasNumbers c.world.commits x c.connections.connections) → with_claims c x n ≡ c) (sym same)
+    (λ n. ap (with_claims c c.claims) (HasNumbers-prop c.world.commits c.claims c.connections.connections n c.numbers)) numbers
+
+pub claims_granted : (old new : Core) (pass : ℕ) (x : Choice) (j : Job) (claims : Claiming) (numbers : HasNumbers old.world.commits claims old.connections.connections) → IsPick old (Some x) → IsThere old x → (old.world.commits ≡ 0 → x ≡ choose.First)
     → job_of old (Some x) ≡ Some j → has_left old.claims.budget ≡ true → old.claims.next < NUMBERS_END → claims ≡ with_grant (record { pass = pass; job = j; at = old.moment }) old.claims
-    → IsMarked x old.claims.next (with_claims old claims) new → Adds old new (event.Claim pass (reply.Granted (record { 0 = old.claims.next }) old.moment j) ∷ [])
-claims_granted old new pass x j claims is there first what left few granted m rules d budget events lawful s =
+    → IsMarked x old.claims.next (with_claims old claims numbers) new → Adds old new (event.Claim pass (reply.Granted (record { 0 = old.claims.next }) old.moment j) ∷ [])
+claims_granted old new pass x j claims numbers is there first what left few granted m rules d budget events lawful s =
     let k = chosen_job old x j what in
     let w = world_of old in
     let all = old.connections.connections in
@@ -186,9 +193,9 @@ freed_tasks (job.Message conn name body) tasks = λ key t e. (t, e, not_false t.
 freed_tasks (job.Channel conn name channel body) tasks = λ key t e. (t, e, not_false t.claimed)
 freed_tasks (job.Disconnect conn name graceful) tasks = λ key t e. (t, e, not_false t.claimed)
 
-pub releases : (old new : Core) (claimed : Claimed) (claims : Claiming) → IsGranted old claimed → claims ≡ without_grant claimed.run old.claims → IsFreed claimed.job (with_claims old claims) new
+pub releases : (old new : Core) (claimed : Claimed) (claims : Claiming) (numbers : HasNumbers old.world.commits claims old.connections.connections) → IsGranted old claimed → claims ≡ without_grant claimed.run old.claims → IsFreed claimed.job (with_claims old claims numbers) new
     → Adds old new (event.Release claimed.pass claimed.run ∷ [])
-releases old new claimed claims held gone f rules d budget events lawful s =
+releases old new claimed claims numbers held gone f rules d budget events lawful s =
     let w = world_of old in
     let all = old.connections.connections in
     let claim : Claim = record { pass = claimed.pass; job = claimed.job; at = claimed.at } in

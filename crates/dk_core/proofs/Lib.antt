@@ -17,9 +17,9 @@ pub mod Tracked
 pub mod Marked
 pub mod Standing
 pub mod Runnable
-pub mod Numbered
-pub mod Entering
 pub mod Counted
+pub mod Drawn
+pub mod Entering
 pub mod Choosing
 pub mod Granted
 pub mod Committed

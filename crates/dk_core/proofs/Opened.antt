@@ -1,27 +1,30 @@
 -- A core that was opened stands for the history of no events, and its reads are those of its history.
-use Rattle.std.proofs.Common.{◌≡◌, ℕ, Bool, false, List, [], Option, Some, sym, ap, ◌∙◌}
-use Rattle.std.specs.FinMap.{get, get-empty, empty}
+use Rattle.std.proofs.Common.{◌≡◌, ℕ, Bool, false, List, [], Option, None, Some, is_some, sym, ap, ◌∙◌, arith}
+use Rattle.std.specs.FinMap.{FinMap, get, get-empty, empty, contains_key, len, len-empty}
 use Rattle.dk_types.specs.declared.number.ConnNo.{ConnNo}
 use Rattle.dk_types.specs.declared.number.TaskKey.{TaskKey}
 use Rattle.dk_types.specs.declared.item.Item.{Item}
 use Rattle.dk_types.specs.declared.item.Read.{Read}
 use Rattle.dk_types.specs.declared.job.Job.{Job}
 use Rattle.dk_types.specs.declared.event.Event.{Event}
-use Rattle.dk_types.specs.Keys.{run_cmp}
+use Rattle.dk_types.specs.Keys.{run_cmp, conn_cmp}
 use Rattle.dk_model.specs.DurableWorlds.{DurableWorld, answer}
 use Rattle.dk_model.specs.Validity.{IsValid, next_of}
-use Rattle.dk_model.specs.Worlds.{World}
+use Rattle.dk_model.specs.Worlds.{World, Claim}
 use Rattle.dk_model.specs.Events.{Meaning}
 use Rattle.dk_model.specs.Openings.{opening, counting, with_sessions, budget_of}
 use Rattle.dk_model.specs.Sights.{stamp, seen_in, IsReadAt}
 use Rattle.dk_model.proofs.Maps.{not_both}
+use Rattle.dk_laws.proofs.Numbers.{opening_below}
 use Rattle.dk_laws.proofs.OneWorld.{events_lead}
 use Rattle.dk_laws.proofs.OpenClaims.{TheClaims}
 use Rattle.dk_tasks.specs.Tasks.{Kept}
 use Rattle.dk_connections.specs.Linked.{Linked, all_of, IsSwept}
+use Rattle.dk_connections.proofs.Kept.{some_in}
 use Rattle.dk_core.specs.StampedWorlds.{durable_of, read_now, HasStamps}
 use Rattle.dk_core.specs.declared.world.Core.{Core}
 use Rattle.dk_core.specs.Claiming.{Claiming}
+use Rattle.dk_core.specs.Numbers.{HasNumbers}
 use Rattle.dk_core.specs.Cores.{world_of, StandsFor}
 use Rattle.dk_core.proofs.Having.{has, never, has_which}
 
@@ -69,3 +72,15 @@ read_at c item read is rules d budget events s =
       answered = ap (λ r. r.answer) is ∙ ap (λ (w : World). answer w.durable item) at;
       saw = ap (λ r. r.seen) is ∙ s.stamps item ∙ ap (λ (w : World). seen_in w.durable (stamp rules (opening d budget) events item) item) at;
     }
+
+-- and its numbers are drawn
+pub numbers_first : (d : DurableWorld) (commits : ℕ) (claims : Claiming) (all : FinMap conn_cmp Linked) → IsValid d → commits ≡ d.commits → claims.claims ≡ empty → claims.next ≡ next_of d.last
+    → all_of all ≡ with_sessions (counting d) empty → HasNumbers commits claims all
+unfolding opening
+numbers_first d commits claims all valid number none next is =
+    let zero : len claims.claims ≡ 0 = ap len none ∙ len-empty run_cmp Claim in
+    let few = valid.commits in
+    let last = valid.last in (
+      λ conn le. some_in all conn ∙ ap (λ m. contains_key m conn) is ∙ ap is_some ((opening_below d None).connections conn (omega (arith, next, le))),
+      (omega (arith, number, zero, next, few), omega (arith, next, last)),
+    )

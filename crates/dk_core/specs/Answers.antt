@@ -23,7 +23,7 @@ use Rattle.dk_connections.specs.declared.answers.PostRefused.{PostRefused}
 use Rattle.dk_connections.specs.declared.answers.PostRefused.TheVariants as post_refused
 use Rattle.dk_connections.specs.declared.answers.Handed.{Handed}
 use Rattle.dk_core.specs.Changes.{Stands, IsFirstChanged}
-use Rattle.dk_core.specs.Rooms.{HasRoom}
+use Rattle.dk_core.specs.Rooms.{HasPlaces, places_of}
 use Rattle.dk_core.specs.declared.world.Core.{Core}
 use Rattle.dk_core.specs.declared.claimed.Claimed.{Claimed}
 use Rattle.dk_core.specs.declared.answers.ConnectRefused.{ConnectRefused}
@@ -61,30 +61,33 @@ abbrev pub Hands : Core → Core → ConnNo → ℕ → Result Handed NoMemory �
 Hands old new conn most (Ok handed) = (pass : ℕ) → Adds old new (event.Hand pass conn most handed.outs handed.end ∷ [])
 Hands old new conn most (Err refused) = new ≡ old
 
--- the reads of the run stand, and there is room for its effects and its messages
+-- the reads of the run stand, and these are its messages
 pub record IsReady (c : Core) (f : Finished) (outs : List (ConnNo × Out)) : Type 0 where
   pub stand : AllByRecursion (Stands c.world) f.reads.items
-  pub room : HasRoom c.world.room f.effects
   pub messages : outs ≡ f.outs.items
+
+-- there is room for the effects of the run
+abbrev pub HasRoomFor : Core → Finished → Type 0
+HasRoomFor c f = HasPlaces c.world.room (places_of f.effects)
 
 -- why nothing is made ready: a read no longer stands, and the first such is told
 abbrev pub TellsRefused : Core → Finished → PrepareRefused → Type 0
 TellsRefused c f (prepare_refused.Retry changed) = IsFirstChanged c.world f.reads.items changed
 TellsRefused c f prepare_refused.NoMemory = Unit {0}
 
--- what is made ready, or why it is not
+-- what is made ready, with the room, or why it is not
 abbrev pub Readies : Core → Core → Finished → Result (List (ConnNo × Out)) PrepareRefused → Type 0
-Readies old new f (Ok messages) = IsReady new f messages
+Readies old new f (Ok messages) = IsReady new f messages × HasRoomFor new f
 Readies old new f (Err refused) = TellsRefused old f refused
 
--- the reads of the run stand, and all that its commit needs is made
+-- the reads of the run stand, and these are the messages and the entry of its commit, which comes next
 pub record IsPrepared (c : Core) (claimed : Claimed) (f : Finished) (p : Prepared) : Type 0 where
   pub ready : IsReady c f p.deliveries
   pub entry : p.entry ≡ record { seq = c.world.commits + 1; run = claimed.run; effects = f.effects }
 
--- what is prepared, or why it is not; the core is as it was but for its room
+-- what is prepared, with the room, or why it is not; the core is as it was but for its room
 abbrev pub Prepares : Core → Core → Claimed → Finished → Result Prepared PrepareRefused → Type 0
-Prepares old new claimed f (Ok p) = IsPrepared new claimed f p
+Prepares old new claimed f (Ok p) = IsPrepared new claimed f p × HasRoomFor new f
 Prepares old new claimed f (Err refused) = TellsRefused old f refused
 
 -- an honest run is committed: the event is its Commit

@@ -20,7 +20,8 @@ use Rattle.dk_model.specs.Sights.{stamp}
 use Rattle.dk_model.specs.Lawful.{AreLawful, IsWithinLimits}
 use Rattle.dk_tasks.specs.Tasks.{Kept}
 use Rattle.dk_connections.specs.Linked.{Linked, all_of, IsSwept}
-use Rattle.dk_core.specs.StampedWorlds.{durable_of, seen_now, HasStamps}
+use Rattle.dk_core.specs.StampedWorlds.{durable_of, seen_now, with_room, HasStamps}
+use Rattle.dk_core.specs.Rooms.{IsNoLess}
 use Rattle.dk_core.specs.declared.world.Core.{Core}
 use Rattle.dk_core.specs.declared.claimed.Claimed.{Claimed}
 
@@ -77,6 +78,15 @@ pub record KeepsReady (old new : Core) : Type 0 where
   pub seen : (item : Item) → seen_now new.world item ≡ seen_now old.world item
   pub commits : new.world.commits ≡ old.world.commits
   pub room : new.world.room ≡ old.world.room
+
+-- the core is as it was but for the room of its stores, none of which is less
+pub record HasMoreRoom (old new : Core) : Type 0 where
+  pub world : new.world ≡ with_room new.world.room old.world
+  pub connections : new.connections ≡ old.connections
+  pub claims : new.claims ≡ old.claims
+  pub moment : new.moment ≡ old.moment
+  pub after_task : new.after_task ≡ old.after_task
+  pub room : IsNoLess old.world.room new.world.room
 
 -- the core stands for some history of lawful rules
 pub record IsStanding (c : Core) : Type 0 where

@@ -6,6 +6,7 @@ pub mod Changes
 pub mod Listings
 pub mod Firsts
 pub mod Claiming
+pub mod Numbers
 pub mod Cores
 pub mod Marking
 pub mod Picking

@@ -6,17 +6,17 @@ ghost use Rattle.dk_model.specs.Events.{granted_of, has_left as is_left};
 ghost use Rattle.dk_model.specs.Openings.{budget_of};
 ghost use Rattle.dk_core.specs.Claiming.{budget_in, with_grant, without_grant, without_run};
 
+use crate::claimed::Claimed;
 use dk_map::OrderedMap;
-use dk_types::{Job, NoMemory, RunNo};
+use dk_types::{NoMemory, RunNo};
 use std::alloc::Global;
 use std::marker::Model;
+use std::snapshot::Snapshot;
 
-/// A claimed run: by which pass, for what, and at which moment, in ms.
+/// A claimed run, of which contracts alone see by which pass, for what and at which moment: no end of a claim looks at that.
 #[derive(Drop)]
 pub(crate) struct Held {
-    pub(crate) pass: u32,
-    pub(crate) job: Job,
-    pub(crate) at: u64,
+    claimed: Snapshot<Claimed>,
 }
 
 impl Model for Held {
@@ -28,16 +28,18 @@ impl Model for Held {
 
     ghost coded = { claim_code jobs.the_row.coded };
 
-    ghost view = { λ h. record { pass = h.pass; job = h.job; at = h.at } };
+    ghost view = { λ h. record { pass = h.claimed.value.pass; job = h.claimed.value.job; at = h.claimed.value.at } };
 }
 
 impl Held {
     ghost use Rattle.dk_model.specs.Worlds.{Claim};
 
-    pub(crate) fn new(pass: u32, job: Job, at: u64) -> Held
-        ensures { result ≡ record { pass = pass; job = job; at = at } }
+    pub(crate) fn of(claimed: &Claimed) -> Held
+        ensures { result ≡ record { pass = claimed.now.pass; job = claimed.now.job; at = claimed.now.at } }
     {
-        Held { pass, job, at }
+        Held {
+            claimed: Snapshot::of(claimed),
+        }
     }
 }
 

@@ -1,8 +1,7 @@
 // Commits.
 ghost use Rattle.std.specs.Prelude.{◌≡◌, ◌+◌, IfOk};
-ghost use Rattle.dk_core.specs.StampedWorlds.{with_room};
-ghost use Rattle.dk_core.specs.Answers.{Commits, CommitsOrTells, IsPrepared, IsReady, Prepares, Readies};
-ghost use Rattle.dk_core.specs.Cores.{IsGranted, IsStanding, Stays};
+ghost use Rattle.dk_core.specs.Answers.{Commits, CommitsOrTells, HasRoomFor, IsPrepared, IsReady, Prepares, Readies};
+ghost use Rattle.dk_core.specs.Cores.{HasMoreRoom, IsGranted, Stays};
 
 use crate::answers::PrepareRefused;
 use crate::claimed::Claimed;
@@ -19,15 +18,15 @@ fn copy_effects(effects: &Effects) -> Result<Effects, NoMemory>
 }
 
 impl Core {
-    /// Looks whether all reads of a finished run stand, and makes what its commit needs. Nothing is entered.
+    /// Looks whether all reads of a finished run stand, and makes what its commit needs. Nothing is entered. The room of its
+    /// messages is in what is told; the room of its effects stays in the world, where commits alone take of it.
     pub fn prepare(
         &mut self,
         claimed: &Claimed,
         finished: &Finished,
     ) -> Result<Prepared, PrepareRefused>
         requires granted { IsGranted self.old claimed.now }
-        requires standing { IsStanding self.old }
-        ensures same { self.new ≡ record (self.old) { world = with_room self.new.world.room self.old.world } }
+        ensures same { HasMoreRoom self.old self.new }
         ensures prepares { Prepares self.old self.new claimed.now finished.now result }
         ensures granted { IsGranted self.new claimed.now }
         ensures stays { Stays self.old self.new }
@@ -44,7 +43,7 @@ impl Core {
     /// Looks whether all reads of a finished run stand, and makes the room of its commit: that of its messages is told, and
     /// that of its effects stays in the world.
     fn make_ready(&mut self, finished: &Finished) -> Result<Deliveries, PrepareRefused>
-        ensures same { self.new ≡ record (self.old) { world = with_room self.new.world.room self.old.world } }
+        ensures same { HasMoreRoom self.old self.new }
         ensures ready { Readies self.old self.new finished.now result }
         ensures stays { Stays self.old self.new }
     {
@@ -56,12 +55,12 @@ impl Core {
         Ok(deliveries)
     }
 
-    /// Enters the commit of a finished run for which all was prepared and since whose `prepare` nothing was entered, and
+    /// Enters the commit of a finished run for which all was prepared and since whose `prepare` no commit was entered, and
     /// tells its number. It takes no memory.
     pub fn publish(&mut self, claimed: Claimed, finished: Finished, prepared: Prepared) -> u64
         requires granted { IsGranted self.old claimed }
-        requires standing { IsStanding self.old }
         requires prepared { IsPrepared self.old claimed finished prepared }
+        requires room { HasRoomFor self.old finished }
         ensures number { result ≡ self.old.world.commits + 1 }
         ensures commits { Commits self.old self.new claimed finished result }
     {
@@ -72,8 +71,8 @@ impl Core {
     /// Enters the commit of a finished run whose room is made.
     fn enter(&mut self, claimed: Claimed, finished: Finished, deliveries: Deliveries) -> u64
         requires granted { IsGranted self.old claimed }
-        requires standing { IsStanding self.old }
         requires ready { IsReady self.old finished deliveries }
+        requires room { HasRoomFor self.old finished }
         ensures number { result ≡ self.old.world.commits + 1 }
         ensures commits { Commits self.old self.new claimed finished result }
     {
@@ -93,7 +92,6 @@ impl Core {
         finished: Finished,
     ) -> Result<u64, (Claimed, PrepareRefused)>
         requires granted { IsGranted self.old claimed }
-        requires standing { IsStanding self.old }
         ensures { CommitsOrTells self.old self.new claimed finished result }
     {
         match self.make_ready(&finished) {

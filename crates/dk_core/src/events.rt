@@ -14,7 +14,6 @@ use dk_types::{ConnNo, Input, Name, NoMemory};
 impl Core {
     /// Makes a connection, whose login waits.
     pub fn connect(&mut self, name: &Name) -> Result<ConnNo, ConnectRefused>
-        requires standing { IsStanding self.old }
         ensures event { Connected self.old self.new name.now result }
         ensures ready { KeepsReady self.old self.new }
     {

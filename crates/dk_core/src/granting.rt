@@ -40,8 +40,7 @@ impl Core {
             at: self.moment,
             job: self.job(choice)?,
         };
-        let held = Held::new(pass, claimed.copy_job()?, self.moment);
-        self.claims.grant(held)?;
+        self.claims.grant(Held::of(&claimed))?;
         self.mark(choice, next);
         Ok(Some(claimed))
     }

@@ -23,4 +23,5 @@ mod events;
 mod granting;
 pub mod opening;
 pub mod prepared;
+mod rooms;
 pub mod world;

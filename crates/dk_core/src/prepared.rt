@@ -1,6 +1,8 @@
 //! What a commit needs.
 ghost use Rattle.std.specs.Prelude.{◌≡◌};
+ghost use Rattle.dk_core.specs.Rooms.{places_of as effects_places};
 
+use crate::rooms::places_of;
 use dk_connections::Deliveries;
 use dk_types::Entry;
 
@@ -17,5 +19,12 @@ impl Prepared {
         ensures { result.now ≡ self.now.entry }
     {
         &self.entry
+    }
+
+    /// How many more objects, names and tasks have to fit into the world without memory when it is published.
+    pub fn places(&self) -> u64
+        ensures { result ≡ effects_places self.now.entry.effects }
+    {
+        places_of(&self.entry.effects)
     }
 }

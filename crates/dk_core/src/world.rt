@@ -8,9 +8,7 @@ ghost use Rattle.dk_model.specs.Openings.{opening};
 ghost use Rattle.dk_model.specs.Sights.{IsReadAt};
 ghost use Rattle.dk_model.specs.Validity.{IsValid, next_of};
 ghost use Rattle.dk_types.specs.declared.limits.TheConstants.{NUMBERS_END};
-ghost use Rattle.dk_core.specs.Listings.{world_of as world_in, listed};
-ghost use Rattle.dk_core.specs.StampedWorlds.{durable_of, read_now};
-ghost use Rattle.dk_core.specs.Cores.{world_of, StandsFor};
+ghost use Rattle.dk_core.specs.Numbers.{HasNumbers, HasNumbers-prop};
 
 use crate::claims::Claims;
 use crate::durable::{StampedWorld, WorldLook};
@@ -19,7 +17,8 @@ use dk_connections::Connections;
 use dk_types::{Durable, Item, NoMemory, Read, RunNo};
 use std::alloc::Global;
 
-/// The world on one thread.
+/// The world on one thread. Its numbers are kept by every call, whatever is committed: no connection has one that is still
+/// to be drawn, and there are enough for all commits and claims.
 pub struct Core {
     pub(crate) world: StampedWorld,
     pub(crate) connections: Connections,
@@ -27,6 +26,7 @@ pub struct Core {
     pub(crate) moment: u64,
     pub(crate) after_task: bool,
     pub(crate) alloc: Global,
+    pub ghost numbers: { HasNumbers world.commits claims connections.connections } by { HasNumbers-prop world.commits claims connections.connections },
 }
 
 // Written out, so that a function which lets a core go proves one call and not the way down its trees.
@@ -55,6 +55,10 @@ fn next_number(last: Option<RunNo>) -> u64
 }
 
 impl Core {
+    ghost use Rattle.dk_core.specs.Listings.{world_of as world_in, listed};
+    ghost use Rattle.dk_core.specs.StampedWorlds.{durable_of, read_now};
+    ghost use Rattle.dk_core.specs.Cores.{world_of, StandsFor};
+
     /// The world that a durable world opens to, with a budget of claims or without: each recorded session is told of its
     /// end.
     pub fn open(alloc: Global, durable: Durable, budget: Option<u64>) -> Result<Core, NoMemory>

@@ -117,7 +117,6 @@ pub(crate) fn commit<G: Game>(
     claimed: Claimed,
     finished: Finished,
 ) -> Result<u64, Fail>
-    requires standing { IsStandingFor (G.rules _game.now) core.old }
     requires granted { IsGranted core.old claimed }
 {
     match core.commit(claimed, finished) {

@@ -2,7 +2,7 @@
 ghost use Rattle.std.specs.Prelude.{◌≡◌, IfOk};
 ghost use Rattle.dk_model.specs.Finishes.{KeepsLaw};
 ghost use Rattle.dk_txn.specs.Finishes.{told};
-ghost use Rattle.dk_core.specs.Cores.{IsGranted, IsStanding};
+ghost use Rattle.dk_core.specs.Cores.{IsGranted};
 ghost use Rattle.dk_workers.specs.Working.{AreReadsNow, CommitsOrGivesBack, EndsRun, IsStandingFor, Works};
 
 use dk_core::{ClaimRefused, Claimed, Core, PrepareRefused};
@@ -54,7 +54,6 @@ fn run_claimed<G: Game>(
 
 /// Commits a run that read the world as it stands. Where memory is refused its claim is given back.
 fn commit_run(core: &mut Core, claimed: Claimed, finished: Finished) -> Result<u64, NoMemory>
-    requires standing { IsStanding core.old }
     requires granted { IsGranted core.old claimed }
     requires now { AreReadsNow core.old.world finished.reads.items }
     ensures { CommitsOrGivesBack core.old core.new claimed finished result }

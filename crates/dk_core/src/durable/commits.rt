@@ -3,7 +3,7 @@ ghost use Rattle.std.specs.Prelude.{◌≡◌, ◌+◌, ◌<◌, ◌^◌, OnOk};
 ghost use Rattle.dk_model.specs.Effects.{after};
 ghost use Rattle.dk_txn.specs.Finishes.{told};
 ghost use Rattle.dk_core.specs.StampedWorlds.{durable_of, with_room};
-ghost use Rattle.dk_core.specs.Rooms.{HasRoom, IsNoLess};
+ghost use Rattle.dk_core.specs.Rooms.{places_of as effects_places, HasPlaces, HasRoom, IsNoLess};
 ghost use Rattle.dk_core.specs.Publishing.{published, committed};
 ghost use Rattle.dk_core.specs.Commits.{next_entry, StampsAfter, ClaimsAfter, CommitsSteps};
 
@@ -12,6 +12,7 @@ use crate::durable::publish::{
     unbind_names,
 };
 use crate::durable::world::StampedWorld;
+use crate::rooms::places_of;
 use dk_txn::{Finished, FinishedParts};
 use dk_types::{Effects, Item, NoMemory, RunNo};
 
@@ -21,13 +22,12 @@ impl StampedWorld {
     pub fn reserve_for(&mut self, finished: &Finished) -> Result<(), NoMemory>
         ensures same { self.new ≡ with_room self.new.room self.old }
         ensures kept { IsNoLess self.old.room self.new.room }
-        ensures room { OnOk result (HasRoom self.new.room finished.now.effects) }
+        ensures room { OnOk result (HasPlaces self.new.room (effects_places finished.now.effects)) }
     {
-        let effects = finished.effects();
-        self.objects
-            .reserve(effects.written.as_slice().len() as u64)?;
-        self.names.reserve(effects.bound.as_slice().len() as u64)?;
-        self.tasks.reserve(effects.added.as_slice().len() as u64)
+        let places = places_of(finished.effects());
+        self.objects.reserve(places)?;
+        self.names.reserve(places)?;
+        self.tasks.reserve(places)
     }
 
     /// Makes the effects of a finished run, as this run, stamps what it wrote with the number of the commit, and tells that

@@ -2,11 +2,8 @@ use Rattle.std.proofs.Common.{[], ◌∷◌, ◌++◌, sym, subst}
 use Rattle.dk_types.specs.declared.event.Event.TheVariants as event
 use Rattle.dk_types.specs.declared.event.ClaimReply.TheVariants as reply
 use Rattle.dk_core.specs.Cores.{StandsFor}
-use Rattle.dk_workers.proofs.Honest.{honest_now, standing_of}
+use Rattle.dk_workers.proofs.Honest.{honest_now}
 use Rattle.dk_workers.proofs.working.end_claimed.Goals as goal
-
-pub commit_run-requires-clause-standing : goal.commit_run-requires-clause-standing
-commit_run-requires-clause-standing g c = standing_of (g.G.Rules.rules c.args.game.now) c.args.core.now (g.G.Rules.lawful c.args.game.now) c.requires.standing
 
 pub returns : goal.returns
 returns g c =

@@ -1,17 +1,14 @@
 use Rattle.std.proofs.Common.{◌+◌, ap, subst, ◌∙◌}
 use Rattle.std.proofs.lemmas.List.{append-nil}
 use Rattle.dk_core.specs.Cores.{StandsFor}
-use Rattle.dk_core.proofs.Committed.{standing_still, stood_with}
+use Rattle.dk_core.proofs.Committed.{stood_with}
 use Rattle.dk_core.proofs.world.Core.commit.Goals as goal
-
-pub enter-requires-clause-standing : goal.enter-requires-clause-standing
-enter-requires-clause-standing c = standing_still c.args.self.now c.make_ready.new.self c.requires.standing c.make_ready.ensures.stays
 
 pub returns-in-Ok : goal.returns-in-Ok
 returns-in-Ok c =
-    let same = ap (λ n. n.world) c.make_ready.ensures.same in (
+    let same = c.make_ready.ensures.same.world in (
       c.enter.ensures.number ∙ ap (λ w. w.commits + 1) same,
-      stood_with c.args.self.now.world c.make_ready.new.self.world c.args.finished.reads.items same c.in-Ok.ensures.ready.stand,
+      stood_with c.args.self.now.world c.make_ready.new.self.world c.args.finished.reads.items same c.in-Ok.ensures.ready.0.stand,
       λ rules d budget events lawful honest s.
           c.enter.ensures.commits rules d budget events lawful honest (subst (λ es. StandsFor rules d budget es c.make_ready.new.self) (append-nil events) (c.make_ready.ensures.stays rules d budget events s)),
     )
