@@ -1,8 +1,7 @@
 -- A core stands for some history of the rules still, after a call.
-use Rattle.std.proofs.Common.{Result, Ok, Err, [], ◌∷◌, ◌++◌, sym, subst}
+use Rattle.std.proofs.Common.{Result, Ok, Err, [], ◌++◌, sym, subst}
 use Rattle.dk_types.specs.declared.number.ConnNo.{ConnNo}
 use Rattle.dk_types.specs.declared.job.Input.{Input}
-use Rattle.dk_types.specs.declared.event.Event.{Event}
 use Rattle.dk_types.specs.declared.event.Event.TheVariants as event
 use Rattle.dk_types.specs.declared.event.PostReply.TheVariants as posted
 use Rattle.dk_txn.specs.declared.finished.Finished.{Finished}
@@ -14,7 +13,7 @@ use Rattle.dk_core.specs.declared.world.Core.{Core}
 use Rattle.dk_core.specs.declared.claimed.Claimed.{Claimed}
 use Rattle.dk_core.specs.declared.answers.PrepareRefused.{PrepareRefused}
 use Rattle.dk_core.specs.declared.answers.PrepareRefused.TheVariants as prepare_refused
-use Rattle.dk_core.specs.Cores.{Adds, Stays, IsGranted}
+use Rattle.dk_core.specs.Cores.{Stays, IsGranted}
 use Rattle.dk_core.specs.Answers.{Posted, CommitsOrTells}
 use Rattle.dk_workers.specs.Working.{IsStandingFor}
 use Rattle.dk_workers.proofs.Honest.{entered}

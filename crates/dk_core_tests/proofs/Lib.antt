@@ -1,3 +1,4 @@
 pub mod Beside
 pub mod Answering
 pub mod Following
+pub mod Staying

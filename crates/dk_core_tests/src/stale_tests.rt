@@ -4,12 +4,15 @@ ghost use Rattle.dk_core.specs.Cores.{IsGranted};
 ghost use Rattle.dk_workers.specs.Working.{IsStandingFor};
 ghost use Rattle.dk_core_tests.specs.Twins.{twins_rules};
 
-use crate::driving::{claim, commit, commit_stale, opened, serve, serve_beside, text};
+use crate::between::commit_after_others;
+use crate::driving::{PASS, claim, commit, commit_stale, opened, serve, serve_beside, text};
 use crate::twins::Twins;
 use dk_core::{Changed, Claimed, Core};
 use dk_txn::{Finished, ListView, Txn, View};
 use dk_types::limits::MOMENT_MOST_MS;
-use dk_types::{AppFault, Item, Job, Name, Object, ObjectId, Outcome, Read, RunNo, Seen, TaskKey};
+use dk_types::{
+    AppFault, Input, Item, Job, Name, Object, ObjectId, Outcome, Read, RunNo, Seen, TaskKey,
+};
 use std::alloc::Global;
 use std::process::Abort;
 use std::test::Fail;
@@ -211,5 +214,19 @@ fn a_run_that_saw_two_worlds_is_refused(rt: HostRuntime) -> Result<(), Fail> {
     assert!(rt; *again.outcome() == Outcome::Ok);
     let seq = commit(&Twins, &mut core, reader, again)?;
     assert_eq!(rt; seq, 3);
+    Ok(())
+}
+
+#[test]
+fn a_prepared_run_is_published_after_other_events(rt: HostRuntime) -> Result<(), Fail> {
+    let alloc = rt.alloc();
+    let mut core = begun(alloc)?;
+    let reader = claim(&Twins, &mut core)?;
+    let finished = compares_now(&rt, alloc, &core, &reader)?;
+    assert!(rt; reader.pass() == PASS);
+    let dan = text(alloc, "dan")?;
+    let end = Input::Disconnect { graceful: true };
+    let seq = commit_after_others(&mut core, reader, finished, &dan, end)?;
+    assert_eq!(rt; seq, 2);
     Ok(())
 }

@@ -1,0 +1,8 @@
+use Rattle.std.proofs.Common.{refl}
+use Rattle.dk_core_tests.specs.Twins.{twins_rules}
+use Rattle.dk_core_tests.specs.Lawful.{twins_lawful}
+use Rattle.dk_core_tests.proofs.Staying.{after_any}
+use Rattle.dk_core_tests.proofs.between.tick.Goals as goal
+
+pub returns : goal.returns
+returns c = after_any twins_rules twins_lawful _ _ c.args.held.now _ (λ pass. refl) c.requires c.tick.ensures.event c.tick.ensures.ready
