@@ -182,9 +182,9 @@ module _ (rules : Meaning) (done left : List (List Line)) (lines : List Line) (p
       }
 
 -- the whole is a play of the script
-pub whole_played : (rules : Meaning) (script : List (List Line)) (p : Play) (marks : List ℕ) (commits tasks : ℕ) → IsPlayedTo rules ([] ∷ script) [] p marks → commits ≡ (world_of p.core).durable.commits → tasks ≡ maps.len (world_of p.core).durable.tasks
+pub whole_played : (rules : Meaning) (script left : List (List Line)) (p : Play) (marks : List ℕ) (commits tasks : ℕ) → IsPlayedTo rules ([] ∷ script) left p marks → commits ≡ (world_of p.core).durable.commits → tasks ≡ maps.len (world_of p.core).durable.tasks
     → IsPlayed rules (fresh_world None) script (phases_of p.events.items marks) commits tasks
-whole_played rules script p marks commits tasks to commits_are tasks_are = record {
+whole_played rules script left p marks commits tasks to commits_are tasks_are = record {
   order = to.order;
   end = playing_of p;
   plays = subst (λ ps. Plays rules (playing (fresh_world None)) ([] ∷ script) to.order ps (playing_of p)) (sym to.cut) to.plays;

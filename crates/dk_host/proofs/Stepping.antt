@@ -22,7 +22,7 @@ use Rattle.dk_core.specs.declared.answers.ConnectRefused.TheVariants as connect_
 use Rattle.dk_core.specs.declared.answers.ClaimRefused.{ClaimRefused}
 use Rattle.dk_core.specs.declared.answers.ClaimRefused.TheVariants as claim_refused
 use Rattle.dk_core.specs.Answers as core
-use Rattle.dk_core.specs.Cores.{world_of, Adds as AddsEvents, IsStanding, IsGranted}
+use Rattle.dk_core.specs.Cores.{world_of, Adds as AddsEvents, IsGranted}
 use Rattle.dk_turn.specs.Fronts.{known}
 use Rattle.dk_host.specs.Books.{IsAt, IsKept}
 use Rattle.dk_host.specs.Calls.{connect_events, post_events, claim_events, hand_events, Stands, IsSpared, Grants}
@@ -47,9 +47,6 @@ stands_granted o events c claimed s h = ap (λ (x : World). get x.claims claimed
 -- so a claim that may be ended is granted
 pub may_granted : (o : Opened) (pass : ℕ) (events : List Event) (c : Core) (claimed : Claimed) → IsAt o events c → MayEnd o pass events claimed → IsGranted c claimed
 may_granted o pass events c claimed s may = stands_granted o events c claimed s (may.1 (legal o events c s))
-
-pub standing : (o : Opened) (events : List Event) (c : Core) (total : ℕ) → IsKept o events c total → IsStanding c
-standing o events c total k = record { rules = o.rules; opened = o.durable; budget = o.budget; events = events; lawful = k.0; stands = k.1 }
 
 -- events of one pass, and none
 all_one : (pass : ℕ) (e : Event) → pass_of e ≡ pass → All (λ x. pass_of x ≡ pass) (e ∷ [])

@@ -42,6 +42,7 @@ fn look_at<M: Home>(
     ensures fault { IsTrue M.tells → (at : ℕ) → IsErrOf result (NotAStore at) → look (now (M.past home.old) side).reads ≡ Faulty at }
     ensures looks { IsTrue M.tells → Looks (M.past home.old) (M.past home.new) }
     ensures cause { IsErrOf result DiskFault → HasRisen (M.counted home.old) (M.counted home.new) }
+    ensures steady { (IsErrOf result DiskFault → ⊥) → M.counted home.new ≡ M.counted home.old }
     ensures only { IfErr result IsOpenFault }
     ensures opening { M.opening home.new ≡ M.opening home.old }
 {
@@ -70,7 +71,7 @@ fn look_at<M: Home>(
 pub fn open<M: Home>(home: &mut M, side: Side) -> Result<Option<(Header, Scan)>, JournalRefused>
     requires { IsOpen (M.opening home.old) }
     ensures run { IsTrue M.tells → Runs side (IsAsRead (now (M.past home.old) side)) (M.past home.old) (M.past home.new) }
-    ensures settled { IsTrue M.tells → IfOk result (λ found. now (M.past home.new) side ≡ settled (now (M.past home.old) side).reads) }
+    ensures settled { IsTrue M.tells → (IsErrOf result DiskFault → ⊥) → now (M.past home.new) side ≡ settled (now (M.past home.old) side).reads }
 
     // Which answer it is, the bytes alone decide.
     ensures blank { IsTrue M.tells → result ≡ Ok None → look (now (M.past home.old) side).reads ≡ Blank }
@@ -78,6 +79,7 @@ pub fn open<M: Home>(home: &mut M, side: Side) -> Result<Option<(Header, Scan)>,
     ensures fault { IsTrue M.tells → (at : ℕ) → IsErrOf result (NotAStore at) → look (now (M.past home.old) side).reads ≡ Faulty at }
 
     ensures cause { IsErrOf result DiskFault → HasRisen (M.counted home.old) (M.counted home.new) }
+    ensures steady { (IsErrOf result DiskFault → ⊥) → M.counted home.new ≡ M.counted home.old }
     ensures only { IfErr result IsOpenFault }
     ensures opening { M.opening home.new ≡ M.opening home.old }
 {

@@ -126,6 +126,20 @@ impl Scan {
         }
     }
 
+    /// The place of the next gate.
+    pub fn at(&self) -> u64
+        ensures { result ≡ self.now.at }
+    {
+        self.at
+    }
+
+    /// The file that is read.
+    pub fn side(&self) -> Side
+        ensures { result ≡ self.now.side }
+    {
+        self.side
+    }
+
     /// The next payload, or `None` at the gate that ends the journal. It is called while the file is as it was at
     /// `open`. A refusal leaves the scan.
     pub fn next<M: Home>(
@@ -144,6 +158,7 @@ impl Scan {
         // An error has a cause, and leaves the scan.
         ensures damaged { IsTrue M.tells → (at : ℕ) → IsErrOf result (Damaged at) → (at ≡ self.old.at) × IsCutOff (now (M.past home.old) self.old.side).reads at }
         ensures cause { IsErrOf result DiskFault → HasRisen (M.counted home.old) (M.counted home.new) }
+        ensures steady { (IsErrOf result DiskFault → ⊥) → M.counted home.new ≡ M.counted home.old }
         ensures only { IfErr result IsScanFault }
         ensures refused { OnErr result (self.new ≡ self.old) }
         ensures looks { IsTrue M.tells → Looks (M.past home.old) (M.past home.new) }

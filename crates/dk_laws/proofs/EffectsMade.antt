@@ -71,7 +71,8 @@ objects_told = record {
       λ i. record { kind = kind i; bytes = bytes i };
 }
 
-first_some : {X : Type 0} → Option X → Option X → Option X
+-- the first that is there
+unfoldable pub first_some : {X : Type 0} → Option X → Option X → Option X
 first_some None y = y
 first_some (Some x) y = Some x
 
@@ -81,11 +82,12 @@ Kept m p = entries (retain_keys m p)
 
 module _ {K X : Type 0} (R : K → K → Ordering) (total : IsTotalOrder R) (exact : IsAntisymmetric R) where
   -- a key below all others is not among them
-  above_none : (k : K) (es : List (K × X)) → T (below_all R k es) → find R k es ≡ None
+  pub above_none : (k : K) (es : List (K × X)) → T (below_all R k es) → find R k es ≡ None
   above_none k [] h = refl
   above_none k (e ∷ es) h = ap (λ o. cond (is_eq o) (Some e.1) (find R k es)) (less_from_T _ (first_of_and _ _ h)) ∙ above_none k es (second_of_and _ _ h)
 
-  get-with_set : (es : List (K × X)) → T (is_sorted R es) → (m : FinMap R X) (q : K) → get (with_set es m) q ≡ first_some (find R q es) (get m q)
+  -- entries in order that are set, one after another
+  pub get-with_set : (es : List (K × X)) → T (is_sorted R es) → (m : FinMap R X) (q : K) → get (with_set es m) q ≡ first_some (find R q es) (get m q)
   unfolding first_some
   get-with_set [] s m q = refl
   get-with_set (e ∷ es) s m q =
@@ -144,7 +146,7 @@ tasks_back [] = refl
 tasks_back (e ∷ es) = ap (λ (l : List (TaskKey × Task)). e ∷ l) (tasks_back es)
 
 -- a task with the due moment of another, where there is one
-due_of : Option Task → Option Task → Option Task
+unfoldable pub due_of : Option Task → Option Task → Option Task
 due_of None task = task
 due_of (Some y) None = None
 due_of (Some y) (Some x) = Some (record x { due = y.due })
@@ -162,7 +164,8 @@ moved-get (Some x) key due m q e = get-insert keys_total m key (record x { due =
   | Greater ↦ λ _. refl
 ] refl
 
-get-with_moved : (es : List (TaskKey × Task)) → T (is_sorted key_cmp es) → (m : FinMap key_cmp Task) (q : TaskKey)
+-- entries in order whose due moments are given
+pub get-with_moved : (es : List (TaskKey × Task)) → T (is_sorted key_cmp es) → (m : FinMap key_cmp Task) (q : TaskKey)
     → get (with_moved (map (λ e. (e.0, e.1.due)) es) m) q ≡ due_of (find key_cmp q es) (get m q)
 unfolding due_of
 get-with_moved [] s m q = refl

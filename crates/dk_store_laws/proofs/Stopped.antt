@@ -13,7 +13,7 @@ use Rattle.dk_journal.specs.Moments.{Runs, HasOrNot, IsNewOrEmpty, IsBlankUpTo}
 use Rattle.dk_journal.proofs.HeaderBytes.{false_of}
 use Rattle.dk_store_laws.specs.Ranks.{IsLesser, IsOutranked, IsBlankBeside}
 use Rattle.dk_store_laws.proofs.Seen.{live}
-use Rattle.dk_store_laws.proofs.Worlds.{next_world}
+use Rattle.dk_image.proofs.Worlds.{next_world}
 
 -- the live file with the greater epoch stands, and so does one beside a blank file
 wins : (side : Side) (h : StoreHeader) (zero one : List ℕ) → look (file_on side zero one) ≡ Live h → IsLesser h (file_on (other_side side) zero one) → standing zero one ≡ StandsOn side h

@@ -1,4 +1,5 @@
-use Rattle.std.proofs.Common.{subst}
+use Rattle.std.proofs.Common.{◌+◌, ◌*◌, length, arith}
+use Rattle.darkstar.proofs.Entered.{going_less}
 use Rattle.darkstar.proofs.Phasing.{ready_lines, phase_played}
 use Rattle.darkstar.proofs.play.play_phase.Goals as goal
 
@@ -6,7 +7,10 @@ pub enter_all-requires : goal.enter_all-requires
 enter_all-requires g c = ready_lines (g.G.Rules.rules c.args.game.now) (g.G.Rules.lawful c.args.game.now) c.args.play.now c.args.lines.now c.requires.going c.requires.stand
 
 pub drain-requires-clause-going : goal.drain-requires-clause-going
-drain-requires-clause-going g c = (c.in_ok-enter_all.ensures (g.G.Rules.rules c.args.game.now) 0 (g.G.Rules.lawful c.args.game.now) c.requires.going).going
+drain-requires-clause-going g c =
+    let rules = g.G.Rules.rules c.args.game.now in
+    let lines = c.args.lines.now in
+    (c.in_ok-enter_all.ensures rules 0 (g.G.Rules.lawful c.args.game.now) (going_less rules c.args.play.now (4 * length lines) (4 * length lines + 0) (omega arith) c.requires.going)).going
 
 pub returns : goal.returns
 returns g c =

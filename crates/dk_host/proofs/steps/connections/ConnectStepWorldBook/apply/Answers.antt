@@ -1,11 +1,8 @@
 use Rattle.std.proofs.Common.{◌++◌, ap, subst, ◌∙◌}
 use Rattle.dk_host.specs.Calls.{connect_events}
 use Rattle.dk_host.specs.Books.{IsKept}
-use Rattle.dk_host.proofs.Stepping.{adds, kept, connect_of, connect_at, standing}
+use Rattle.dk_host.proofs.Stepping.{adds, kept, connect_of, connect_at}
 use Rattle.dk_host.proofs.steps.connections.ConnectStepWorldBook.apply.Goals as goal
-
-pub connect-reply-requires : goal.connect-reply-requires
-connect-reply-requires g c = record { standing = standing g.W.Hosting.opened c.book.inside.events c.book.inside.core c.book.inside.commits.total c.book.invariant }
 
 pub invariant_of-book : goal.invariant_of-book
 invariant_of-book g c =

@@ -1,0 +1,15 @@
+pub mod Found
+pub mod MapChanges
+pub mod TaskChanges
+pub mod Ascending
+pub mod Fit
+pub mod Items
+pub mod Valid
+pub mod Made
+pub mod Opened
+pub mod Walked
+pub mod Spelled
+pub mod Damages
+pub mod Faults
+pub mod Table
+pub mod OnlyRead

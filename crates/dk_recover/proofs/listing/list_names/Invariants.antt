@@ -1,0 +1,7 @@
+use Rattle.std.proofs.Common.{◌≡◌, ◌++◌, map}
+use Rattle.std.specs.Vec.Iter.{into_iter_items}
+use Rattle.dk_recover.proofs.listing.list_names.Given as goal
+
+-- what is listed, and what is left, are all
+abbrev pub invariant-loop-name : goal.invariant-loop-name
+invariant-loop-name l = l.list.items ++ map (λ e. (e.0.now, e.1.now)) (into_iter_items l.name-iterator) ≡ map (λ e. (e.0.now, e.1.now)) (into_iter_items l.initial.name-iterator)

@@ -1,0 +1,9 @@
+pub mod Changes
+pub mod TaskChanges
+pub mod Worlds
+pub mod Bytes
+pub mod Records
+pub mod Files
+pub mod Scanned
+pub mod Stood
+pub mod Placed
