@@ -1,14 +1,11 @@
 -- A worked history of SwordWorld.
-use Rattle.std.proofs.Common.{◌≡◌, ℕ, Bool, true, false, Some, None, List, [], ◌∷◌, codes, refl, sym, subst, arith}
-use Rattle.dk_types.specs.declared.number.RunNo.{RunNo}
+use Rattle.std.proofs.Common.{ℕ, false, Some, None, [], ◌∷◌, codes, refl, sym, subst, arith}
 use Rattle.dk_types.specs.declared.job.Job.{Job}
 use Rattle.dk_types.specs.declared.job.Job.TheVariants as job
-use Rattle.dk_model.specs.DurableWorlds.{DurableWorld}
-use Rattle.dk_model.specs.Worlds.{World, Connection, Claim}
-use Rattle.dk_model.specs.Openings.{opening, ended_connection}
+use Rattle.dk_model.specs.Worlds.{World, Claim}
 use Rattle.dk_model.specs.Histories.{Leads}
-use Rattle.dk_examples.specs.Worked.{run, conn, accepting, listed, nothing}
-use Rattle.dk_examples.specs.SessionRows.{alice, with_alice}
+use Rattle.dk_examples.specs.Worked.{run, conn, listed, nothing}
+use Rattle.dk_examples.specs.SessionRows.{alice}
 use Rattle.sword_examples.specs.SwordRows.{furnished, alice_entered, sight}
 use Rattle.sword_world.specs.Rules.{sword_rules}
 use Rattle.dk_types.specs.declared.job.Out.TheVariants as out
@@ -16,8 +13,8 @@ use Rattle.dk_types.specs.declared.job.Input.TheVariants as input
 use Rattle.dk_model.specs.declared.waiting.Waiting.TheVariants as waits
 use Rattle.dk_examples.specs.HistoryRows.{world, of_alice}
 use Rattle.sword_examples.specs.SwordHistories.{sword_events, SwordHistory}
-use Rattle.dk_examples.proofs.Running.{looks, puts}
-use Rattle.dk_examples.proofs.EventSteps.{stands, opens_empty, claims, commits, connects, ticks, posts, hands}
+use Rattle.dk_examples.proofs.Running.{puts}
+use Rattle.dk_examples.proofs.EventSteps.{stands, opens_empty, claims, commits, connects, posts, hands}
 use Rattle.sword_examples.proofs.SwordRuns.{sword_begins, sword_login, sword_look}
 
 -- a claim of the first pass

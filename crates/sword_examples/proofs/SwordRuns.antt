@@ -1,5 +1,5 @@
 -- The runs of SwordWorld.
-use Rattle.std.proofs.Common.{◌≡◌, true, Ok, Some, None, [], ◌∷◌, codes, refl}
+use Rattle.std.proofs.Common.{◌≡◌, true, Ok, Some, None, [], ◌∷◌, codes, refl, ap, ◌∙◌}
 use Rattle.std.specs.FinMap.{empty, insert, remove, from_entries}
 use Rattle.std.specs.Str.{is_utf8, chars}
 use Rattle.std.specs.Str.Lossy.{utf8_valid_len}
@@ -13,8 +13,9 @@ use Rattle.dk_types.specs.Reading.{u8_at, u32_at, name_at, id_at, end_at}
 use Rattle.dk_types.specs.Lists.{list_spelling, items_at, list_at}
 use Rattle.dk_types.specs.declared.mode.Mode.TheVariants.{Game}
 use Rattle.dk_model.specs.DurableWorlds.{DurableWorld}
-use Rattle.dk_model.specs.Runs.{begun, give, and_then, within, get, create, mark, save, remove as remove_object, bound, bind, unbind, send}
+use Rattle.dk_model.specs.Runs.{Run, begun, give, and_then, carry_on, within, get, create, mark, save, remove as remove_object, bound, bind, unbind, send}
 use Rattle.dk_model.specs.References.{get_as, get_for_update_as, save_as}
+use Rattle.dk_model.specs.Steps.{of_session, displace_recorded, admit, game_part, work}
 use Rattle.dk_model.specs.Platforms.{is_connected, find_session, open_record, new_record, close_record}
 use Rattle.sword_world.specs.Things.{room_of, next_room, thing_of, next_thing, player_of, next_player, next_carried}
 use Rattle.sword_world.specs.Labels.{labels}
@@ -171,17 +172,37 @@ alice_makes_room : disconnect alice (record (begun (run 4) 0 (listed alice_once 
 unfolding cleared_world and_then give get get_as get_for_update_as mark save_as save bound disconnect last_scene player_there player_under room_to_change leave u8_spelling u64_spelling u32_spelling list_spelling name_spelling id_spelling
 alice_makes_room = simp (looks, a_player, room_of_alice)
 
-pub sword_login_again : SwordLoginAgain
-unfolding cleared_world within and_then give get get_as get_for_update_as mark save_as create save bound bind send find_session unbind remove_object close_record open_record new_record login log_in known_player room_to_change enter u8_spelling u64_spelling u32_spelling list_spelling name_spelling id_spelling
-sword_login_again = runs_ok sword_rules (job.Login (conn 2) alice) (run 4) 0 alice_once alice_twice 2 (Some (run 3))
-    (at_end
+-- once she is displaced
+displaced_end : Run
+displaced_end = at_end (record cleared_world { objects = remove cleared_world.objects (id 3 0); names = remove (from_entries alice_once.names) alice_record })
+    (ask.Object (id 0 1) ∷ ask.Object (id 0 1) ∷ ask.Bound alice_record ∷ ask.Object (id 3 0) ∷ []) ((conn 1, out.Close) ∷ []) (run 4) 0 0 0
+
+alice_displaced : displace_recorded alice (game_part sword_rules) (begun (run 4) 0 (listed alice_once 2 (Some (run 3)))) ≡ (Ok tt, displaced_end)
+unfolding cleared_world displaced_end within and_then give get get_as send find_session unbind remove_object close_record
+alice_displaced = simp (looks, session_read, alice_makes_room)
+
+-- and once she is in again
+again_end : Run
+again_end = at_end
     (record cleared_world {
       objects = insert (insert (insert (remove cleared_world.objects (id 3 0)) (id 4 0) (session_object 2)) (id 0 1) (room_object 0 [])) (id 0 1) (room_object 1 (id 3 1 ∷ []));
       names = insert (remove (from_entries alice_once.names) alice_record) alice_record (id 4 0);
     })
     (ask.Object (id 0 1) ∷ ask.Object (id 0 1) ∷ ask.Bound alice_record ∷ ask.Object (id 3 0) ∷ ask.Object (id 4 0) ∷ ask.Bound alice_record ∷ ask.Object (id 0 1) ∷ ask.Object (id 0 1) ∷ [])
-    ((conn 1, out.Close) ∷ (conn 2, out.Accepted) ∷ []) (run 4) 0 1 0)
-    record { objects = refl; names = refl; tasks = refl } (simp (looks, session_read, alice_makes_room, empty_room))
+    ((conn 1, out.Close) ∷ (conn 2, out.Accepted) ∷ []) (run 4) 0 1 0
+
+alice_admitted : admit (of_session (conn 2) alice) (game_part sword_rules (job.Login (conn 2) alice)) displaced_end ≡ (Ok tt, again_end)
+unfolding cleared_world displaced_end again_end within and_then give get get_as get_for_update_as mark save_as create save bound bind send open_record new_record login log_in known_player room_to_change enter u8_spelling u64_spelling u32_spelling list_spelling name_spelling id_spelling
+alice_admitted = simp (looks, empty_room)
+
+logged_in_again : work (game_part sword_rules) (job.Login (conn 2) alice) (begun (run 4) 0 (listed alice_once 2 (Some (run 3)))) ≡ (Ok tt, again_end)
+unfolding and_then
+logged_in_again = ap (λ p. carry_on p.0 (λ _. admit (of_session (conn 2) alice) (game_part sword_rules (job.Login (conn 2) alice))) p.1) alice_displaced ∙ alice_admitted
+
+pub sword_login_again : SwordLoginAgain
+unfolding cleared_world again_end
+sword_login_again = runs_ok sword_rules (job.Login (conn 2) alice) (run 4) 0 alice_once alice_twice 2 (Some (run 3)) again_end
+    record { objects = refl; names = refl; tasks = refl } logged_in_again
     record { objects = simp puts; names = simp puts; tasks = simp puts; sorted = record { objects = refl; names = refl; tasks = refl } } refl
 
 pub displacing_length : DisplacingLength
