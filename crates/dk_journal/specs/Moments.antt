@@ -68,3 +68,7 @@ AreBlankOr most file disk = (image : List ℕ) → IsImage disk image → IsBlan
 -- each image is blank and no longer than a header and a gate, or has this header and no record
 abbrev pub IsNewOrEmpty : List ℕ → Disk → Type 0
 IsNewOrEmpty header disk = (image : List ℕ) → IsImage disk image → IsBlankUpTo 65 image ⊎ Reads image header []
+
+-- each image is this file, or blank
+abbrev pub AreSameOrBlank : List ℕ → Disk → Type 0
+AreSameOrBlank file disk = (image : List ℕ) → IsImage disk image → (image ≡ file) ⊎ (is_blank image ≡ true)

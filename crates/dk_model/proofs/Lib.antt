@@ -13,4 +13,5 @@ pub mod PlatformActs
 pub mod Works
 pub mod StepLaws
 pub mod StepValid
+pub mod Tails
 pub mod OnceTasks

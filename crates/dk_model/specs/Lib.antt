@@ -30,3 +30,4 @@ pub mod Entries
 pub mod Images
 pub mod Stores
 pub mod Recovered
+pub mod Tails

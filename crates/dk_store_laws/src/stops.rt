@@ -4,10 +4,16 @@ ghost use Rattle.dk_types.specs.declared.side.Side.{Side};
 ghost use Rattle.dk_types.specs.declared.side.Side.TheVariants.{Zero};
 ghost use Rattle.dk_disk.specs.Past.{Past, now, other_side, MayLeave};
 ghost use Rattle.dk_model.specs.DurableWorlds.{DurableWorld, empty_world};
-ghost use Rattle.dk_model.specs.Stores.{StoreHeader, IsHeader, header_spelling};
-ghost use Rattle.dk_model.specs.Recovered.{Takes, HasWorld, Recovers, Holding, NotYet};
+ghost use Rattle.dk_model.specs.Stores.{StoreHeader, IsHeader, header_spelling, look, Live, StandsOn, standing};
+ghost use Rattle.dk_model.specs.Recovered.{Takes, HasWorld, Recovers, Holding, NotYet, file_on};
 ghost use Rattle.dk_journal.specs.Moments.{Runs, HasOrNot, IsNewOrEmpty};
-ghost use Rattle.dk_store_laws.specs.Ranks.{IsOutranked, IsBlankBeside};
+ghost use Rattle.dk_journal.specs.Ranks.{IsLesser, IsOutranked, IsBlankBeside};
+
+/// A file stands exactly where it is live, and the other is blank or has a lesser epoch.
+pub fn a_standing_file_outranks_the_other()
+    ensures outranks { (side : Side) (header : StoreHeader) (zero one : List ℕ) → standing zero one ≡ StandsOn side header → (look (file_on side zero one) ≡ Live header) × IsLesser header (file_on (other_side side) zero one) }
+    ensures wins { (side : Side) (header : StoreHeader) (zero one : List ℕ) → look (file_on side zero one) ≡ Live header → IsLesser header (file_on (other_side side) zero one) → standing zero one ≡ StandsOn side header }
+{}
 
 /// While a record is appended to the file that stands, and nothing is pending on the other, each image of both recovers
 /// to the world before it, or to the world of its entries.
