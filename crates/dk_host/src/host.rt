@@ -9,7 +9,7 @@ ghost use Rattle.dk_turn.specs.Fronts.{IsDealt};
 ghost use Rattle.dk_core.specs.Listings.{world_of};
 
 use crate::book::WorldBook;
-use crate::hosting::{CommitLedger, Hosting};
+use crate::hosting::{CommitLedger, Hosting, PlaceLedger};
 use dk_core::Core;
 use dk_turn::{Blank, GhostList, Naming, Pass, Turn};
 use dk_types::{Durable, Event, NoMemory};
@@ -36,19 +36,22 @@ impl<W: Hosting, J: Naming> Host<W, J> {
     pub fn open(
         alloc: Global,
         blank: Blank<WorldBook<W>>,
-        counter: ledger::Blank,
+        commits: ledger::Blank,
+        places: ledger::Blank,
         durable: Durable,
         budget: Option<u64>,
     ) -> Result<(Host<W, J>, Vec<Pass<WorldBook<W>, J>>), NoMemory>
         requires name { blank ≡ J.name }
-        requires ledger { (counter.name ≡ W.ledger) × (counter.parts ≡ W.parts) }
+        requires commits { (commits.name ≡ W.commits) × (commits.parts ≡ 1) }
+        requires places { (places.name ≡ W.places) × (places.parts ≡ 1) }
         requires lawful { AreLawful W.opened.rules }
         requires valid { IsValid W.opened.durable }
         requires durable { world_of durable ≡ W.opened.durable }
         requires budget { budget ≡ W.opened.budget }
         ensures passes { IfOk result (λ opened. IsDealt J.name.passes opened.1.items) }
     {
-        let (commits, _share) = counter.open::<CommitLedger<W>>();
+        let (commits, _share) = commits.open::<CommitLedger<W>>();
+        let (places, _room) = places.open::<PlaceLedger<W>>();
         let core = Core::open(alloc, durable, budget)?;
         let Ok(events) = GhostList::new(alloc) else {
             return Err(NoMemory);
@@ -57,6 +60,7 @@ impl<W: Hosting, J: Naming> Host<W, J> {
             core,
             events,
             commits,
+            places,
         };
         match Turn::new(alloc, blank, book) {
             Ok((world, passes)) => Ok((Host { world }, passes)),
@@ -78,6 +82,7 @@ impl<W: Hosting, J: Naming> Host<W, J> {
             core,
             events,
             commits: _,
+            places: _,
         } = world.close(passes);
         Closed {
             events,

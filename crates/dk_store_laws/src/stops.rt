@@ -1,12 +1,13 @@
 //! Laws of what a stop leaves.
-ghost use Rattle.std.specs.Prelude.{◌≡◌, ◌⊎◌, ℕ, ◌≤◌, List, length};
+ghost use Rattle.std.specs.Prelude.{◌≡◌, ◌⊎◌, ℕ, ◌≤◌, List, [], ◌∷◌, ◌++◌, length};
 ghost use Rattle.dk_types.specs.declared.side.Side.{Side};
 ghost use Rattle.dk_types.specs.declared.side.Side.TheVariants.{Zero};
 ghost use Rattle.dk_disk.specs.Past.{Past, now, other_side, MayLeave};
 ghost use Rattle.dk_model.specs.DurableWorlds.{DurableWorld, empty_world};
 ghost use Rattle.dk_model.specs.Stores.{StoreHeader, IsHeader, header_spelling, look, Live, StandsOn, standing};
 ghost use Rattle.dk_model.specs.Recovered.{Takes, HasWorld, Recovers, Holding, NotYet, file_on};
-ghost use Rattle.dk_journal.specs.Moments.{Runs, HasOrNot, IsNewOrEmpty};
+ghost use Rattle.dk_journal.specs.Moments.{Runs, HasOrNot, NeverFalls, IsNewOrEmpty};
+ghost use Rattle.dk_journal.specs.Recoveries.{HeldNeverFalls};
 ghost use Rattle.dk_journal.specs.Ranks.{IsLesser, IsOutranked, IsBlankBeside};
 
 /// A file stands exactly where it is live, and the other is blank or has a lesser epoch.
@@ -20,6 +21,13 @@ pub fn a_standing_file_outranks_the_other()
 pub fn an_append_keeps_the_world_or_adds_to_it()
     ensures { (side : Side) (header : StoreHeader) (payloads : List (List ℕ)) (payload : List ℕ) (d e : DurableWorld) (old new : Past) → IsHeader header → IsOutranked header old (other_side side) → HasWorld header payloads d → Takes header.format d payload e
         → Runs side (HasOrNot (header_spelling header) payloads payload) old new → (t : ℕ) → old.clock ≤ t → t ≤ new.clock → (zero one : List ℕ) → MayLeave new t zero one → Recovers zero one (Holding d) ⊎ Recovers zero one (Holding e) }
+{}
+
+/// While a record is appended to the file that stands, the number of commits that every image recovers to at least does
+/// not fall.
+pub fn an_append_keeps_what_is_held()
+    ensures { (side : Side) (header : StoreHeader) (payloads : List (List ℕ)) (payload : List ℕ) (d e : DurableWorld) (old new : Past) → IsHeader header → IsOutranked header old (other_side side) → HasWorld header payloads d → HasWorld header (payloads ++ payload ∷ []) e
+        → d.commits ≤ e.commits → Runs side (HasOrNot (header_spelling header) payloads payload) old new → NeverFalls (header_spelling header) side old.clock new → HeldNeverFalls old.clock new }
 {}
 
 /// While a file of the first epoch is made beside a blank one, and the first file has no more bytes than a header and a

@@ -7,4 +7,4 @@ pub open-requires : goal.open-requires
 open-requires g c = record { valid = subst IsValid (sym c.requires.durable) c.requires.valid }
 
 pub invariant_of-book : goal.invariant_of-book
-invariant_of-book g c = opens g.W.Hosting.opened _ _ _ _ _ c.requires.lawful c.requires.durable c.requires.budget c.in_ok-core.ensures.stands c.in-Ok.ensures c.open-commits.ensures.total
+invariant_of-book g c = opens g.W.Hosting.opened _ _ _ _ _ _ c.requires.lawful c.requires.durable c.requires.budget c.in_ok-core.ensures.stands c.in-Ok.ensures c.open-commits.ensures.total c.open-places.ensures.total
