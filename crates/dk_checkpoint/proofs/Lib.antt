@@ -1,0 +1,3 @@
+pub mod Replaced
+pub mod Fresh
+pub mod Given
