@@ -1,5 +1,5 @@
 -- What the two files recover to while one of them is made anew, and after it.
-use Rattle.std.proofs.Common.{◌≡◌, inl, inr, ⊎_elim, ℕ, ◌+◌, ◌<◌, ◌^◌, List, ◌∷◌, length, refl, sym, ap, subst, ◌∙◌, arith}
+use Rattle.std.proofs.Common.{◌≡◌, inl, inr, ⊎_elim, ℕ, ◌+◌, ◌<◌, ◌≤◌, ◌^◌, List, ◌∷◌, length, refl, sym, ap, subst, ◌∙◌, arith}
 use Rattle.dk_types.specs.declared.side.Side.{Side}
 use Rattle.dk_types.specs.declared.durable.Durable.{Durable}
 use Rattle.dk_types.specs.declared.limits.TheConstants.{NUMBERS_END}
@@ -25,6 +25,14 @@ use Rattle.dk_checkpoint.proofs.Fresh.{fresh_reads, fresh_end, fresh_world}
 -- the other file is as it was
 pub stays_other : (side : Side) (P : Disk → Type 0) (old new : Past) → Runs side P old new → now new (other_side side) ≡ now old (other_side side)
 stays_other side P old new run = run.other new.clock run.later (omega arith)
+
+-- at each moment
+pub left_alone : (side other : Side) (P : Disk → Type 0) (old new : Past) → other ≡ other_side side → Runs other P old new → (t : ℕ) → old.clock ≤ t → t ≤ new.clock → new.disks t side ≡ now old side
+left_alone side other P old new is run t from to =
+    subst (λ (s : Side). new.disks t s ≡ now old s) (ap other_side is ∙ twice side) (run.other t from to)
+
+pub no_time : (side : Side) (past : Past) (t : ℕ) → past.clock ≤ t → t ≤ past.clock → past.disks t side ≡ now past side
+no_time side past t from to = ap (λ k. past.disks k side) (omega (arith, from, to))
 
 -- nothing is pending once it is made
 pub settled_after : (side : Side) (P : Disk → Type 0) (old new : Past) (file : List ℕ) → AreSettled old → Runs side P old new → now new side ≡ settled file → AreSettled new

@@ -107,6 +107,8 @@ pub fn checkpoint<M: Home>(
 
     // At each moment since the call began each image recovers to the world from before, or to the given one.
     ensures run { IsTrue M.tells → (header : StoreHeader) (payloads : List (List ℕ)) (before given : DurableWorld) → IsGiven (M.past home.old) side journal.now durable.now header payloads before given → Recovering (IsEither before given) (M.past home.old) (M.past home.new) }
+    // The file that stands is left, whatever comes.
+    ensures leaves { IsTrue M.tells → (t : ℕ) → (M.past home.old).clock ≤ t → t ≤ (M.past home.new).clock → (M.past home.new).disks t side ≡ now (M.past home.old) side }
 
     // At `Ok` the other file stands with the image of the given world, and each image recovers to that.
     ensures stands { IsTrue M.tells → IfOk result (λ made. (header : StoreHeader) (payloads : List (List ℕ)) (before given : DurableWorld) → IsGiven (M.past home.old) side journal.now durable.now header payloads before given → HasStore (M.past home.new) made.1 made.0 (next_header game.now header.epoch) (only_image durable.now) given) }

@@ -1,6 +1,6 @@
 use Rattle.std.proofs.Common.{◌+◌, length, sym, ap, ◌∙◌}
 use Rattle.dk_journal.proofs.Stores.{store_recovers}
-use Rattle.dk_checkpoint.proofs.Given.{not_yet, run_recovers, made_stands}
+use Rattle.dk_checkpoint.proofs.Given.{not_yet, run_recovers, made_stands, left_alone, no_time}
 use Rattle.dk_checkpoint.proofs.writing.checkpoint.Goals as goal
 
 pub returns-in_err-behind-clause-run : goal.returns-in_err-behind-clause-run
@@ -23,3 +23,12 @@ returns-clause-stands g c tells header payloads before given is =
 pub returns-clause-recovers : goal.returns-clause-recovers
 returns-clause-recovers g c tells header payloads before given is =
     store_recovers _ _ _ _ _ _ (returns-clause-stands g c tells header payloads before given is)
+
+pub returns-in_err-behind-clause-leaves : goal.returns-in_err-behind-clause-leaves
+returns-in_err-behind-clause-leaves g c tells = no_time c.args.side (g.M.Home.past c.args.home.now)
+
+pub returns-in_err-replace-clause-leaves : goal.returns-in_err-replace-clause-leaves
+returns-in_err-replace-clause-leaves g c tells = left_alone _ _ _ _ _ c.other_of-other.ensures (c.replace.ensures.run tells)
+
+pub returns-clause-leaves : goal.returns-clause-leaves
+returns-clause-leaves g c tells = left_alone _ _ _ _ _ c.other_of-other.ensures (c.replace.ensures.run tells)
