@@ -7,6 +7,10 @@ mod files;
 #[cfg(test)]
 mod quiet_home;
 #[cfg(test)]
+mod stop_tests;
+#[cfg(test)]
+mod stops;
+#[cfg(test)]
 mod tests;
 #[cfg(test)]
 mod vectors;
