@@ -14,3 +14,4 @@ pub mod Works
 pub mod StepLaws
 pub mod StepValid
 pub mod OnceTasks
+pub mod Walks
