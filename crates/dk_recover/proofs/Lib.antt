@@ -13,3 +13,5 @@ pub mod Damages
 pub mod Faults
 pub mod Table
 pub mod OnlyRead
+pub mod Undamaged
+pub mod Recoveries
