@@ -1,7 +1,6 @@
 //! A store that is made, filled and written anew, and what a stop after each call leaves of it.
-ghost use Rattle.std.specs.Prelude.{◌≡◌, IfSome};
+ghost use Rattle.std.specs.Prelude.{◌≡◌};
 ghost use Rattle.dk_disk.specs.Opening.{IsOpen};
-ghost use Rattle.dk_model.specs.Validity.{IsValid};
 
 use crate::quiet_home::QuietHome;
 use crate::vectors::{image, payload};
@@ -9,9 +8,8 @@ use dk_checkpoint::checkpoint;
 use dk_disk::{Home, MemoryHome, Torn};
 use dk_entry::encode_entries;
 use dk_image::decode_image;
-use dk_journal::{Header, Journal, Scan, create};
-use dk_recover::records::read_records;
-use dk_recover::{World, find_standing, world_of_image};
+use dk_journal::{Journal, create};
+use dk_recover::recover;
 use dk_types::{Blob, Durable, Effects, Entry, GameId, Listed, RunNo, Side};
 use std::alloc::{AllocError, Global};
 
@@ -82,45 +80,9 @@ pub fn world_after(alloc: Global, commits: u64) -> Option<Durable> {
     Some(durable)
 }
 
-// The world that a file begins with.
-fn first_world(
-    alloc: Global,
-    home: &mut QuietHome,
-    header: &Header,
-    scan: &mut Scan,
-) -> Option<World>
-    requires { IsOpen home.old.inner.opening }
-    ensures valid { IfSome result IsValid }
-    ensures opening { home.new.inner.opening ≡ home.old.inner.opening }
-{
-    if header.epoch == 0 {
-        return Some(World::empty(alloc));
-    }
-    if header.format != 1 && header.format != 2 {
-        return None;
-    }
-    match scan.next(alloc, home) {
-        Ok(Some(payload)) => world_of_image(alloc, &payload, header.format).ok(),
-        _ => None,
-    }
-}
-
-// The world of the file that stands, and its journal.
-fn standing(
-    alloc: Global,
-    home: &mut QuietHome,
-    header: &Header,
-    mut scan: Scan,
-) -> Option<(World, Journal)>
-    requires { IsOpen home.old.inner.opening }
-    ensures { home.new.inner.opening ≡ home.old.inner.opening }
-{
-    let format = header.format;
-    let world = first_world(alloc, home, header, &mut scan)?;
-    if format != 1 && format != 2 {
-        return None;
-    }
-    read_records(alloc, home, world, scan, format).ok()
+// The game whose store it is.
+fn worked_game() -> Option<GameId> {
+    GameId::new(b"sword-world").ok()
 }
 
 // The world that these files hold, if they hold one; no store yet has the empty world.
@@ -128,14 +90,8 @@ fn world_in(alloc: Global, zero: Vec<u8>, one: Vec<u8>) -> Option<Durable> {
     let inner = MemoryHome::new(alloc, zero, one, Vec::new(alloc), false);
     let mut home = QuietHome { inner };
     home.open("").ok()?;
-    match find_standing(&mut home) {
-        Ok(None) => world_after(alloc, 0),
-        Ok(Some((header, scan))) => {
-            let (world, _) = standing(alloc, &mut home, &header, scan)?;
-            world.durable(alloc).ok()
-        }
-        Err(_) => None,
-    }
+    let found = recover(alloc, &mut home, &worked_game()?).ok()?;
+    Some(found.durable)
 }
 
 // The store of a home, made where there is none yet.
@@ -143,27 +99,17 @@ fn opened(alloc: Global, home: &mut QuietHome, game: &GameId) -> Option<Store>
     requires { IsOpen home.old.inner.opening }
     ensures { home.new.inner.opening ≡ home.old.inner.opening }
 {
-    let marks = Vec::new(alloc);
-    match find_standing(home) {
-        Ok(None) => Some(Store {
-            journal: create(alloc, home, Side::Zero, game, 0).ok()?,
-            side: Side::Zero,
-            commits: 0,
-            marks,
-        }),
-        Ok(Some((header, scan))) => {
-            let side = scan.side();
-            let (world, journal) = standing(alloc, home, &header, scan)?;
-            let commits = world.durable(alloc).ok()?.commits;
-            Some(Store {
-                journal,
-                side,
-                commits,
-                marks,
-            })
-        }
-        Err(_) => None,
-    }
+    let found = recover(alloc, home, game).ok()?;
+    let journal = match found.store {
+        Some(journal) => journal,
+        None => create(alloc, home, found.side, game, 0).ok()?,
+    };
+    Some(Store {
+        journal,
+        side: found.side,
+        commits: found.durable.commits,
+        marks: Vec::new(alloc),
+    })
 }
 
 // Puts the next commit behind the others.
@@ -225,7 +171,7 @@ pub fn play(
     let mut inner = MemoryHome::new(alloc, zero, Vec::new(alloc), failing, false);
     let _ = inner.reserve(128, 8192);
     let mut home = QuietHome { inner };
-    let Ok(game) = GameId::new(b"sword-world") else {
+    let Some(game) = worked_game() else {
         return Ok(None);
     };
     if home.open("").is_err() {
