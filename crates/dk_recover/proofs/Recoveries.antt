@@ -39,7 +39,7 @@ side_file past Zero = refl
 side_file past One = refl
 
 -- one store stands
-one_side : (z o : List ℕ) (s t : Side) (h k : StoreHeader) → standing z o ≡ StandsOn s h → standing z o ≡ StandsOn t k → (s ≡ t) × (h ≡ k)
+pub one_side : (z o : List ℕ) (s t : Side) (h k : StoreHeader) → standing z o ≡ StandsOn s h → standing z o ≡ StandsOn t k → (s ≡ t) × (h ≡ k)
 one_side z o s t h k a b =
     let both : StandsOn s h ≡ StandsOn t k = sym a ∙ b in
     let sides : s ≡ t = cc in
@@ -149,7 +149,7 @@ module _ (z o game : List ℕ) (past : Past) where
   no_store (Err fault) none at new only = subst (λ (f : OpenFault). IsAnswer z o game past (Err f)) (sym only) (λ side h stands. let both : NoStore ≡ StandsOn side h = sym none ∙ stands in absurd cc)
 
 -- a file has one world
-one_held : (file : List ℕ) (header : StoreHeader) (d e : DurableWorld) → HoldsWorld file header d → HoldsWorld file header e → d ≡ e
+pub one_held : (file : List ℕ) (header : StoreHeader) (d e : DurableWorld) → HoldsWorld file header d → HoldsWorld file header e → d ≡ e
 one_held file header d e a b =
     one_world header b.payloads d e (subst (λ (ps : List (List ℕ)). HasWorld header ps d) (one_reading file (header_spelling header) a.payloads b.payloads a.reads b.reads) a.world) b.world
 
