@@ -4,7 +4,7 @@ use Rattle.dk_types.specs.declared.side.Side.{Side}
 use Rattle.dk_types.specs.declared.durable.Durable.{Durable}
 use Rattle.dk_types.specs.declared.limits.TheConstants.{NUMBERS_END}
 use Rattle.dk_types.specs.GameIds.{IsGameId}
-use Rattle.dk_disk.specs.Disk.{Disk, settled}
+use Rattle.dk_disk.specs.Disk.{Disk, IsImage, settled}
 use Rattle.dk_disk.specs.Past.{Past, now, other_side, MayLeave}
 use Rattle.dk_model.specs.DurableWorlds.{DurableWorld}
 use Rattle.dk_model.specs.Images.{SpellsImage, image_spelling}
@@ -12,7 +12,7 @@ use Rattle.dk_model.specs.Stores.{StoreHeader, IsHeader, header_spelling, Reads,
 use Rattle.dk_model.specs.Recovered.{HasWorld, HasDurable, file_on}
 use Rattle.dk_journal.specs.Moments.{Runs}
 use Rattle.dk_journal.specs.Ranks.{IsLesser}
-use Rattle.dk_journal.specs.Recoveries.{Recovering, IsEither}
+use Rattle.dk_journal.specs.Recoveries.{Recovering, IsEither, IsWorld, HeldNeverFalls}
 use Rattle.dk_journal.specs.Stores.{HasStore, AreSettled}
 use Rattle.dk_journal.specs.declared.journal.Journal.{Journal}
 use Rattle.dk_journal.proofs.Seen.{live}
@@ -20,6 +20,9 @@ use Rattle.dk_journal.proofs.Standings.{holding, image_on, other_file, blank_loo
 use Rattle.dk_journal.proofs.Stores.{twice, both_sides, store_recovers}
 use Rattle.dk_image.proofs.ValidWorlds.{valid_spells}
 use Rattle.dk_checkpoint.specs.Given.{IsGiven, IsReplacing, next_header, behind_gate, only_image}
+use Rattle.dk_journal.proofs.Recoveries.{recovering_weakened}
+use Rattle.dk_disk.proofs.Images.{settled_image}
+use Rattle.dk_checkpoint.proofs.Held.{same_held, first_file, second_file, both_left}
 use Rattle.dk_checkpoint.proofs.Fresh.{fresh_reads, fresh_end, fresh_world}
 
 -- the other file is as it was
@@ -90,7 +93,7 @@ module _ (past : Past) (side : Side) (journal : Journal) (lists : Durable) (head
           inr refl,
         ))
         more)
-        (run.each t from to (file_on (other_side side) zero one) (image_on (other_side side) new t zero one left));
+        ((run.each t from to).0 (file_on (other_side side) zero one) (image_on (other_side side) new t zero one left));
   }
 
   -- and once it is made
@@ -133,3 +136,14 @@ module _ (past : Past) (side : Side) (journal : Journal) (lists : Durable) (head
     made_stands made run end here next format place long =
         subst (λ (s : Side). HasStore new s made (next_header game header.epoch) (only_image lists) given) (sym is_other)
         (stands_anew new _ made (on_side run) (subst (λ (s : Side). now new s ≡ settled (1 ∷ behind)) is_other end ∙ ap (λ (b : List ℕ). settled (1 ∷ b)) behind_is) (here ∙ is_other) next format (omega (arith, place, long)))
+
+    -- where both worlds are one
+    pub run_held : before ≡ given → Runs other (IsReplacing (now past other).reads (1 ∷ behind)) past new → HeldNeverFalls past.clock new
+    run_held same run =
+        let recovers = recovering_weakened (IsEither before given) (IsWorld given) past new (λ d either. ⊎_elim (λ (e : d ≡ before). e ∙ same) (λ (e : d ≡ given). e) either) (run_recovers run) in
+        same_held given past.clock new recovers.each
+        (λ t from to.
+        let some = (run.each t from to).1 in
+        let stands : IsImage (new.disks t (other_side other)) (now past side).reads =
+        subst (λ (s : Side). IsImage (new.disks t s) (now past side).reads) (sym (ap other_side is_other ∙ twice side)) (subst (λ (d : Disk). IsImage d (now past side).reads) (sym (left_alone side other _ past new is_other run t from to ∙ is.store.stands.settled)) (settled_image (now past side).reads)) in
+        (first_file other some.0 (now past side).reads, second_file other some.0 (now past side).reads, both_left other new t some.0 (now past side).reads some.1 stands))

@@ -1,3 +1,4 @@
 pub mod Replaced
 pub mod Fresh
+pub mod Held
 pub mod Given

@@ -8,12 +8,12 @@ use Rattle.dk_checkpoint.specs.Given.{IsReplacing}
 
 module _ (side : Side) (file new_file : List ℕ) (old mid : Past) (first : Runs side (AreSameOrBlank file) old mid) where
   pub closed_only : Runs side (IsReplacing file new_file) old mid
-  closed_only = weakened side (AreSameOrBlank file) (IsReplacing file new_file) old mid (λ d are image left. ⊎_elim (λ same. inl same) (λ blank. inr (inl blank)) (are image left)) first
+  closed_only = weakened side (AreSameOrBlank file) (IsReplacing file new_file) old mid (λ d are. ((λ image left. ⊎_elim (λ same. inl same) (λ blank. inr (inl blank)) (are.0 image left)), are.1)) first
 
   pub replaced : (new : Past) (most : ℕ) → Runs side (AreBlankOr most new_file) mid new → Runs side (IsReplacing file new_file) old new
   replaced new most run =
       goes_further side (IsReplacing file new_file) old mid new closed_only
-      (weakened side (AreBlankOr most new_file) (IsReplacing file new_file) mid new (λ d are image left. ⊎_elim (λ (blank : IsBlankUpTo most image). inr (inl blank.0)) (λ (made : image ≡ new_file). inr (inr made)) (are image left)) run)
+      (weakened side (AreBlankOr most new_file) (IsReplacing file new_file) mid new (λ d are. ((λ image left. ⊎_elim (λ (blank : IsBlankUpTo most image). inr (inl blank.0)) (λ (made : image ≡ new_file). inr (inr made)) (are.0 image left)), are.1)) run)
 
 -- as many bytes as both files have
 pub room : (file behind : List ℕ) → (length file ≤ length file + (1 + length behind)) × (1 + length behind ≤ length file + (1 + length behind))

@@ -9,6 +9,7 @@ use Rattle.dk_model.specs.DurableWorlds.{DurableWorld}
 use Rattle.dk_model.specs.Validity.{IsValid}
 use Rattle.dk_model.specs.Images.{world_lists, image_spelling}
 use Rattle.dk_model.specs.Stores.{StoreHeader, header_fields, is_blank}
+use Rattle.dk_journal.specs.Moments.{HasSome}
 use Rattle.dk_journal.specs.Stores.{HasStore}
 use Rattle.dk_journal.specs.declared.journal.Journal.{Journal}
 
@@ -32,4 +33,4 @@ only_image lists = image_spelling lists ∷ []
 
 -- each image is the file from before, a blank one, or the new one
 abbrev pub IsReplacing : List ℕ → List ℕ → Disk → Type 0
-IsReplacing old new disk = (image : List ℕ) → IsImage disk image → (image ≡ old) ⊎ ((is_blank image ≡ true) ⊎ (image ≡ new))
+IsReplacing old new disk = ((image : List ℕ) → IsImage disk image → (image ≡ old) ⊎ ((is_blank image ≡ true) ⊎ (image ≡ new))) × HasSome disk

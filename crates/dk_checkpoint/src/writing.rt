@@ -12,7 +12,7 @@ ghost use Rattle.dk_model.specs.Images.{image_spelling};
 ghost use Rattle.dk_model.specs.Stores.{StoreHeader};
 ghost use Rattle.dk_journal.specs.Headers.{store_header};
 ghost use Rattle.dk_journal.specs.Moments.{Runs};
-ghost use Rattle.dk_journal.specs.Recoveries.{Recovering, AllRecover, IsEither, IsWorld};
+ghost use Rattle.dk_journal.specs.Recoveries.{Recovering, AllRecover, HeldNeverFalls, IsEither, IsWorld};
 ghost use Rattle.dk_journal.specs.Stores.{HasStore, AreSettled};
 ghost use Rattle.dk_checkpoint.specs.Given.{IsGiven, IsReplacing, next_header, behind_gate, only_image};
 ghost use Rattle.dk_checkpoint.specs.Refusals.{IsEarly, HasBegun};
@@ -106,7 +106,9 @@ pub fn checkpoint<M: Home>(
     requires settled { IsTrue M.tells → AreSettled (M.past home.old) }
 
     // At each moment since the call began each image recovers to the world from before, or to the given one.
-    ensures run { IsTrue M.tells → (header : StoreHeader) (payloads : List (List ℕ)) (before given : DurableWorld) → IsGiven (M.past home.old) side journal.now durable.now header payloads before given → Recovering (IsEither before given) (M.past home.old) (M.past home.new) }
+    ensures run { IsTrue M.tells → (header : StoreHeader) (payloads : List (List ℕ)) (before given : DurableWorld) → IsGiven (M.past home.old) side journal.now durable.now header payloads before given → Recovering (IsEither before given) (M.past home.old) (M.past home.new) } // What is held does not fall where the given world is the one from before.
+    ensures falls { IsTrue M.tells → (header : StoreHeader) (payloads : List (List ℕ)) (before given : DurableWorld) → IsGiven (M.past home.old) side journal.now durable.now header payloads before given → before ≡ given → HeldNeverFalls (M.past home.old).clock (M.past home.new) }
+
     // The file that stands is left, whatever comes.
     ensures leaves { IsTrue M.tells → (t : ℕ) → (M.past home.old).clock ≤ t → t ≤ (M.past home.new).clock → (M.past home.new).disks t side ≡ now (M.past home.old) side }
 

@@ -1,6 +1,7 @@
 use Rattle.std.proofs.Common.{◌+◌, length, sym, ap, ◌∙◌}
 use Rattle.dk_journal.proofs.Stores.{store_recovers}
-use Rattle.dk_checkpoint.proofs.Given.{not_yet, run_recovers, made_stands, left_alone, no_time}
+use Rattle.dk_checkpoint.proofs.Given.{not_yet, run_recovers, made_stands, left_alone, no_time, run_held}
+use Rattle.dk_checkpoint.proofs.Held.{now_held}
 use Rattle.dk_checkpoint.proofs.writing.checkpoint.Goals as goal
 
 pub returns-in_err-behind-clause-run : goal.returns-in_err-behind-clause-run
@@ -32,3 +33,14 @@ returns-in_err-replace-clause-leaves g c tells = left_alone _ _ _ _ _ c.other_of
 
 pub returns-clause-leaves : goal.returns-clause-leaves
 returns-clause-leaves g c tells = left_alone _ _ _ _ _ c.other_of-other.ensures (c.replace.ensures.run tells)
+
+pub returns-in_err-behind-clause-falls : goal.returns-in_err-behind-clause-falls
+returns-in_err-behind-clause-falls g c tells header payloads before given is same = now_held (g.M.Home.past c.args.home.now)
+
+pub returns-in_err-replace-clause-falls : goal.returns-in_err-replace-clause-falls
+returns-in_err-replace-clause-falls g c tells header payloads before given is same =
+    run_held _ _ _ _ _ _ _ _ is _ c.in_ok-behind.ensures.game _ (c.epoch.ensures ∙ is.store.epoch) c.in_ok-behind.ensures.within.1 c.in_ok-behind.ensures.within.0 _ c.other_of-other.ensures _ (c.as_slice.ensures ∙ c.in_ok-behind.ensures.ok.0) _ same (c.replace.ensures.run tells)
+
+pub returns-clause-falls : goal.returns-clause-falls
+returns-clause-falls g c tells header payloads before given is same =
+    run_held _ _ _ _ _ _ _ _ is _ c.in_ok-behind.ensures.game _ (c.epoch.ensures ∙ is.store.epoch) c.in_ok-behind.ensures.within.1 c.in_ok-behind.ensures.within.0 _ c.other_of-other.ensures _ (c.as_slice.ensures ∙ c.in_ok-behind.ensures.ok.0) _ same (c.replace.ensures.run tells)
