@@ -1,5 +1,5 @@
 -- The bytes of stores.
-use Rattle.std.proofs.Common.{◌≡◌, ◌≢◌, ℕ, ◌+◌, ◌<◌, ◌≤◌, ◌==◌, ◌||◌, Bool, true, false, not, nat_lt, nat_le, if◌then◌else◌, cond, map, take, Option, Some, None, List, [], ◌∷◌, ◌++◌, All, length, flat_map, codes, inl, inr, refl, sym, ap, subst, ◌∙◌, arith, length-append, lt-ltb, ltb-true}
+use Rattle.std.proofs.Common.{◌≡◌, ◌≢◌, ℕ, ◌+◌, ◌^◌, ◌<◌, ◌≤◌, ◌==◌, ◌||◌, Bool, true, false, not, nat_lt, nat_le, if◌then◌else◌, cond, map, take, Option, Some, None, List, [], ◌∷◌, ◌++◌, All, length, flat_map, codes, inl, inr, refl, sym, ap, subst, ◌∙◌, arith, length-append, lt-ltb, ltb-true}
 use Rattle.std.proofs.lemmas.Bool.Decides.{leb_tells, eqb_tells}
 use Rattle.std.proofs.lemmas.List.Sums.{AllPass-from_list_all}
 use Rattle.std.proofs.lemmas.List.Elements.{All-weaker}
@@ -9,28 +9,30 @@ use Rattle.std.specs.Ordering.{is_eq}
 use Rattle.std.specs.List.{list_all, AllByRecursion}
 use Rattle.std.specs.FinMap.{IsAntisymmetric}
 use Rattle.std.specs.FinMap.Entries.{find}
+use Rattle.dk_types.specs.declared.limits.TheConstants.{NUMBERS_END}
+use Rattle.dk_types.specs.declared.number.RunNo.{RunNo}
 use Rattle.dk_types.specs.declared.number.ObjectId.{ObjectId}
 use Rattle.dk_types.specs.declared.object.Object.{Object}
 use Rattle.dk_types.specs.declared.durable.Durable.{Durable}
 use Rattle.dk_types.specs.declared.durable.Entry.{Entry}
 use Rattle.dk_types.specs.declared.side.Side.TheVariants.{Zero, One}
 use Rattle.dk_types.specs.Names.{IsName, bytes_cmp}
-use Rattle.dk_types.specs.Fields.{u16_spelling, u32_spelling, u64_spelling, name_spelling, blob_spelling, id_spelling}
+use Rattle.dk_types.specs.Fields.{u16_spelling, u32_spelling, u64_spelling, name_spelling, blob_spelling, id_spelling, IsId}
 use Rattle.dk_types.specs.Lists.{IsList, list_spelling}
 use Rattle.dk_model.specs.Keys.{id_cmp, key_cmp}
 use Rattle.dk_model.specs.DurableWorlds.{DurableWorld, empty_world}
 use Rattle.dk_model.specs.Validity.{IsNumbered, IsObject, IsCommitted, IsValid}
 use Rattle.dk_model.specs.Effects.{pending_of, effects, after}
-use Rattle.dk_model.specs.Entries.{blob_most, IsObjectItem, IsBinding, SpellsEntries, entry_spelling}
+use Rattle.dk_model.specs.Entries.{blob_most, is_above_last, IsObjectItem, IsBinding, SpellsEntries, entry_spelling}
 use Rattle.dk_model.specs.Images.{IsImageValue, SpellsImage, image_spelling, world_lists}
 use Rattle.dk_model.specs.Stores.{Blank, Faulty, header_fault, is_blank, look, look_of_header, NoStore, NoneStands, standing, standing_of}
-use Rattle.dk_model.specs.Recovered.{IsNext, HasWorld}
+use Rattle.dk_model.specs.Recovered.{IsNext, Takes, HasWorld}
 use Rattle.dk_model.proofs.Bytes.{name_of_ascii}
 use Rattle.dk_model.proofs.Maps.{ids_total, exact_ids, keys_total, names_total, exact_names, some_is}
-use Rattle.dk_examples.specs.Worked.{run, nothing, in_eight, in_four}
-use Rattle.dk_examples.specs.StoreRows.{sword, HeadersAreSpelled, first_lists, first_world, first_entry, first_payload, FirstCommitIsSpelled, BareCommitIsSpelled, first_image, ImageIsSpelled, BlankFilesAreNoStore, TornHeadersAreNoStore, WrongHeadersAreToldByPlace, TheGreaterEpochStands, StoresHoldTheirWorld, TornRecordsAreNotLookedAt, ImagesStand, DamageIsToldByPlace}
+use Rattle.dk_examples.specs.Worked.{run, id, object, Lists, listed, nothing, in_eight, in_four}
+use Rattle.dk_examples.specs.StoreRows.{sword, HeadersAreSpelled, first_lists, first_world, first_entry, first_payload, FirstCommitIsSpelled, bare_entry, bare_payload, BareCommitIsSpelled, login_lists, login_entry, login_payload, end_lists, end_entry, end_payload, end_world, LaterCommitsAreSpelled, JournalsHoldTheirWorld, first_image, ImageIsSpelled, BlankFilesAreNoStore, TornHeadersAreNoStore, WrongHeadersAreToldByPlace, TheGreaterEpochStands, StoresHoldTheirWorld, TornRecordsAreNotLookedAt, ImagesStand, DamageIsToldByPlace}
 use Rattle.dk_examples.proofs.MadeMaps.{entries-made, made_get}
-use Rattle.dk_examples.proofs.Running.{AreSorted, effects-listed, world-made, puts}
+use Rattle.dk_examples.proofs.Running.{AreSorted, effects_by, effects-listed, world-made, puts}
 
 -- ---- spellings
 
@@ -119,6 +121,92 @@ bare_commit_is_spelled = (
   },
   refl,
 )
+
+an_object : (before : Option (ObjectId × Object)) (number k kind : ℕ) (bytes : List ℕ) → is_above_last id_cmp (λ (e : ObjectId × Object). e.0) before (id number k) ≡ true → number < NUMBERS_END → k < 2 ^ 32
+    → kind < 2 ^ 16 → length bytes ≤ 1048576 → IsObjectItem 2 before (id number k, object kind bytes)
+an_object before number k kind bytes above n p q short = record { id = record { run = n; k = p }; above = above; kind = q; bytes = short }
+
+some_id : (number k : ℕ) → number < NUMBERS_END → k < 2 ^ 32 → IsId (id number k)
+some_id number k n p = record { run = n; k = p }
+
+record_is_name : IsName (codes "$s.alice")
+record_is_name = name_of_ascii (codes "$s.alice") refl refl refl
+
+player_is_name : IsName (codes "Player.alice")
+player_is_name = name_of_ascii (codes "Player.alice") refl refl refl
+
+login_spelled : SpellsEntries 2 (login_entry ∷ []) login_payload
+unfolding list_spelling u16_spelling u32_spelling u64_spelling name_spelling blob_spelling id_spelling
+login_spelled = record {
+  are = (
+    record {
+      count = omega arith;
+      each = (
+        record {
+          seq = omega arith;
+          counted = refl;
+          run = refl;
+          effects = record {
+            written = record {
+              count = omega arith;
+              each = (
+                an_object None 0 1 1 _ refl (omega arith) (omega arith) (omega arith) (omega arith),
+                (an_object (Some _) 2 0 65281 _ refl (omega arith) (omega arith) (omega arith) (omega arith), (an_object (Some _) 2 1 3 _ refl (omega arith) (omega arith) (omega arith) (omega arith), tt)),
+              );
+            };
+            removed = no_items _;
+            bound = record {
+              count = omega arith;
+              each = (
+                record { name = record_is_name; above = refl; id = some_id 2 0 (omega arith) (omega arith) },
+                (record { name = player_is_name; above = refl; id = some_id 2 1 (omega arith) (omega arith) }, tt),
+              );
+            };
+            unbound = no_items _;
+            added = no_items _;
+            dropped = no_items _;
+            requeued = no_items _;
+          };
+        },
+        tt,
+      );
+    },
+    refl,
+  );
+  bytes = refl;
+}
+
+end_spelled : SpellsEntries 2 (end_entry ∷ []) end_payload
+unfolding list_spelling u16_spelling u32_spelling u64_spelling name_spelling blob_spelling id_spelling
+end_spelled = record {
+  are = (
+    record {
+      count = omega arith;
+      each = (
+        record {
+          seq = omega arith;
+          counted = refl;
+          run = refl;
+          effects = record {
+            written = record { count = omega arith; each = (an_object None 0 1 1 _ refl (omega arith) (omega arith) (omega arith) (omega arith), tt) };
+            removed = record { count = omega arith; each = ((some_id 2 0 (omega arith) (omega arith), refl), tt) };
+            bound = no_items _;
+            unbound = record { count = omega arith; each = ((record_is_name, refl), tt) };
+            added = no_items _;
+            dropped = no_items _;
+            requeued = no_items _;
+          };
+        },
+        tt,
+      );
+    },
+    refl,
+  );
+  bytes = refl;
+}
+
+pub later_commits_are_spelled : LaterCommitsAreSpelled
+later_commits_are_spelled = (login_spelled, refl, end_spelled, refl)
 
 -- the world as lists
 first_durable : Durable
@@ -244,6 +332,120 @@ first_is_next = record {
 first_holds : (format : ℕ) → 20 ≤ blob_most format → HasWorld (sword 0 format) (first_payload ∷ []) first_world
 first_holds format le = inl (refl, (first_world, record { entries = first_entry ∷ []; spelled = first_spelled format le; follow = (first_is_next, leads_first) }, refl))
 
+-- ---- a journal of four commits
+
+abbrev IsMadeBy : ℕ → ObjectId → Object → Type 0
+IsMadeBy n k x = IsNumbered k.run k.k × (k.run.0 ≤ n) × IsObject x
+
+-- a listed world whose largest run is n
+listed_valid : (l : Lists) (c n : ℕ) → AllByRecursion (λ e. IsMadeBy n e.0 e.1) l.objects → AllByRecursion (λ e. IsName e.0 × IsNumbered e.1.run e.1.k) l.names → l.tasks ≡ []
+    → n + 1 ≤ NUMBERS_END → c ≤ n + 1 → 0 < c → IsValid (listed l c (Some (run n)))
+listed_valid l c n objects names tasks below few some = record {
+  objects = λ k x e. find_holds id_cmp exact_ids (IsMadeBy n) l.objects objects k x (sym (made_get ids_total l.objects k) ∙ e);
+  names = λ name k e. find_holds bytes_cmp exact_names (λ n i. IsName n × IsNumbered i.run i.k) l.names names name k (sym (made_get names_total l.names name) ∙ e);
+  tasks = λ key task e. let no : None ≡ Some task = sym (made_get keys_total l.tasks key ∙ ap (find key_cmp key) tasks) ∙ e in absurd cc;
+  last = below;
+  commits = few;
+  begun = (λ e. absurd (omega (arith, e, some)), λ e. absurd cc);
+}
+
+-- an entry that leads from one listed world to another
+next_listed : (a b : Lists) (c : ℕ) (last next : Option RunNo) (entry : Entry) → AreSorted a → AreSorted b → after entry (listed a c last) ≡ listed b (c + 1) next → entry.effects ≡ effects_by a b → entry.seq ≡ c + 1
+    → IsValid (listed b (c + 1) next) → IsNext (listed a c last) entry
+next_listed a b c last next entry s t leads effects_ seq valid = record {
+  seq = seq;
+  effects = effects_ ∙ sym (ap (effects (listed a c last)) leads ∙ effects-listed a b c (c + 1) last next s t);
+  valid = subst IsValid (sym leads) valid;
+}
+
+made_by : (n number k kind : ℕ) (bytes : List ℕ) → number < NUMBERS_END → k < 2 ^ 32 → number ≤ n → kind < 2 ^ 16 → length bytes ≤ 1048576 → list_all (λ b. nat_lt b 256) bytes ≡ true
+    → IsMadeBy n (id number k) (object kind bytes)
+made_by n number k kind bytes p q le r short all = (record { number = p; place = q }, le, record { kind = r; body = record { short = short; bytes = bytes_below bytes all } })
+
+named : (name : List ℕ) (number k : ℕ) → IsName name → number < NUMBERS_END → k < 2 ^ 32 → IsName name × IsNumbered (run number) k
+named name number k is p q = (is, record { number = p; place = q })
+
+sorted_login : AreSorted login_lists
+sorted_login = record { objects = refl; names = refl; tasks = refl }
+
+sorted_end : AreSorted end_lists
+sorted_end = record { objects = refl; names = refl; tasks = refl }
+
+login_valid : (c n : ℕ) → 2 ≤ n → n + 1 ≤ NUMBERS_END → c ≤ n + 1 → 0 < c → IsValid (listed login_lists c (Some (run n)))
+login_valid c n le = listed_valid login_lists c n (
+  made_by n 0 0 2 _ (omega arith) (omega arith) (omega arith) (omega arith) (omega arith) refl,
+  (
+    made_by n 0 1 1 _ (omega arith) (omega arith) (omega arith) (omega arith) (omega arith) refl,
+    (
+      made_by n 2 0 65281 _ (omega arith) (omega arith) le (omega arith) (omega arith) refl,
+      (made_by n 2 1 3 _ (omega arith) (omega arith) le (omega arith) (omega arith) refl, tt),
+    ),
+  ),
+) (
+  named (codes "$s.alice") 2 0 record_is_name (omega arith) (omega arith),
+  (named (codes "Player.alice") 2 1 player_is_name (omega arith) (omega arith), (named (codes "Room") 0 1 room_is_name (omega arith) (omega arith), tt)),
+)
+    refl
+
+end_valid : IsValid end_world
+end_valid = listed_valid end_lists 4 4 (
+  made_by 4 0 0 2 _ (omega arith) (omega arith) (omega arith) (omega arith) (omega arith) refl,
+  (
+    made_by 4 0 1 1 _ (omega arith) (omega arith) (omega arith) (omega arith) (omega arith) refl,
+    (made_by 4 2 1 3 _ (omega arith) (omega arith) (omega arith) (omega arith) (omega arith) refl, tt),
+  ),
+)
+    (named (codes "Player.alice") 2 1 player_is_name (omega arith) (omega arith), (named (codes "Room") 0 1 room_is_name (omega arith) (omega arith), tt))
+    refl (omega arith) (omega arith) (omega arith)
+
+login_world : DurableWorld
+login_world = listed login_lists 2 (Some (run 2))
+
+leads_login : after login_entry first_world ≡ login_world
+unfolding login_world
+leads_login = world-made (after login_entry first_world) login_lists record { objects = simp puts; names = simp puts; tasks = simp puts; sorted = sorted_login }
+
+look_world : DurableWorld
+look_world = listed login_lists 3 (Some (run 3))
+
+leads_look : after (bare_entry 3 3) login_world ≡ look_world
+unfolding login_world look_world
+leads_look = refl
+
+leads_end : after end_entry look_world ≡ end_world
+unfolding look_world
+leads_end = world-made (after end_entry look_world) end_lists record { objects = simp puts; names = simp puts; tasks = simp puts; sorted = sorted_end }
+
+login_takes : Takes 2 first_world login_payload login_world
+unfolding login_world
+login_takes = record {
+  entries = login_entry ∷ [];
+  spelled = login_spelled;
+  follow = (next_listed first_lists login_lists 1 (Some (run 0)) (Some (run 2)) login_entry sorted_first sorted_login leads_login refl refl (login_valid 2 2 (omega arith) (omega arith) (omega arith) (omega arith)), leads_login);
+}
+
+look_takes : Takes 2 login_world bare_payload look_world
+unfolding login_world look_world
+look_takes = record {
+  entries = bare_entry 3 3 ∷ [];
+  spelled = bare_commit_is_spelled.0;
+  follow = (
+    next_listed login_lists login_lists 2 (Some (run 2)) (Some (run 3)) (bare_entry 3 3) sorted_login sorted_login leads_look refl refl (login_valid 3 3 (omega arith) (omega arith) (omega arith) (omega arith)),
+    leads_look,
+  );
+}
+
+end_takes : Takes 2 look_world end_payload end_world
+unfolding look_world
+end_takes = record {
+  entries = end_entry ∷ [];
+  spelled = end_spelled;
+  follow = (next_listed login_lists end_lists 3 (Some (run 3)) (Some (run 4)) end_entry sorted_login sorted_end leads_end refl refl end_valid, leads_end);
+}
+
+first_takes : Takes 2 empty_world first_payload first_world
+first_takes = record { entries = first_entry ∷ []; spelled = first_spelled 2 (omega arith); follow = (first_is_next, leads_first) }
+
 shut_gate : ◌≢◌ {A = ℕ} 0 1
 shut_gate e = absurd cc
 
@@ -275,6 +477,24 @@ stores_hold_their_world = (
       },
     ),
   ),
+)
+
+pub journals_hold_their_world : JournalsHoldTheirWorld
+unfolding blob_spelling u16_spelling u32_spelling u64_spelling
+journals_hold_their_world = (
+  (
+    Zero,
+    (
+      sword 0 2,
+      refl,
+      record {
+        payloads = first_payload ∷ login_payload ∷ bare_payload ∷ end_payload ∷ [];
+        reads = record { gate = 0; behind = []; closed = shut_gate; bytes = refl; header_length = refl; sized = (omega arith, (omega arith, (omega arith, (omega arith, tt)))) };
+        world = inl (refl, (first_world, first_takes, (login_world, login_takes, (look_world, look_takes, (end_world, end_takes, refl)))));
+      },
+    ),
+  ),
+  refl,
 )
 
 pub torn_records_are_not_looked_at : TornRecordsAreNotLookedAt

@@ -1,5 +1,5 @@
 -- Stores as bytes: how a first commit, an image and a header are spelled, and what two files give that are new, torn, damaged or both live.
-use Rattle.std.specs.Prelude.{◌≡◌, ◌≢◌, ℕ, ◌+◌, ◌-◌, ◌*◌, ◌≤◌, Some, List, [], ◌∷◌, ◌++◌, length, replicate, nat_le, if◌then◌else◌, codes}
+use Rattle.std.specs.Prelude.{◌≡◌, ◌≢◌, ℕ, ◌+◌, ◌-◌, ◌*◌, ◌≤◌, Some, List, [], ◌∷◌, ◌++◌, length, take, drop, replicate, nat_le, if◌then◌else◌, codes}
 use Rattle.dk_types.specs.declared.side.Side.TheVariants.{Zero, One}
 use Rattle.dk_types.specs.declared.durable.Entry.{Entry}
 use Rattle.dk_model.specs.DurableWorlds.{DurableWorld, empty_world}
@@ -78,6 +78,62 @@ bare_payload = hex (codes "0000000100000000000000030000000000000003") ++ hex (co
 abbrev pub BareCommitIsSpelled : Type 0
 BareCommitIsSpelled = SpellsEntries 2 (bare_entry 3 3 ∷ []) bare_payload × (length bare_payload ≡ 48)
 
+-- alice logs in: her session's record and her player are made, and the player is put into the room
+abbrev pub login_lists : Lists
+login_lists = record {
+  objects =
+      (id 0 0, object 2 (13 ∷ codes "a shiny sword")) ∷ (id 0 1, object 1 (in_four 1 ++ (in_eight 2 ++ (in_four 1 ++ (in_four 1 ++ (in_eight 0 ++ in_four 0))))))
+      ∷ (id 2 0, object 65281 (in_eight 1 ++ in_four 0)) ∷ (id 2 1, object 3 (5 ∷ (codes "alice" ++ 0 ∷ []))) ∷ [];
+  names = (codes "$s.alice", id 2 0) ∷ (codes "Player.alice", id 2 1) ∷ (codes "Room", id 0 1) ∷ [];
+  tasks = [];
+}
+
+abbrev pub login_entry : Entry
+login_entry = record {
+  seq = 2;
+  run = run 2;
+  effects = record no_effects { written = drop 1 login_lists.objects; bound = take 2 login_lists.names };
+}
+
+abbrev pub record_id : List ℕ
+record_id = hex (codes "000000000000000200000000")
+
+abbrev pub player_id : List ℕ
+player_id = hex (codes "000000000000000200000001")
+
+-- three objects and two names
+abbrev pub login_payload : List ℕ
+login_payload =
+    hex (codes "0000000100000000000000020000000000000002") ++ (hex (codes "00000003") ++ (room_id ++ (hex (codes "0001000000200000000100000000000000020000000100000001000000000000000000000000")
+    ++ (record_id ++ (hex (codes "ff010000000c000000000000000100000000") ++ (player_id ++ (hex (codes "00030000000705616c69636500")
+    ++ (hex (codes "00000000") ++ (hex (codes "000000020824732e616c696365") ++ (record_id ++ (hex (codes "0c506c617965722e616c696365") ++ (player_id
+    ++ hex (codes "00000000000000000000000000000000")))))))))))))
+
+-- her session ends: the room has no player, and the record and its name are gone
+abbrev pub end_lists : Lists
+end_lists = record {
+  objects = (id 0 0, object 2 (13 ∷ codes "a shiny sword")) ∷ (id 0 1, object 1 (in_four 0 ++ (in_four 1 ++ (in_eight 0 ++ in_four 0)))) ∷ (id 2 1, object 3 (5 ∷ (codes "alice" ++ 0 ∷ []))) ∷ [];
+  names = (codes "Player.alice", id 2 1) ∷ (codes "Room", id 0 1) ∷ [];
+  tasks = [];
+}
+
+abbrev pub end_entry : Entry
+end_entry = record {
+  seq = 4;
+  run = run 4;
+  effects = record no_effects { written = take 1 (drop 1 end_lists.objects); removed = id 2 0 ∷ []; unbound = codes "$s.alice" ∷ [] };
+}
+
+-- one object written and one removed, and one name unbound
+abbrev pub end_payload : List ℕ
+end_payload =
+    hex (codes "0000000100000000000000040000000000000004") ++ (hex (codes "00000001") ++ (room_id ++ (room_bytes ++ (hex (codes "00000001") ++ (record_id
+    ++ (hex (codes "00000000") ++ (hex (codes "000000010824732e616c696365") ++ hex (codes "000000000000000000000000"))))))))
+
+abbrev pub LaterCommitsAreSpelled : Type 0
+LaterCommitsAreSpelled =
+    SpellsEntries 2 (login_entry ∷ []) login_payload × (length login_payload ≡ 199) × SpellsEntries 2 (end_entry ∷ []) end_payload × (length end_payload ≡ 107)
+
 -- the world after the first commit: the number of commits and the next of the largest run; two objects, one name, no task
 abbrev pub first_image : List ℕ
 first_image =
@@ -145,6 +201,17 @@ with_first format behind = header_bytes 0 format ++ (1 ∷ (hex (codes "00000087
 abbrev pub StoresHoldTheirWorld : Type 0
 StoresHoldTheirWorld =
     Recovers (live 0) [] (Holding empty_world) × Recovers (with_first 1 (0 ∷ [])) [] (Holding first_world) × Recovers (with_first 2 (0 ∷ [])) [] (Holding first_world)
+
+-- after a login, a run without effects and the end of the session: four records
+abbrev pub whole_journal : List ℕ
+whole_journal =
+    with_first 2 (1 ∷ (hex (codes "000000c7") ++ (login_payload ++ (1 ∷ (hex (codes "00000030") ++ (bare_payload ++ (1 ∷ (hex (codes "0000006b") ++ (end_payload ++ 0 ∷ [])))))))))
+
+abbrev pub end_world : DurableWorld
+end_world = listed end_lists 4 (Some (run 4))
+
+abbrev pub JournalsHoldTheirWorld : Type 0
+JournalsHoldTheirWorld = Recovers whole_journal [] (Holding end_world) × (length whole_journal ≡ 574)
 
 -- a record whose gate is closed is not looked at, whatever was written of it
 abbrev pub TornRecordsAreNotLookedAt : Type 0

@@ -1,7 +1,7 @@
 //! Stores.
-ghost use Rattle.dk_examples.specs.StoreRows.{HeadersAreSpelled, FirstCommitIsSpelled, BareCommitIsSpelled, ImageIsSpelled};
+ghost use Rattle.dk_examples.specs.StoreRows.{HeadersAreSpelled, FirstCommitIsSpelled, BareCommitIsSpelled, LaterCommitsAreSpelled, ImageIsSpelled};
 ghost use Rattle.dk_examples.specs.StoreRows.{BlankFilesAreNoStore, TornHeadersAreNoStore, WrongHeadersAreToldByPlace, TheGreaterEpochStands};
-ghost use Rattle.dk_examples.specs.StoreRows.{StoresHoldTheirWorld, TornRecordsAreNotLookedAt, ImagesStand, DamageIsToldByPlace};
+ghost use Rattle.dk_examples.specs.StoreRows.{StoresHoldTheirWorld, JournalsHoldTheirWorld, TornRecordsAreNotLookedAt, ImagesStand, DamageIsToldByPlace};
 
 /// Headers of both formats, and of the next epoch, byte for byte.
 pub fn headers_are_spelled()
@@ -16,6 +16,11 @@ pub fn first_commit_is_spelled()
 /// A commit without effects has a payload of 48 bytes.
 pub fn bare_commit_is_spelled()
     ensures { BareCommitIsSpelled }
+{}
+
+/// The commit of a login and that of the end of its session, byte for byte.
+pub fn later_commits_are_spelled()
+    ensures { LaterCommitsAreSpelled }
 {}
 
 /// The image of the world after a first commit, byte for byte.
@@ -46,6 +51,11 @@ pub fn the_greater_epoch_stands()
 /// A new store holds nothing, and after a first commit its world.
 pub fn stores_hold_their_world()
     ensures { StoresHoldTheirWorld }
+{}
+
+/// A journal of four commits holds the world that they lead to.
+pub fn journals_hold_their_world()
+    ensures { JournalsHoldTheirWorld }
 {}
 
 /// What stands behind a closed gate is not looked at.
