@@ -31,7 +31,7 @@ use Rattle.dk_journal.proofs.Readings.{reads_within}
 use Rattle.dk_journal.proofs.Recoveries.{all_weakened, since_on, held_on}
 use Rattle.dk_journal.proofs.Standings.{appended}
 use Rattle.dk_image.proofs.Worlds.{next_world}
-use Rattle.dk_store_laws.proofs.Held.{held_falls}
+use Rattle.dk_checkpoint.proofs.Held.{append_held}
 use Rattle.dk_txn.specs.declared.finished.Finished.{Finished}
 use Rattle.dk_core.specs.declared.claimed.Claimed.{Claimed}
 use Rattle.dk_core.specs.declared.prepared.Prepared.{Prepared}
@@ -217,7 +217,7 @@ module _ (o : Opened) (began : ℕ) (tells : Bool) (old new : Past) (opening ope
           recovers = since_on (IsAfterSomeOrTail o front (last ∷ [])) began old new
               (λ t from to. all_weakened (IsAfterSomeOrTail o front []) (IsAfterSomeOrTail o front (last ∷ [])) old t (λ x some. after_more o front (last ∷ []) x (untailed o front x some)) (was.recovers t from to)) recovering;
           held = held_on began old new was.begun r.later r.kept was.held
-              (held_falls journal.side held.header held.payloads payload d w old new held.store.fits outranked held.store.world next_is grows r (falls h (header_spelling held.header) held.payloads here));
+              (append_held journal.side held.header held.payloads payload d w old new held.store.fits outranked held.store.world next_is grows r (falls h (header_spelling held.header) held.payloads here));
         }
 
     -- acknowledged, it has the world of the record

@@ -5,27 +5,27 @@ use Rattle.std.proofs.lemmas.List.{drop_more}
 use Rattle.dk_types.specs.declared.side.Side.{Side}
 use Rattle.dk_disk.specs.Disk.{Disk, IsImage, settled, overwritten, after_write, after_failed_write}
 use Rattle.dk_disk.specs.Past.{Past, now}
-use Rattle.dk_disk.proofs.Images.{settled_only}
+use Rattle.dk_disk.proofs.Images.{settled_only, settled_image}
 use Rattle.dk_model.specs.Stores.{is_blank}
 use Rattle.dk_journal.specs.Moments.{Runs, Looks, IsWriting, AreSameOrBlank}
 use Rattle.dk_journal.specs.Standing.{IsReady}
 use Rattle.dk_journal.proofs.Going.{begun, weakened, goes_further, looked_runs, looks_now}
 use Rattle.dk_journal.proofs.Gates.{one_byte, made_as_failed}
-use Rattle.dk_journal.proofs.Blanks.{blank_shut}
+use Rattle.dk_journal.proofs.Blanks.{blank_shut, written_some}
 use Rattle.dk_journal.proofs.Lookings.{byte_is}
 
 pub same_settled : (file : List ℕ) (d : Disk) → d ≡ settled file → AreSameOrBlank file d
-same_settled file d is image left = inl (settled_only file image (subst (λ (x : Disk). IsImage x image) is left))
+same_settled file d is = (λ image left. inl (settled_only file image (subst (λ (x : Disk). IsImage x image) is left)), (file, subst (λ (x : Disk). IsImage x file) (sym is) (settled_image file)))
 
 -- the byte that was read is no open gate
 pub shut_blank : (file : List ℕ) (gate : ℕ) → 0 < length file → gate ∷ [] ≡ take 1 (drop 0 file) → (gate == 1) ≡ false → is_blank file ≡ true
 shut_blank file gate some read shut = blank_shut file (λ e. eqb-false gate 1 shut (sym (byte_is file 0 gate some read) ∙ e))
 
 -- while the gate is being closed
-pub closing_gate : (file : List ℕ) (old d : Disk) → old ≡ settled file → 0 < length file → get_or file 0 0 ≡ 1 → IsWriting 0 (0 ∷ []) old d → AreSameOrBlank file d
-closing_gate file old d is some gate may =
+closing_each : (file : List ℕ) (old d : Disk) → old ≡ settled file → 0 < length file → get_or file 0 0 ≡ 1 → IsWriting 0 (0 ∷ []) old d → (image : List ℕ) → IsImage d image → (image ≡ file) ⊎ (is_blank image ≡ true)
+closing_each file old d is some gate may =
     ⊎_elim
-    (λ (e : d ≡ old). same_settled file d (e ∙ is))
+    (λ (e : d ≡ old). (same_settled file d (e ∙ is)).0)
     (λ others. ⊎_elim
     (λ (e : d ≡ after_failed_write 0 1 old). λ image left. torn image (subst (λ (x : Disk). IsImage x image) (e ∙ ap (after_failed_write 0 1) is) left))
     (λ more. ⊎_elim
@@ -48,6 +48,9 @@ closing_gate file old d is some gate may =
         (λ (open_image : get_or image 0 0 ≡ 1). inl (whole ∙ ap (λ b. b ∷ drop 1 file) (open_image ∙ sym gate) ∙ first_back))
         (λ shut. inr (blank_shut image shut))
         (cases_eq (get_or image 0 0) 1)
+
+pub closing_gate : (file : List ℕ) (old d : Disk) → old ≡ settled file → 0 < length file → get_or file 0 0 ≡ 1 → IsWriting 0 (0 ∷ []) old d → AreSameOrBlank file d
+closing_gate file old d is some gate may = (closing_each file old d is some gate may, written_some 0 (0 ∷ []) file old d is may)
 
 -- the gate is closed
 pub is_shut : (side : Side) (new : Past) (file : List ℕ) → now new side ≡ settled (overwritten 0 (0 ∷ []) file) → IsReady side new

@@ -15,3 +15,4 @@ pub mod StepLaws
 pub mod StepValid
 pub mod Tails
 pub mod OnceTasks
+pub mod Walks

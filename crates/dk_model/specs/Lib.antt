@@ -19,6 +19,7 @@ pub mod Openings
 pub mod Legal
 pub mod Messages
 pub mod Sights
+pub mod Retries
 pub mod Finishes
 pub mod Scripts
 pub mod Lines

@@ -1,3 +1,1 @@
-pub mod Worlds
 pub mod Stopped
-pub mod Held

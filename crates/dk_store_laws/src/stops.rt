@@ -1,5 +1,5 @@
 //! Laws of what a stop leaves.
-ghost use Rattle.std.specs.Prelude.{◌≡◌, ◌⊎◌, ℕ, ◌≤◌, List, [], ◌∷◌, ◌++◌, length};
+ghost use Rattle.std.specs.Prelude.{◌≡◌, ◌⊎◌, ℕ, ◌≤◌, List, length};
 ghost use Rattle.dk_types.specs.declared.side.Side.{Side};
 ghost use Rattle.dk_types.specs.declared.side.Side.TheVariants.{Zero};
 ghost use Rattle.dk_disk.specs.Past.{Past, now, other_side, MayLeave};
@@ -23,11 +23,10 @@ pub fn an_append_keeps_the_world_or_adds_to_it()
         → Runs side (HasOrNot (header_spelling header) payloads payload) old new → (t : ℕ) → old.clock ≤ t → t ≤ new.clock → (zero one : List ℕ) → MayLeave new t zero one → Recovers zero one (Holding d) ⊎ Recovers zero one (Holding e) }
 {}
 
-/// While a record is appended to the file that stands, the number of commits that every image recovers to at least does
-/// not fall.
-pub fn an_append_keeps_what_is_held()
-    ensures { (side : Side) (header : StoreHeader) (payloads : List (List ℕ)) (payload : List ℕ) (d e : DurableWorld) (old new : Past) → IsHeader header → IsOutranked header old (other_side side) → HasWorld header payloads d → HasWorld header (payloads ++ payload ∷ []) e
-        → d.commits ≤ e.commits → Runs side (HasOrNot (header_spelling header) payloads payload) old new → NeverFalls (header_spelling header) side old.clock new → HeldNeverFalls old.clock new }
+/// While a record is appended to the file that stands, and nothing is pending on the other, what is held does not fall.
+pub fn what_is_held_does_not_fall_over_an_append()
+    ensures { (side : Side) (header : StoreHeader) (payloads : List (List ℕ)) (payload : List ℕ) (d e : DurableWorld) (old new : Past) → IsHeader header → IsOutranked header old (other_side side) → HasWorld header payloads d → Takes header.format d payload e
+        → Runs side (HasOrNot (header_spelling header) payloads payload) old new → NeverFalls (header_spelling header) side old.clock new → HeldNeverFalls old.clock new }
 {}
 
 /// While a file of the first epoch is made beside a blank one, and the first file has no more bytes than a header and a
