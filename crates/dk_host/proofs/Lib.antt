@@ -8,3 +8,6 @@ pub mod Storing
 pub mod Looked
 pub mod Published
 pub mod Refusing
+pub mod Begun
+pub mod Dealing
+pub mod Ended

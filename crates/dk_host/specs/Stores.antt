@@ -13,11 +13,11 @@ use Rattle.dk_model.specs.Lawful.{AreLawful}
 use Rattle.dk_model.specs.Legal.{Opened, IsLegal, commits_of, world_after}
 use Rattle.dk_model.specs.Recovered.{IsNext}
 use Rattle.dk_model.specs.Stores.{StoreHeader}
-use Rattle.dk_model.specs.Tails.{MayCommit, IsAfterSomeOrTail}
+use Rattle.dk_model.specs.Tails.{MayCommit, IsTail, IsAfterSomeOrTail}
 use Rattle.dk_journal.specs.declared.journal.Journal.{Journal}
 use Rattle.dk_journal.specs.declared.refused.JournalRefused.{JournalRefused}
 use Rattle.dk_journal.specs.declared.refused.JournalRefused.TheVariants as journal_refused
-use Rattle.dk_journal.specs.Recoveries.{RecoverSince, HeldNeverFalls}
+use Rattle.dk_journal.specs.Recoveries.{AllRecover, RecoverSince, HeldNeverFalls, IsWorld}
 use Rattle.dk_journal.specs.Stores.{HasStore}
 use Rattle.dk_txn.specs.declared.finished.Finished.{Finished}
 use Rattle.dk_core.specs.declared.claimed.Claimed.{Claimed}
@@ -138,3 +138,15 @@ faults_after (Err (journal_refused.Full m)) n = None
 faults_after (Err (journal_refused.NotAStore at)) n = None
 faults_after (Err (journal_refused.Damaged at)) n = None
 faults_after (Err journal_refused.NoMemory) n = None
+
+-- HOW A HOST ENDS: at every moment since this one what a stop leaves recovers to the world after some first commits of the history, or after all of them and then the tail's, and what
+-- is held does not fall. Unless the store was stopped, the files now recover to the world after all events. No commit came since the tail was looked for
+pub record EndsAs (o : Opened) (began : ℕ) (past : Past) (events : List Event) (faults : Option ℕ) : Type 0 where
+  pub front : List Event
+  pub later : List Event
+  pub tail : List Event
+  pub all : events ≡ front ++ later
+  pub none : commits_of later ≡ 0
+  pub is_tail : IsTail o front tail
+  pub since : HasRecovered o began past front tail
+  pub now : faults ≡ None → AllRecover (IsWorld (world_after o events).durable) past past.clock

@@ -19,7 +19,7 @@ mod steps;
 mod store;
 
 pub use book::WorldBook;
-pub use host::{Closed, Host};
+pub use host::{Closed, Host, OpenRefused};
 pub use hosting::{CommitLedger, Hosting, PlaceLedger};
 pub use look::HostLook;
 pub use prepared::PreparedCommit;

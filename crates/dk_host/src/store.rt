@@ -1,12 +1,16 @@
 //! The store behind the commit lock.
-ghost use Rattle.std.specs.Prelude.{◌≡◌, ◌<◌, ◌^◌, ◌↔◌, ◌+◌, ℕ, min, None, [], ◌∷◌, length, IsErrOf};
+ghost use Rattle.std.specs.Prelude.{◌≡◌, ◌<◌, ◌^◌, ◌↔◌, ◌+◌, ℕ, min, None, [], ◌∷◌, length, IsErrOf, IsTrue};
 ghost use Rattle.std.specs.List.{All};
 ghost use Rattle.dk_types.specs.Faults.{COUNT_END};
 ghost use Rattle.dk_types.specs.declared.event.Event.TheVariants as event;
+ghost use Rattle.dk_disk.specs.Opening.{IsOpen};
+ghost use Rattle.dk_model.specs.Lawful.{AreLawful};
 ghost use Rattle.dk_model.specs.Legal.{pass_of};
+ghost use Rattle.dk_model.specs.Validity.{IsValid};
 ghost use Rattle.dk_journal.specs.declared.refused.JournalRefused.TheVariants.{Full};
 ghost use Rattle.dk_host.specs.Calls.{Entered, IsClaimOf, IsHonestAt};
-ghost use Rattle.dk_host.specs.Stores.{Appends, FindsNext, IsReady, LooksNext, WaitsOf, faults_after, waiting_after};
+ghost use Rattle.dk_host.specs.Refusals.{IsFree};
+ghost use Rattle.dk_host.specs.Stores.{Appends, FindsNext, HasRecovered, HoldsNow, IsReady, LooksNext, WaitsOf, faults_after, waiting_after};
 
 use crate::book::WorldBook;
 use crate::hosting::Hosting;
@@ -67,6 +71,35 @@ fn settle(
 }
 
 impl<W: Hosting, J: Naming, M: Home> CommitStore<W, J, M> {
+    // A store whose pass has seen nothing.
+    pub(crate) fn new(
+        home: M,
+        journal: Journal,
+        pass: Pass<WorldBook<W>, J>,
+        right: CommitRight<W>,
+        alloc: Global,
+    ) -> CommitStore<W, J, M>
+        requires lawful { AreLawful W.opened.rules }
+        requires valid { IsValid W.opened.durable }
+        requires pass { pass.front ≡ [] }
+        requires right { (right.commits.parts ≡ 1) × (right.places.parts ≡ 1) × (right.commits.amount ≡ 0) }
+        requires is_open { IsOpen (M.opening home) }
+        requires format { journal.format ≡ 2 }
+        requires holds { IsTrue M.tells → HoldsNow (M.past home) journal W.opened.durable }
+        requires since { IsTrue M.tells → HasRecovered W.opened W.began (M.past home) [] [] }
+        ensures free { IsFree result }
+    {
+        CommitStore {
+            home,
+            journal,
+            pass,
+            right,
+            waiting: None,
+            faults: None,
+            alloc,
+        }
+    }
+
     /// Looks whether all reads of a finished run stand, and makes what its commit needs. Nothing is entered.
     pub fn prepare<R: Wait>(
         &mut self,
