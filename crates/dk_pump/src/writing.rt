@@ -31,18 +31,19 @@ pub fn write_session<W: Hosting, J: Naming, R: Wait, K: Sink>(
             disconnect(rt, host, pass, conn, false);
             return WriteEnd::NoMemory;
         };
+        let end = handed.end;
         match put_frames(alloc, sink, handed.outs.as_slice()) {
             Ok(()) => {}
             Err(PutRefused::Failed) => {
                 disconnect(rt, host, pass, conn, false);
-                return hand_on(rt, host, pass, conn, handed.end);
+                return hand_on(rt, host, pass, conn, end);
             }
             Err(PutRefused::NoMemory) => {
                 disconnect(rt, host, pass, conn, false);
                 return WriteEnd::NoMemory;
             }
         }
-        if handed.end {
+        if end {
             return WriteEnd::Done;
         }
         if handed.outs.as_slice().is_empty() {

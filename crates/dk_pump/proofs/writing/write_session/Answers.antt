@@ -34,10 +34,10 @@ returns-in-Err-NoMemory-clause-writes g c =
     gives_up g.W.Hosting.opened g.J.Naming.name.passes c.args.pass.now.number c.args.conn (g.K.Sink.contents c.args.sink.now) (g.K.Sink.contents c.loop.sink) (g.K.Sink.counted c.args.sink.now) (g.K.Sink.counted c.loop.sink) c.args.pass.now.front c.loop.pass.front c.loop.invariant.writing HAND_MOST_COUNT c.in-Ok.handed.outs c.in-Ok.handed.end c.hand.new.pass.front (enters_one g.W.Hosting.opened g.J.Naming.name.passes c.args.pass.now.number _ c.loop.pass.front c.hand.new.pass.front (subst (λ n. Entered g.W.Hosting.opened n (event.Hand n c.args.conn HAND_MOST_COUNT c.in-Ok.handed.outs c.in-Ok.handed.end ∷ []) c.loop.pass.front c.hand.new.pass.front) c.loop.invariant.number c.in-Ok.ensures.entered) c.in-Ok.ensures.named) (g.K.Sink.contents c.put_frames.new.sink) put.0 (g.K.Sink.counted c.put_frames.new.sink) c.disconnect-in-Err-NoMemory.new.pass.front
     (subst (λ n. Disconnects g.W.Hosting.opened g.J.Naming.name.passes n c.args.conn false c.hand.new.pass.front c.disconnect-in-Err-NoMemory.new.pass.front) (c.in-Ok.ensures.number ∙ c.loop.invariant.number) c.disconnect-in-Err-NoMemory.ensures.posted)
 
-pub returns-then-handed-clause-writes : goal.returns-then-handed-clause-writes
-returns-then-handed-clause-writes g c =
+pub returns-then-end-clause-writes : goal.returns-then-end-clause-writes
+returns-then-end-clause-writes g c =
     let put : ArePut (Ok tt) (g.K.Sink.contents c.loop.sink) (g.K.Sink.contents c.put_frames.new.sink) (g.K.Sink.counted c.loop.sink) (g.K.Sink.counted c.put_frames.new.sink) c.in-Ok.handed.outs = subst (λ outs. ArePut (Ok tt) (g.K.Sink.contents c.loop.sink) (g.K.Sink.contents c.put_frames.new.sink) (g.K.Sink.counted c.loop.sink) (g.K.Sink.counted c.put_frames.new.sink) outs) c.as_slice.ensures c.in-Ok-put_frames.ensures.put in
-    let last = subst (λ b. Entered g.W.Hosting.opened c.args.pass.now.number (event.Hand c.args.pass.now.number c.args.conn HAND_MOST_COUNT c.in-Ok.handed.outs b ∷ []) c.loop.pass.front c.hand.new.pass.front) c.if-handed.true (subst (λ n. Entered g.W.Hosting.opened n (event.Hand n c.args.conn HAND_MOST_COUNT c.in-Ok.handed.outs c.in-Ok.handed.end ∷ []) c.loop.pass.front c.hand.new.pass.front) c.loop.invariant.number c.in-Ok.ensures.entered) in
+    let last = subst (λ b. Entered g.W.Hosting.opened c.args.pass.now.number (event.Hand c.args.pass.now.number c.args.conn HAND_MOST_COUNT c.in-Ok.handed.outs b ∷ []) c.loop.pass.front c.hand.new.pass.front) c.if-end.true (subst (λ n. Entered g.W.Hosting.opened n (event.Hand n c.args.conn HAND_MOST_COUNT c.in-Ok.handed.outs c.in-Ok.handed.end ∷ []) c.loop.pass.front c.hand.new.pass.front) c.loop.invariant.number c.in-Ok.ensures.entered) in
     writing_done g.W.Hosting.opened g.J.Naming.name.passes c.args.pass.now.number c.args.conn (g.K.Sink.contents c.args.sink.now) (g.K.Sink.contents c.loop.sink) (g.K.Sink.counted c.args.sink.now) (g.K.Sink.counted c.loop.sink) c.args.pass.now.front c.loop.pass.front c.loop.invariant.writing HAND_MOST_COUNT c.in-Ok.handed.outs (g.K.Sink.contents c.put_frames.new.sink) (g.K.Sink.counted c.put_frames.new.sink) c.hand.new.pass.front last (enters_one g.W.Hosting.opened g.J.Naming.name.passes c.args.pass.now.number _ c.loop.pass.front c.hand.new.pass.front last c.in-Ok.ensures.named) put.0 put.1
 
 pub loop-preserved : goal.loop-preserved
