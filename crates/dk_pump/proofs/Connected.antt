@@ -1,9 +1,8 @@
 -- A session's begin: pieces without a frame, the first frames, and the Connect.
-use Rattle.std.proofs.Common.{◌≡◌, ℕ, ◌<◌, ◌≤◌, List, [], ◌∷◌, ◌++◌, map, Option, Result, Ok, Err, refl, sym, ap, subst, ◌∙◌, append_assoc, length, slice_index_or, arith}
+use Rattle.std.proofs.Common.{◌≡◌, ℕ, ◌<◌, ◌≤◌, List, [], ◌∷◌, ◌++◌, map, Option, Ok, Err, refl, sym, ap, subst, ◌∙◌, append_assoc, length, slice_index_or, arith}
 use Rattle.std.proofs.lemmas.List.{append-nil}
 use Rattle.std.specs.List.{All, remove}
 use Rattle.std.specs.Io.KnownBytes.{Consumes}
-use Rattle.dk_types.specs.declared.number.ConnNo.{ConnNo}
 use Rattle.dk_types.specs.declared.event.Event.{Event}
 use Rattle.dk_model.specs.Frames.{Frame, Login}
 use Rattle.dk_model.specs.Legal.{Opened, pass_of}
@@ -12,16 +11,16 @@ use Rattle.dk_core.specs.declared.answers.ConnectRefused.TheVariants as refused
 use Rattle.dk_frame.specs.declared.frame.ClientFrame.{ClientFrame}
 use Rattle.dk_frame.specs.declared.frame.ClientFrame.TheVariants as client
 use Rattle.dk_frame.specs.Meanings.{frame_of}
-use Rattle.dk_frame.specs.Decoding.{Decoding, StandsFor}
+use Rattle.dk_frame.specs.Decoding.{Decoding}
 use Rattle.dk_host.specs.Calls.{Entered, connect_events}
 use Rattle.dk_pump.specs.declared.limits.TheConstants.{SESSION_MOST_BYTES}
 use Rattle.dk_pump.specs.declared.ends.SessionEnd.{SessionEnd}
 use Rattle.dk_pump.specs.declared.ends.SessionEnd.TheVariants as ends
 use Rattle.dk_pump.specs.declared.greeting.Greeted.{Greeted}
 use Rattle.dk_pump.specs.Ends.{end_of_connect}
-use Rattle.dk_pump.specs.Reading.{Loses, IsCause, IsOfRead, Counts, IsNextRead, IsNextEnd, IsFirstRead, IsFirstEnd, ConnectsBy, Greets}
+use Rattle.dk_pump.specs.Reading.{IsOfRead, Counts, IsNextRead, IsNextEnd, IsFirstRead, IsFirstEnd, ConnectsBy, Greets}
 use Rattle.dk_pump.proofs.Entering.{enters_none, enters_one}
-use Rattle.dk_pump.proofs.Streams.{consumes_none, consumes_then, cause_then}
+use Rattle.dk_pump.proofs.Streams.{consumes_then, cause_then}
 
 -- a list without length has nothing
 pub empty_is : {A : Type 0} (items : List A) → length items ≡ 0 → items ≡ []

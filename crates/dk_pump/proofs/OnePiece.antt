@@ -1,7 +1,7 @@
 -- One piece of a session's stream: what a decoder that is fed nothing tells, and then one that is fed the piece.
-use Rattle.std.proofs.Common.{◌≡◌, ℕ, ◌+◌, ◌<◌, ◌≤◌, List, [], ◌∷◌, ◌++◌, length, map, take, Option, Some, None, refl, sym, ap, subst, ◌∙◌, length-append, arith}
+use Rattle.std.proofs.Common.{◌≡◌, ℕ, ◌+◌, ◌<◌, ◌≤◌, List, [], ◌∷◌, ◌++◌, length, map, take, Option, None, refl, sym, ap, subst, ◌∙◌, length-append, arith}
 use Rattle.std.proofs.lemmas.List.{append-nil, length-take}
-use Rattle.std.specs.Io.KnownBytes.{Consumes, Keeps, IsAtEnd}
+use Rattle.std.specs.Io.KnownBytes.{Consumes, Keeps}
 use Rattle.dk_types.specs.Faults.{HasRisen}
 use Rattle.dk_model.specs.Frames.{Frame, Begun}
 use Rattle.dk_edge.specs.Streams.{Gives}
@@ -12,7 +12,7 @@ use Rattle.dk_frame.specs.Meanings.{frame_of}
 use Rattle.dk_frame.specs.Decoding.{Decoding, StandsFor, Refuses, IsNotBegun, following}
 use Rattle.dk_pump.specs.declared.limits.TheConstants.{SESSION_MOST_BYTES}
 use Rattle.dk_pump.specs.declared.ends.SessionEnd.TheVariants as ends
-use Rattle.dk_pump.specs.Reading.{IsRead, HasStream, IsNextRead, IsNextEnd}
+use Rattle.dk_pump.specs.Reading.{HasStream, IsNextRead, IsNextEnd}
 use Rattle.dk_pump.proofs.Streams.{consumes_none, keeps_consumes, whole_at_end, none_given, stands_as, nothing_follows}
 
 -- a decoder that was fed nothing, and no bad frame follows

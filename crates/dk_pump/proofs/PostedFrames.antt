@@ -1,23 +1,21 @@
 -- Frames as posts: the posting of frames goes on from frame to frame.
-use Rattle.std.proofs.Common.{◌≡◌, ℕ, List, [], ◌∷◌, ◌++◌, map, Result, Ok, Err, refl, sym, ap, subst, ◌∙◌, append_assoc}
+use Rattle.std.proofs.Common.{◌≡◌, ℕ, List, [], ◌∷◌, ◌++◌, Ok, Err, refl, sym, ap, subst, ◌∙◌, append_assoc}
 use Rattle.std.proofs.lemmas.List.{append-nil, map-append}
 use Rattle.std.proofs.lemmas.List.Concat.{flat_map-append}
 use Rattle.dk_types.specs.declared.number.ConnNo.{ConnNo}
 use Rattle.dk_types.specs.declared.job.Input.{Input}
 use Rattle.dk_types.specs.declared.event.Event.{Event}
 use Rattle.dk_types.specs.declared.event.Event.TheVariants as event
-use Rattle.dk_types.specs.declared.event.PostReply.{PostReply}
 use Rattle.dk_types.specs.declared.event.PostReply.TheVariants as posted
-use Rattle.dk_model.specs.Frames.{Frame, Logout, InSession, LoggedOut, AreInTurn, stage_behind, stage_after}
+use Rattle.dk_model.specs.Frames.{Frame, Logout, InSession, AreInTurn, stage_after}
 use Rattle.dk_model.specs.Legal.{Opened}
 use Rattle.dk_connections.specs.declared.answers.PostRefused.{PostRefused}
 use Rattle.dk_connections.specs.declared.answers.PostRefused.TheVariants as refused
 use Rattle.dk_frame.proofs.Turns.{stage_after-append}
 use Rattle.dk_host.specs.Calls.{post_events}
-use Rattle.dk_pump.specs.declared.posting.Progress.{Progress}
 use Rattle.dk_pump.specs.declared.posting.Progress.TheVariants as progress
 use Rattle.dk_pump.specs.Passes.{Enters}
-use Rattle.dk_pump.specs.Reading.{inputs_in, inputs_of, taken, StopsAt, TakesFirst, IsAsked, Posts, PostsFrames}
+use Rattle.dk_pump.specs.Reading.{inputs_in, inputs_of, taken, IsAsked, PostsFrames}
 use Rattle.dk_pump.proofs.Entering.{enters_none, enters_then, enters_as}
 
 -- the inputs of both

@@ -1,24 +1,24 @@
 -- A session's reading goes on from piece to piece, and comes to its end.
-use Rattle.std.proofs.Common.{◌≡◌, ℕ, ◌<◌, ◌≤◌, List, [], ◌∷◌, ◌++◌, Option, Some, None, Result, Ok, Err, refl, sym, ap, subst, ◌∙◌, append_assoc, length-append, arith}
+use Rattle.std.proofs.Common.{◌≡◌, ℕ, List, [], ◌∷◌, ◌++◌, Option, Ok, Err, refl, sym, ap, subst, ◌∙◌, append_assoc}
 use Rattle.std.proofs.lemmas.List.{append-nil}
 use Rattle.std.specs.Io.KnownBytes.{Consumes}
 use Rattle.dk_types.specs.declared.number.ConnNo.{ConnNo}
 use Rattle.dk_types.specs.declared.event.Event.{Event}
 use Rattle.dk_types.specs.declared.event.Event.TheVariants as event
-use Rattle.dk_model.specs.Frames.{Frame, Login, InSession, AtLogin, AreInTurn, stage_after}
+use Rattle.dk_model.specs.Frames.{Frame, Login, InSession, AreInTurn, stage_after}
 use Rattle.dk_model.specs.Legal.{Opened}
 use Rattle.dk_connections.specs.declared.answers.PostRefused.{PostRefused}
 use Rattle.dk_connections.specs.declared.answers.PostRefused.TheVariants as refused
 use Rattle.dk_frame.specs.declared.frame.FrameRefused.{FrameRefused}
 use Rattle.dk_frame.specs.declared.frame.FrameRefused.TheVariants as frames
-use Rattle.dk_frame.specs.Decoding.{Decoding, StandsFor, Refuses, following}
+use Rattle.dk_frame.specs.Decoding.{Decoding, StandsFor, Refuses}
 use Rattle.dk_frame.proofs.Turns.{stage_after-append}
 use Rattle.dk_pump.specs.declared.ends.SessionEnd.{SessionEnd}
 use Rattle.dk_pump.specs.declared.ends.SessionEnd.TheVariants as ends
 use Rattle.dk_pump.specs.declared.posting.Progress.TheVariants as progress
 use Rattle.dk_pump.specs.Ends.{end_of_frames, end_of_post}
 use Rattle.dk_pump.specs.Passes.{Enters}
-use Rattle.dk_pump.specs.Reading.{inputs_of, taken, StopsAt, TakesFirst, PostsFrames, IsRead, IsCause, IsOfRead, Counts, Loses, HasStream, IsNextRead, IsNextEnd, IsGreeted, IsPosted, ReadsTo, IsClosed, ReadsSession}
+use Rattle.dk_pump.specs.Reading.{inputs_of, taken, StopsAt, PostsFrames, IsRead, IsCause, IsOfRead, Counts, Loses, HasStream, IsNextRead, IsNextEnd, IsGreeted, IsPosted, ReadsTo, IsClosed, ReadsSession}
 use Rattle.dk_pump.proofs.Entering.{enters_none, enters_then, enters_as}
 use Rattle.dk_pump.proofs.PostedFrames.{inputs-append, taken-append}
 use Rattle.dk_pump.proofs.Streams.{consumes_none, consumes_then, cause_then}

@@ -1,9 +1,8 @@
 -- Bytes that are read piece by piece, and what a decoder makes of them.
-use Rattle.std.proofs.Common.{◌≡◌, ℕ, ◌+◌, ◌<◌, ◌≤◌, List, [], ◌∷◌, ◌++◌, length, Option, Some, None, refl, sym, ap, subst, ◌∙◌, append_assoc, length-append, arith}
+use Rattle.std.proofs.Common.{◌≡◌, ℕ, List, [], ◌∷◌, ◌++◌, Option, Some, None, refl, sym, ap, subst, ◌∙◌, append_assoc}
 use Rattle.std.proofs.lemmas.List.{append-nil, append_cancel_left}
 use Rattle.std.specs.Io.KnownBytes.{Consumes, Appends, Keeps, IsAtEnd}
-use Rattle.dk_model.specs.Frames.{Frame, Fault, Following, Nothing, IsStream}
-use Rattle.dk_edge.specs.Streams.{AppendsPrefix}
+use Rattle.dk_model.specs.Frames.{Frame, Fault, Nothing, IsStream}
 use Rattle.dk_frame.specs.Decoding.{Decoding, StandsFor, IsNotBegun, following, following_at}
 use Rattle.dk_frame.proofs.Apart.{one_reading}
 use Rattle.dk_pump.specs.declared.ends.SessionEnd.{SessionEnd}

@@ -1,10 +1,10 @@
 -- A session's writing goes on from Hand to Hand, and comes to its end.
-use Rattle.std.proofs.Common.{◌≡◌, ◌&&◌, ◌||◌, ℕ, ◌+◌, ◌≤◌, ◌<◌, Bool, true, false, cond, List, [], ◌∷◌, ◌++◌, length, take, drop, get_or, All, Option, Some, None, is_none, if◌then◌else◌, refl, sym, ap, subst, ◌∙◌, append_assoc, length-append, arith}
+use Rattle.std.proofs.Common.{◌≡◌, ◌&&◌, ◌||◌, ℕ, ◌+◌, ◌<◌, Bool, true, false, cond, List, [], ◌∷◌, ◌++◌, length, take, drop, get_or, Option, Some, None, is_none, if◌then◌else◌, refl, sym, ap, subst, ◌∙◌, append_assoc, length-append, arith}
 use Rattle.std.proofs.lemmas.List.{append-nil, take-append-le, take_all, take-append-drop, drop_more}
 use Rattle.std.proofs.lemmas.List.Concat.{flat_map-append}
 use Rattle.std.proofs.lemmas.List.Folds.{list_any-append}
 use Rattle.std.proofs.Math.Seq.{take-append-add}
-use Rattle.std.specs.List.{list_any, AllByRecursion}
+use Rattle.std.specs.List.{list_any}
 use Rattle.std.specs.Io.KnownBytes.{Appends}
 use Rattle.dk_types.specs.Faults.{HasRisen}
 use Rattle.dk_types.specs.declared.number.ConnNo.{ConnNo}
@@ -28,9 +28,9 @@ use Rattle.dk_host.specs.Calls.{Entered}
 use Rattle.dk_pump.specs.declared.ends.WriteEnd.{WriteEnd}
 use Rattle.dk_pump.specs.declared.ends.WriteEnd.TheVariants as ends
 use Rattle.dk_pump.specs.Passes.{Enters}
-use Rattle.dk_pump.specs.Reading.{IsDisconnect, IsOneDisconnect, Disconnects}
-use Rattle.dk_pump.specs.Writing.{frames_of, IsHand, AreHands, is_hand_to, tells_end, hands_to, IsHandedOut, IsGivenUp, IsWriter, IsPut, CountsPut, IsAll, WritesSession, IsWriting, EndsHands, HandsOn}
-use Rattle.dk_pump.proofs.Entering.{enters_none, enters_then, enters_as}
+use Rattle.dk_pump.specs.Reading.{IsDisconnect, Disconnects}
+use Rattle.dk_pump.specs.Writing.{frames_of, IsHand, AreHands, tells_end, hands_to, IsGivenUp, WritesSession, IsWriting, EndsHands, HandsOn}
+use Rattle.dk_pump.proofs.Entering.{enters_none, enters_then}
 use Rattle.dk_pump.proofs.Streams.{appends_none, appends_then}
 
 -- a short body is within the limit of frames

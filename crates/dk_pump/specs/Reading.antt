@@ -19,7 +19,6 @@ use Rattle.dk_model.specs.Lawful.{IsInput}
 use Rattle.dk_model.specs.Legal.{Opened}
 use Rattle.dk_connections.specs.declared.answers.PostRefused.{PostRefused}
 use Rattle.dk_connections.specs.declared.answers.PostRefused.TheVariants as refused
-use Rattle.dk_frame.specs.declared.frame.ClientFrame.{ClientFrame}
 use Rattle.dk_frame.specs.Meanings.{frame_of, fault_of}
 use Rattle.dk_frame.specs.Decoding.{Decoding, StandsFor, following}
 use Rattle.dk_pump.specs.declared.limits.TheConstants.{SESSION_MOST_BYTES}

@@ -1,4 +1,4 @@
-use Rattle.std.proofs.Common.{◌≡◌, [], map, sym, ap, subst, ◌∙◌, rules}
+use Rattle.std.proofs.Common.{◌≡◌, [], map, ap, subst, rules}
 use Rattle.dk_frame.specs.Meanings.{frame_of}
 use Rattle.dk_pump.specs.Reading.{IsFirstRead}
 use Rattle.dk_pump.proofs.Ended.{if_err}

@@ -1,5 +1,4 @@
-use Rattle.std.proofs.Common.{◌≡◌, ◌∷◌, map, Err, sym, ap, subst, ◌∙◌, rules}
-use Rattle.dk_model.specs.Frames.{Frame, Login}
+use Rattle.std.proofs.Common.{map, sym, subst}
 use Rattle.dk_frame.specs.Meanings.{frame_of}
 use Rattle.dk_pump.specs.Ends.{end_of_connect}
 use Rattle.dk_pump.specs.Reading.{Greets}

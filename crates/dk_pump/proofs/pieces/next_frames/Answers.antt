@@ -1,10 +1,7 @@
-use Rattle.std.proofs.Common.{◌≡◌, ◌+◌, ◌<◌, ◌≤◌, [], map, refl, sym, subst, arith}
+use Rattle.std.proofs.Common.{◌+◌, ◌≤◌, [], map, refl, arith}
 use Rattle.std.proofs.lemmas.Result.{IfOk-weaker, IfErr-weaker}
 use Rattle.dk_frame.specs.Meanings.{frame_of}
-use Rattle.dk_pump.specs.declared.limits.TheConstants.{SESSION_MOST_BYTES}
-use Rattle.dk_pump.specs.declared.ends.SessionEnd.TheVariants as ends
 use Rattle.dk_pump.specs.Ends.{end_of_frames}
-use Rattle.dk_pump.specs.Reading.{IsNextEnd}
 use Rattle.dk_pump.proofs.Ended.{if_err}
 use Rattle.dk_pump.proofs.OnePiece.{idle, refused_fed, budget_end, piece_fits, read_from, end_from}
 use Rattle.dk_pump.proofs.ReadOn.{refused_end}

@@ -1,4 +1,4 @@
-use Rattle.std.proofs.Common.{◌<◌, All, ap, subst}
+use Rattle.std.proofs.Common.{◌<◌, All, subst}
 use Rattle.dk_pump.proofs.posting.message.Goals as goal
 
 pub returns-clause-within : goal.returns-clause-within

@@ -1,4 +1,4 @@
-use Rattle.std.proofs.Common.{◌≡◌, rules, sym, subst, ◌∙◌}
+use Rattle.std.proofs.Common.{rules, sym, subst}
 use Rattle.dk_pump.specs.declared.putting.PutRefused.TheVariants as refused
 use Rattle.dk_types.specs.Faults.{HasRisen}
 use Rattle.dk_pump.specs.Writing.{ArePut}

@@ -1,7 +1,6 @@
-use Rattle.std.proofs.Common.{◌≡◌, map, Ok, Err, refl, sym, subst, ◌∙◌}
+use Rattle.std.proofs.Common.{map, Ok, Err, refl, sym, subst, ◌∙◌}
 use Rattle.dk_frame.specs.Meanings.{frame_of}
 use Rattle.dk_pump.specs.declared.posting.Progress.TheVariants as progress
-use Rattle.dk_pump.specs.Ends.{end_of_post}
 use Rattle.dk_pump.specs.Reading.{PostsFrames, ReadsTo}
 use Rattle.dk_pump.proofs.ReadOn.{reading_first, reading_stream, pending_turn, reading_posted, reads_to_logout, reads_refused, reading_next, reads_to_end}
 use Rattle.dk_pump.proofs.reading.read_frames.Goals as goal

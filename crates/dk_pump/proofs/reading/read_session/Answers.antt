@@ -1,4 +1,4 @@
-use Rattle.std.proofs.Common.{◌≡◌, map, subst}
+use Rattle.std.proofs.Common.{map, subst}
 use Rattle.dk_frame.specs.Meanings.{frame_of}
 use Rattle.dk_pump.specs.Reading.{IsClosed}
 use Rattle.dk_pump.proofs.ReadOn.{reads_session}

@@ -1,4 +1,4 @@
-use Rattle.std.proofs.Common.{◌≡◌, ◌∷◌, [], refl, subst, ◌∙◌}
+use Rattle.std.proofs.Common.{◌∷◌, [], refl, subst, ◌∙◌}
 use Rattle.dk_types.specs.declared.event.Event.TheVariants as event
 use Rattle.dk_host.specs.Calls.{Entered}
 use Rattle.dk_pump.specs.declared.limits.TheConstants.{HAND_MOST_COUNT}

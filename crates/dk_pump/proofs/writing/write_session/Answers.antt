@@ -1,10 +1,9 @@
-use Rattle.std.proofs.Common.{◌≡◌, ◌∷◌, [], Ok, Err, refl, subst, ◌∙◌, true, false}
+use Rattle.std.proofs.Common.{◌∷◌, [], Ok, Err, refl, subst, ◌∙◌, false}
 use Rattle.dk_types.specs.Faults.{HasRisen}
 use Rattle.dk_types.specs.declared.event.Event.TheVariants as event
 use Rattle.dk_host.specs.Calls.{Entered}
 use Rattle.dk_pump.specs.declared.limits.TheConstants.{HAND_MOST_COUNT}
 use Rattle.dk_pump.specs.declared.putting.PutRefused.TheVariants as refused
-use Rattle.dk_pump.specs.Passes.{Enters}
 use Rattle.dk_pump.specs.Reading.{Disconnects}
 use Rattle.dk_pump.specs.Writing.{ArePut, HandsOn}
 use Rattle.dk_pump.proofs.Entering.{enters_one}
