@@ -22,16 +22,16 @@ use Rattle.dk_core.specs.declared.durable.changed.Changed.{Changed}
 use Rattle.dk_core.specs.declared.prepared.Prepared.{Prepared}
 use Rattle.dk_core.specs.declared.answers.PrepareRefused.{PrepareRefused}
 use Rattle.dk_core.specs.declared.answers.PrepareRefused.TheVariants as prepare_refused
-use Rattle.dk_core.specs.Answers.{IsPrepared, Prepares, Commits, HasRoomFor, TellsRefused}
+use Rattle.dk_core.specs.Answers.{IsPrepared, Prepares, Commits, HasRoomFor}
 use Rattle.dk_core.specs.Changes.{Stands, IsFirstChanged}
 use Rattle.dk_core.specs.Cores.{Stays, IsGranted}
 use Rattle.dk_core.proofs.Committed.{tells}
 use Rattle.dk_core.specs.Rooms.{HasPlaces, places_of}
-use Rattle.dk_core.specs.StampedWorlds.{seen_now, durable_of}
+use Rattle.dk_core.specs.StampedWorlds.{seen_now}
 use Rattle.dk_host.specs.Books.{IsAt, IsKept}
 use Rattle.dk_host.specs.Calls.{IsHonestAt}
 use Rattle.dk_host.specs.Commits.{IsPreparedAt, IsFirstChangedAt, Finds}
-use Rattle.dk_host.specs.Steps.{Adds, MayPublish, PublishesBy, PreparesBy, TellsStep, places_for}
+use Rattle.dk_host.specs.Steps.{MayPublish, PublishesBy, PreparesBy, TellsStep, places_for}
 use Rattle.dk_host.proofs.Stepping.{legal, world_is, granted_stands, stands_granted}
 use Rattle.dk_host.proofs.Opening.{no_places}
 

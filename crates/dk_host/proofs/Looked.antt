@@ -1,5 +1,5 @@
 -- What the store's look for a commit tells.
-use Rattle.std.proofs.Common.{◌≡◌, ℕ, Bool, List, [], ◌∷◌, ◌++◌, Option, None, Result, Ok, Err, IfOk, refl, sym, ap, subst, ◌∙◌}
+use Rattle.std.proofs.Common.{◌≡◌, ℕ, Bool, List, [], ◌++◌, Option, None, Result, Ok, Err, IfOk, refl, sym, ap, subst, ◌∙◌}
 use Rattle.std.proofs.lemmas.List.{append-nil}
 use Rattle.dk_types.specs.declared.event.Event.{Event}
 use Rattle.dk_types.specs.declared.durable.Entry.{Entry}
@@ -17,7 +17,7 @@ use Rattle.dk_turn.specs.Fronts.{Known, Continues, Called}
 use Rattle.dk_host.specs.Calls.{Entered, IsClaimOf, Stands}
 use Rattle.dk_host.specs.Commits.{Finds, IsFirstChangedAt, IsPreparedAt}
 use Rattle.dk_host.specs.Steps.{PreparesBy, TellsStep, places_for}
-use Rattle.dk_host.specs.Stores.{IsStored, IsNextCommit, LooksNext}
+use Rattle.dk_host.specs.Stores.{IsStored, LooksNext}
 use Rattle.dk_host.proofs.Calling.{entered_by, may_end}
 use Rattle.dk_host.proofs.Nexts.{next_commit}
 use Rattle.dk_host.proofs.Storing.{store_on}

@@ -1,21 +1,18 @@
 -- The commit that comes next.
-use Rattle.std.proofs.Common.{◌≡◌, ℕ, ◌+◌, ◌<◌, ◌^◌, true, List, [], ◌∷◌, ◌++◌, Some, None, length, refl, sym, ap, subst, ◌∙◌, arith}
-use Rattle.std.specs.FinMap.{get}
+use Rattle.std.proofs.Common.{◌≡◌, ℕ, ◌+◌, ◌<◌, ◌^◌, List, [], ◌∷◌, ◌++◌, length, refl, sym, ap, subst, ◌∙◌}
 use Rattle.dk_types.specs.declared.event.Event.{Event}
 use Rattle.dk_types.specs.declared.durable.Entry.{Entry}
 use Rattle.dk_model.specs.DurableWorlds.{DurableWorld}
-use Rattle.dk_model.specs.Effects.{effects, after}
+use Rattle.dk_model.specs.Effects.{after}
 use Rattle.dk_model.specs.Entries.{AreEntries, entries_spelling}
-use Rattle.dk_model.specs.Events.{Meaning, Happens}
 use Rattle.dk_model.specs.Finishes.{Told, told_step}
 use Rattle.dk_model.specs.Lawful.{AreLawful}
-use Rattle.dk_model.specs.Legal.{Opened, opening_of, world_after, IsLegal, IsFront, commits_of}
+use Rattle.dk_model.specs.Legal.{Opened, opening_of, world_after, IsLegal, commits_of}
 use Rattle.dk_model.specs.Recovered.{IsNext, Takes}
 use Rattle.dk_model.specs.Steps.{Stepped, step}
-use Rattle.dk_model.specs.Successors.{after_event}
 use Rattle.dk_model.specs.Tails.{MayCommit}
 use Rattle.dk_model.specs.Worlds.{World, Claim}
-use Rattle.dk_laws.proofs.Between.{commits_change, commits_of-append, valid_on}
+use Rattle.dk_laws.proofs.Between.{commits_change, valid_on}
 use Rattle.dk_laws.proofs.OneWorld.{event_leads, events_lead, after_events-append}
 use Rattle.dk_laws.proofs.Sound.{IsSound}
 use Rattle.dk_laws.proofs.SoundCommits.{claim_ready}

@@ -1,5 +1,5 @@
 -- What a refused commit leaves.
-use Rattle.std.proofs.Common.{◌≡◌, ◌≢◌, ℕ, ◌<◌, ◌^◌, List, [], ◌∷◌, ◌++◌, Option, Some, None, Result, Ok, Err, refl, sym, ap, subst, ◌∙◌}
+use Rattle.std.proofs.Common.{◌≡◌, ℕ, ◌<◌, ◌^◌, List, [], ◌∷◌, ◌++◌, Some, None, Result, Ok, Err, refl, sym, ap, subst, ◌∙◌}
 use Rattle.std.proofs.lemmas.List.{append-nil}
 use Rattle.dk_types.specs.declared.event.Event.{Event}
 use Rattle.dk_types.specs.declared.item.Item.{Item}
@@ -20,9 +20,9 @@ use Rattle.dk_core.specs.declared.prepared.Prepared.{Prepared}
 use Rattle.dk_core.specs.declared.answers.PrepareRefused.{PrepareRefused}
 use Rattle.dk_core.specs.declared.answers.PrepareRefused.TheVariants as prepare_refused
 use Rattle.dk_core.specs.declared.durable.changed.Changed.{Changed}
-use Rattle.dk_turn.specs.Fronts.{Known, known, own}
+use Rattle.dk_turn.specs.Fronts.{Known, own}
 use Rattle.dk_host.specs.declared.refused.Why.{Why}
-use Rattle.dk_host.specs.Calls.{Entered, IsClaimOf, IsHonestAt, Stands}
+use Rattle.dk_host.specs.Calls.{Entered, IsClaimOf, IsHonestAt}
 use Rattle.dk_host.specs.Commits.{IsFirstChangedAt}
 use Rattle.dk_host.specs.Refusals.{IsRetry, IsCauseAt, IsLeftBy, IsFree, IsWhyOfLook, IsWhyOfAppend}
 use Rattle.dk_core.specs.Rooms.{places_of}

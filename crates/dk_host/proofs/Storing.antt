@@ -1,5 +1,5 @@
 -- What the store keeps over its calls.
-use Rattle.std.proofs.Common.{◌≡◌, ◌⊎◌, ⊎_elim, inl, inr, ℕ, ◌+◌, ◌<◌, ◌≤◌, ◌^◌, Bool, IsTrue, true, List, [], ◌∷◌, ◌++◌, Option, Some, None, Result, Ok, Err, OnOk, OnErr, IfErr, IsErrOf, length, refl, sym, ap, subst, ◌∙◌, arith, append_assoc}
+use Rattle.std.proofs.Common.{◌≡◌, ◌⊎◌, ⊎_elim, inl, inr, ℕ, ◌+◌, ◌≤◌, Bool, IsTrue, List, [], ◌∷◌, ◌++◌, Option, Some, None, Result, Ok, Err, OnOk, OnErr, IfErr, IsErrOf, refl, sym, ap, subst, ◌∙◌, arith}
 use Rattle.std.proofs.lemmas.List.{append-nil}
 use Rattle.dk_types.specs.declared.event.Event.{Event}
 use Rattle.dk_types.specs.declared.event.Event.TheVariants as event
@@ -13,7 +13,7 @@ use Rattle.dk_model.specs.Effects.{after}
 use Rattle.dk_model.specs.Entries.{entries_spelling}
 use Rattle.dk_model.specs.Legal.{Opened, opening_of, world_after, IsLegal, commits_of}
 use Rattle.dk_model.specs.Recovered.{Takes, HasWorld}
-use Rattle.dk_model.specs.Stores.{StoreHeader, header_spelling}
+use Rattle.dk_model.specs.Stores.{header_spelling}
 use Rattle.dk_model.specs.Tails.{IsAfterSome, IsAfterSomeOrTail}
 use Rattle.dk_model.proofs.Tails.{after_all, after_more}
 use Rattle.dk_laws.proofs.Between.{commits_of-append, commits_change}
@@ -24,9 +24,8 @@ use Rattle.dk_journal.specs.declared.refused.JournalRefused.TheVariants as journ
 use Rattle.dk_journal.specs.Refusals.{IsAppendFault}
 use Rattle.dk_journal.specs.Moments.{Runs, HasOrNot, NeverFalls}
 use Rattle.dk_journal.specs.Ranks.{IsLesser, IsOutranked}
-use Rattle.dk_journal.specs.Recoveries.{AllRecover, Recovering, RecoverSince, HeldNeverFalls}
+use Rattle.dk_journal.specs.Recoveries.{Recovering}
 use Rattle.dk_journal.specs.Standing.{Stands as StandsAt, IsAtRest}
-use Rattle.dk_journal.specs.Stores.{HasStore}
 use Rattle.dk_journal.proofs.Readings.{reads_within}
 use Rattle.dk_journal.proofs.Recoveries.{all_weakened, since_on, held_on}
 use Rattle.dk_journal.proofs.Standings.{appended}
@@ -37,7 +36,7 @@ use Rattle.dk_core.specs.declared.claimed.Claimed.{Claimed}
 use Rattle.dk_core.specs.declared.prepared.Prepared.{Prepared}
 use Rattle.dk_core.specs.Rooms.{places_of}
 use Rattle.dk_host.specs.Calls.{Stands}
-use Rattle.dk_host.specs.Stores.{IsNextCommit, commit_of, Waits, WaitsFor, HasRecovered, HoldsNow, IsStored, Stored, Appends, waiting_after, faults_after}
+use Rattle.dk_host.specs.Stores.{IsNextCommit, commit_of, HasRecovered, HoldsNow, IsStored, Stored, Appends, waiting_after, faults_after}
 use Rattle.dk_host.proofs.Nexts.{next_commit, durable_on, prepared_on, tells_on, takes}
 
 -- what a list begins with, where it ends with one more

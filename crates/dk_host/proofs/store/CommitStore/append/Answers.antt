@@ -1,8 +1,8 @@
-use Rattle.std.proofs.Common.{◌≡◌, ◌+◌, ◌<◌, ◌^◌, ◌↔◌, min, length, IsErrOf, Option, Some, None, refl, sym, ap, subst, ◌∙◌}
+use Rattle.std.proofs.Common.{◌≡◌, ◌+◌, ◌<◌, ◌^◌, ◌↔◌, min, length, IsErrOf, None, sym, ap, subst, ◌∙◌}
 use Rattle.dk_types.specs.Faults.{COUNT_END}
 use Rattle.dk_journal.specs.declared.refused.JournalRefused.TheVariants.{Full}
 use Rattle.dk_host.specs.Stores.{Stored, IsNextCommit}
-use Rattle.dk_host.proofs.Storing.{as_waiting, as_faults, at_rest, store_settled, appends}
+use Rattle.dk_host.proofs.Storing.{as_waiting, as_faults, store_settled}
 use Rattle.dk_host.proofs.store.CommitStore.append.Goals as goal
 
 pub invariant_of-self : goal.invariant_of-self

@@ -1,4 +1,4 @@
-use Rattle.std.proofs.Common.{◌≡◌, Err, refl, subst}
+use Rattle.std.proofs.Common.{refl, subst}
 use Rattle.dk_host.specs.Calls.{Entered}
 use Rattle.dk_host.specs.Refusals.{commit_events}
 use Rattle.dk_host.specs.Stores.{FindsNext}

@@ -1,5 +1,4 @@
-use Rattle.std.proofs.Common.{◌≡◌, Option, None, sym, ap, subst, ◌∙◌}
-use Rattle.dk_core.specs.declared.prepared.Prepared.{Prepared}
+use Rattle.std.proofs.Common.{◌≡◌, None, sym, ap, ◌∙◌}
 use Rattle.dk_host.specs.Stores.{Stored}
 use Rattle.dk_host.proofs.Calling.{may_end, honest_later}
 use Rattle.dk_host.proofs.Storing.{as_waiting, as_front}

@@ -1,6 +1,5 @@
-use Rattle.std.proofs.Common.{◌≡◌, Option, Some, None, sym, ap, subst, ◌∙◌}
-use Rattle.dk_core.specs.declared.prepared.Prepared.{Prepared}
-use Rattle.dk_host.specs.Stores.{Stored, IsNextCommit}
+use Rattle.std.proofs.Common.{◌≡◌, Some, sym, ap, ◌∙◌}
+use Rattle.dk_host.specs.Stores.{Stored}
 use Rattle.dk_host.proofs.Storing.{as_waiting, as_front}
 use Rattle.dk_host.proofs.Published.{may_publish, published_stored, published_entered, waits_next}
 use Rattle.dk_host.proofs.store.CommitStore.publish.Goals as goal
