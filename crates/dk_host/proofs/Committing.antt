@@ -1,5 +1,5 @@
 -- What the two steps of a commit owe.
-use Rattle.std.proofs.Common.{◌≡◌, ℕ, ◌+◌, List, [], ◌∷◌, ◌++◌, Result, Ok, Err, IfOk, refl, sym, ap, subst, ◌∙◌, arith}
+use Rattle.std.proofs.Common.{◌≡◌, ℕ, ◌+◌, List, [], ◌∷◌, ◌++◌, Result, Ok, Err, IfOk, IfErr, refl, sym, ap, subst, ◌∙◌, arith}
 use Rattle.std.specs.List.{AllByRecursion}
 use Rattle.std.proofs.lemmas.List.{append-nil}
 use Rattle.dk_types.specs.declared.event.Event.{Event}
@@ -18,19 +18,18 @@ use Rattle.dk_txn.specs.declared.finished.Finished.{Finished}
 use Rattle.dk_txn.specs.Finishes.{told}
 use Rattle.dk_core.specs.declared.world.Core.{Core}
 use Rattle.dk_core.specs.declared.claimed.Claimed.{Claimed}
-use Rattle.dk_core.specs.declared.durable.changed.Changed.{Changed}
 use Rattle.dk_core.specs.declared.prepared.Prepared.{Prepared}
 use Rattle.dk_core.specs.declared.answers.PrepareRefused.{PrepareRefused}
 use Rattle.dk_core.specs.declared.answers.PrepareRefused.TheVariants as prepare_refused
-use Rattle.dk_core.specs.Answers.{IsPrepared, Prepares, Commits, HasRoomFor}
-use Rattle.dk_core.specs.Changes.{Stands, IsFirstChanged}
+use Rattle.dk_core.specs.Answers.{IsPrepared, Prepares, TellsStale, Commits, HasRoomFor}
+use Rattle.dk_core.specs.Changes.{Stands}
 use Rattle.dk_core.specs.Cores.{Stays, IsGranted}
 use Rattle.dk_core.proofs.Committed.{tells}
 use Rattle.dk_core.specs.Rooms.{HasPlaces, places_of}
 use Rattle.dk_core.specs.StampedWorlds.{seen_now}
 use Rattle.dk_host.specs.Books.{IsAt, IsKept}
 use Rattle.dk_host.specs.Calls.{IsHonestAt}
-use Rattle.dk_host.specs.Commits.{IsPreparedAt, IsFirstChangedAt, Finds}
+use Rattle.dk_host.specs.Commits.{IsPreparedAt, Finds}
 use Rattle.dk_host.specs.Steps.{MayPublish, PublishesBy, PreparesBy, TellsStep, places_for}
 use Rattle.dk_host.proofs.Stepping.{legal, world_is, granted_stands, stands_granted}
 use Rattle.dk_host.proofs.Opening.{no_places}
@@ -64,27 +63,15 @@ module _ (o : Opened) (events : List Event) (c : Core) (at : IsAt o events c) wh
     entry = h.entry ∙ (λ i. record { seq = sym commits_is i + 1; run = claimed.run; effects = f.effects });
   }
 
-  pub changed_there : (reads : List (Item × Read)) (ch : Changed) → IsFirstChanged c.world reads ch → IsFirstChangedAt o events reads ch
-  changed_there reads ch h = record {
-    before = h.before;
-    read = h.read;
-    behind = h.behind;
-    listed = h.listed;
-    stand = stand_there h.before h.stand;
-    found = h.found;
-    now = h.now ∙ seen_is ch.item;
-    differ = h.differ;
-  }
-
 -- a core that stays where it was
 pub stays_at : (o : Opened) (events : List Event) (old new : Core) → IsAt o events old → Stays old new → IsAt o events new
 stays_at o events old new at stays = subst (λ es. IsAt o es new) (append-nil events) (stays o.rules o.durable o.budget events at)
 
 module _ (o : Opened) (events : List Event) (old new : Core) (at : IsAt o events old) (stays : Stays old new) (claimed : Claimed) (f : Finished) where
-  pub finds : (r : Result Prepared PrepareRefused) → Prepares old new claimed f r → Finds o events claimed f r
-  finds (Ok p) h = prepared_there o events new (stays_at o events old new at stays) claimed f p h.0
-  finds (Err (prepare_refused.Retry ch)) h = changed_there o events old at f.reads.items ch h
-  finds (Err prepare_refused.NoMemory) h = tt
+  pub finds : (r : Result Prepared PrepareRefused) → Prepares old new claimed f r → IfErr r (TellsStale old f) → Finds o events claimed f r
+  finds (Ok p) h stale = prepared_there o events new (stays_at o events old new at stays) claimed f p h.0
+  finds (Err (prepare_refused.Retry ch)) h stale = stale o.rules o.durable o.budget events at
+  finds (Err prepare_refused.NoMemory) h stale = tt
 
 -- there is room for what was prepared
 pub room_for : (old new : Core) (claimed : Claimed) (f : Finished) (r : Result Prepared PrepareRefused) → Prepares old new claimed f r → HasPlaces new.world.room (places_for r)
@@ -107,11 +94,11 @@ module _ (o : Opened) (events : List Event) (old new : Core) (total places : ℕ
       (tells o.rules k.0 o.durable o.budget events new now claimed.run claim held f honest is.0.ready.stand)
   tells_step (Err refused) is = tt
 
-  pub prepare_gives : (commits places_after : ℕ) → commits ≡ total → places_after ≡ places_for r → PreparesBy o claimed f commits places_after events r []
-  prepare_gives commits places_after same room = record {
+  pub prepare_gives : IfErr r (TellsStale old f) → (commits places_after : ℕ) → commits ≡ total → places_after ≡ places_for r → PreparesBy o claimed f commits places_after events r []
+  prepare_gives stale commits places_after same room = record {
     adds = record { same = refl; legal = subst (IsLegal o) (sym (append-nil events)) (legal o events old k.1) };
     counted = sym (same ∙ k.2);
-    finds = finds o events old new k.1 stays claimed f r h;
+    finds = finds o events old new k.1 stays claimed f r h stale;
     tells = tells_step r h;
     kept = room;
   }

@@ -5,17 +5,19 @@ use Rattle.dk_types.specs.declared.event.Event.{Event}
 use Rattle.dk_types.specs.declared.durable.Entry.{Entry}
 use Rattle.dk_disk.specs.Past.{Past}
 use Rattle.dk_disk.specs.Opening.{Opening}
-use Rattle.dk_model.specs.Legal.{Opened, IsLegal, commits_of, pass_of}
+use Rattle.dk_model.specs.Legal.{Opened, opening_of, IsLegal, commits_of, pass_of}
+use Rattle.dk_model.specs.Retries.{IsFirstStale}
 use Rattle.dk_journal.specs.declared.journal.Journal.{Journal}
 use Rattle.dk_txn.specs.declared.finished.Finished.{Finished}
 use Rattle.dk_core.specs.declared.claimed.Claimed.{Claimed}
 use Rattle.dk_core.specs.declared.prepared.Prepared.{Prepared}
 use Rattle.dk_core.specs.declared.answers.PrepareRefused.{PrepareRefused}
 use Rattle.dk_core.specs.declared.answers.PrepareRefused.TheVariants as prepare_refused
+use Rattle.dk_core.specs.Changes.{stale_of}
 use Rattle.dk_core.specs.Rooms.{places_of}
 use Rattle.dk_turn.specs.Fronts.{Known, Continues, Called}
 use Rattle.dk_host.specs.Calls.{Entered, IsClaimOf, Stands}
-use Rattle.dk_host.specs.Commits.{Finds, IsFirstChangedAt, IsPreparedAt}
+use Rattle.dk_host.specs.Commits.{Finds, IsPreparedAt}
 use Rattle.dk_host.specs.Steps.{PreparesBy, TellsStep, places_for}
 use Rattle.dk_host.specs.Stores.{IsStored, LooksNext}
 use Rattle.dk_host.proofs.Calling.{entered_by, may_end}
@@ -60,7 +62,7 @@ module _ (o : Opened) (began : ℕ) (tells : Bool) (past : Past) (opening : Open
       where
         tells_of : r ≡ Ok q → TellsStep o c.before claimed f
         tells_of is = subst (λ x. IfOk x (λ _. TellsStep o c.before claimed f)) is by.tells
-    found (Err (prepare_refused.Retry changed)) is = subst (λ es. IsFirstChangedAt o es f.reads.items changed) (sym before_is) (subst (Finds o c.before claimed f) is by.finds)
+    found (Err (prepare_refused.Retry changed)) is = subst (λ es. IsFirstStale o.rules (opening_of o) es f.reads.items (stale_of changed)) (sym before_is) (subst (Finds o c.before claimed f) is by.finds)
     found (Err prepare_refused.NoMemory) is = tt
 
     pub looked_next : LooksNext o new claimed f room r

@@ -2,14 +2,12 @@
 use Rattle.std.proofs.Common.{◌≡◌, ℕ, ◌<◌, ◌^◌, List, [], ◌∷◌, ◌++◌, Some, None, Result, Ok, Err, refl, sym, ap, subst, ◌∙◌}
 use Rattle.std.proofs.lemmas.List.{append-nil}
 use Rattle.dk_types.specs.declared.event.Event.{Event}
-use Rattle.dk_types.specs.declared.item.Item.{Item}
-use Rattle.dk_types.specs.declared.item.Read.{Read}
-use Rattle.std.specs.List.{AllByRecursion}
 use Rattle.dk_model.specs.Lawful.{AreLawful}
 use Rattle.dk_model.specs.Legal.{Opened, opening_of, IsFront, IsLegal, pass_of}
-use Rattle.dk_model.specs.Sights.{IsHonestRead}
-use Rattle.dk_laws.proofs.Between.{changes_tell}
+use Rattle.dk_model.specs.Retries.{Stale, IsFirstStale}
 use Rattle.dk_laws.proofs.LaterOn.{front_self, front_on, claims_stand, honest_on}
+use Rattle.dk_laws.proofs.StaleReads.{stale_tells}
+use Rattle.dk_core.specs.Changes.{stale_of}
 use Rattle.dk_journal.specs.declared.refused.JournalRefused.{JournalRefused}
 use Rattle.dk_journal.specs.declared.refused.JournalRefused.TheVariants as journal_refused
 use Rattle.dk_journal.specs.Refusals.{IsAppendFault}
@@ -19,11 +17,9 @@ use Rattle.dk_core.specs.declared.claimed.Claimed.{Claimed}
 use Rattle.dk_core.specs.declared.prepared.Prepared.{Prepared}
 use Rattle.dk_core.specs.declared.answers.PrepareRefused.{PrepareRefused}
 use Rattle.dk_core.specs.declared.answers.PrepareRefused.TheVariants as prepare_refused
-use Rattle.dk_core.specs.declared.durable.changed.Changed.{Changed}
 use Rattle.dk_turn.specs.Fronts.{Known, own}
 use Rattle.dk_host.specs.declared.refused.Why.{Why}
 use Rattle.dk_host.specs.Calls.{Entered, IsClaimOf, IsHonestAt}
-use Rattle.dk_host.specs.Commits.{IsFirstChangedAt}
 use Rattle.dk_host.specs.Refusals.{IsRetry, IsCauseAt, IsLeftBy, IsFree, IsWhyOfLook, IsWhyOfAppend}
 use Rattle.dk_core.specs.Rooms.{places_of}
 use Rattle.dk_host.specs.Stores.{Stored, Appends, FindsNext, IsNextCommit, WaitsOf}
@@ -66,22 +62,13 @@ module _ (o : Opened) (old new : Known Event) (claimed : Claimed) (f : Finished)
   pub honest_still : IsHonestAt o old.front claimed f → IsHonestAt o new.front claimed f
   honest_still honest = subst (λ es. IsHonestAt o es claimed f) (sym goes.all) (honest_on o.rules (opening_of o) old.front goes.later claimed.job claimed.run claimed.at f.reads.items (told f) honest)
 
--- a read among others
-listed : (P : Item × Read → Type 0) (before : List (Item × Read)) (x : Item × Read) (behind : List (Item × Read)) → AllByRecursion P (before ++ x ∷ behind) → P x
-listed P [] x behind h = h.0
-listed P (y ∷ before) x behind h = listed P before x behind h.1
-
--- where a read sees something else, there was a commit since the claim
-pub retry : (o : Opened) (front : List Event) (claimed : Claimed) (f : Finished) (c : Changed) → AreLawful o.rules → IsHonestAt o front claimed f → IsFirstChangedAt o front f.reads.items c → IsRetry o front claimed f c
-retry o front claimed f c lawful honest first =
-    let read : IsHonestRead o.rules (opening_of o) front claimed.run c.item first.read
-    = listed (λ r. IsHonestRead o.rules (opening_of o) front claimed.run r.0 r.1) first.before (c.item, first.read) first.behind
-    (subst (AllByRecursion (λ r. IsHonestRead o.rules (opening_of o) front claimed.run r.0 r.1)) first.listed honest.honest) in
-    record { first = first; since = changes_tell o.rules (opening_of o) front claimed.run c.item first.read lawful read (λ same. first.differ (first.found ∙ same ∙ sym first.now)) }
+-- where a read is stale, there was a commit since the claim
+pub retry : (o : Opened) (front : List Event) (claimed : Claimed) (f : Finished) (stale : Stale) → AreLawful o.rules → IsHonestAt o front claimed f → IsFirstStale o.rules (opening_of o) front f.reads.items stale → IsRetry o front claimed f stale
+retry o front claimed f stale lawful honest first = record { first = first; since = stale_tells o.rules (opening_of o) front claimed.run f.reads.items stale lawful honest.honest first }
 
 -- the cause of a look that was refused
 pub look_cause : (o : Opened) (front : List Event) (claimed : Claimed) (f : Finished) (room : ℕ) (refused : PrepareRefused) (w : Why) → AreLawful o.rules → IsHonestAt o front claimed f → FindsNext o front claimed f room (Err refused) → IsWhyOfLook refused w → IsCauseAt o front claimed f w
-look_cause o front claimed f room (prepare_refused.Retry c) w lawful honest finds is = subst (IsCauseAt o front claimed f) (sym is) (retry o front claimed f c lawful honest finds)
+look_cause o front claimed f room (prepare_refused.Retry c) w lawful honest finds is = subst (IsCauseAt o front claimed f) (sym is) (retry o front claimed f (stale_of c) lawful honest finds)
 look_cause o front claimed f room prepare_refused.NoMemory w lawful honest finds is = subst (IsCauseAt o front claimed f) (sym is) tt
 
 pub look_left : (old new : Stored) (refused : PrepareRefused) (w : Why) → IsWhyOfLook refused w → old.faults ≡ None → new.faults ≡ None → IsLeftBy w old new

@@ -3,7 +3,8 @@ use Rattle.std.specs.Prelude.{◌≡◌, ℕ, ◌<◌, ◌^◌, List, [], ◌∷
 use Rattle.dk_types.specs.Faults.{HasRisen}
 use Rattle.dk_types.specs.declared.event.Event.{Event}
 use Rattle.dk_types.specs.declared.event.Event.TheVariants as event
-use Rattle.dk_model.specs.Legal.{Opened}
+use Rattle.dk_model.specs.Legal.{Opened, opening_of}
+use Rattle.dk_model.specs.Retries.{Stale, IsFirstStale}
 use Rattle.dk_laws.specs.FrontsLaw.{HasCommitSince}
 use Rattle.dk_journal.specs.declared.refused.JournalRefused.{JournalRefused}
 use Rattle.dk_journal.specs.declared.refused.JournalRefused.TheVariants as journal_refused
@@ -11,11 +12,9 @@ use Rattle.dk_txn.specs.declared.finished.Finished.{Finished}
 use Rattle.dk_core.specs.declared.claimed.Claimed.{Claimed}
 use Rattle.dk_core.specs.declared.answers.PrepareRefused.{PrepareRefused}
 use Rattle.dk_core.specs.declared.answers.PrepareRefused.TheVariants as prepare_refused
-use Rattle.dk_core.specs.declared.durable.changed.Changed.{Changed}
 use Rattle.dk_host.specs.declared.refused.CommitRefused.{CommitRefused}
 use Rattle.dk_host.specs.declared.refused.Why.{Why}
 use Rattle.dk_host.specs.declared.refused.Why.TheVariants as why
-use Rattle.dk_host.specs.Commits.{IsFirstChangedAt}
 use Rattle.dk_host.specs.Stores.{Stored}
 
 -- the event of a commit that was answered; one that was refused enters none
@@ -23,9 +22,9 @@ abbrev pub commit_events : ℕ → Claimed → Finished → Result ℕ CommitRef
 commit_events pass claimed f (Ok seq) = event.Commit pass claimed.run seq f.outcome ∷ []
 commit_events pass claimed f (Err refused) = []
 
--- the first read that sees something else at this front, where there was a commit since the claim
-pub record IsRetry (o : Opened) (front : List Event) (claimed : Claimed) (f : Finished) (c : Changed) : Type 0 where
-  pub first : IsFirstChangedAt o front f.reads.items c
+-- the first stale read at this front, where there was a commit since the claim
+pub record IsRetry (o : Opened) (front : List Event) (claimed : Claimed) (f : Finished) (stale : Stale) : Type 0 where
+  pub first : IsFirstStale o.rules (opening_of o) front f.reads.items stale
   pub since : HasCommitSince claimed.run front
 
 -- what a cause says of the front

@@ -10,8 +10,9 @@ use Rattle.dk_model.specs.DurableWorlds.{DurableWorld}
 use Rattle.dk_model.specs.Effects.{after}
 use Rattle.dk_model.specs.Entries.{AreEntries, entries_spelling}
 use Rattle.dk_model.specs.Lawful.{AreLawful}
-use Rattle.dk_model.specs.Legal.{Opened, IsLegal, commits_of, world_after}
+use Rattle.dk_model.specs.Legal.{Opened, opening_of, IsLegal, commits_of, world_after}
 use Rattle.dk_model.specs.Recovered.{IsNext}
+use Rattle.dk_model.specs.Retries.{IsFirstStale}
 use Rattle.dk_model.specs.Stores.{StoreHeader}
 use Rattle.dk_model.specs.Tails.{MayCommit, IsTail, IsAfterSomeOrTail}
 use Rattle.dk_journal.specs.declared.journal.Journal.{Journal}
@@ -24,10 +25,11 @@ use Rattle.dk_core.specs.declared.claimed.Claimed.{Claimed}
 use Rattle.dk_core.specs.declared.prepared.Prepared.{Prepared}
 use Rattle.dk_core.specs.declared.answers.PrepareRefused.{PrepareRefused}
 use Rattle.dk_core.specs.declared.answers.PrepareRefused.TheVariants as prepare_refused
+use Rattle.dk_core.specs.Changes.{stale_of}
 use Rattle.dk_core.specs.Rooms.{places_of}
 use Rattle.dk_turn.specs.Fronts.{Known}
 use Rattle.dk_host.specs.declared.prepared.PreparedCommit.{PreparedCommit}
-use Rattle.dk_host.specs.Commits.{IsPreparedAt, IsFirstChangedAt}
+use Rattle.dk_host.specs.Commits.{IsPreparedAt}
 use Rattle.dk_host.specs.Steps.{TellsStep}
 
 -- what contracts see of a store: its pass, the record that waits, how much room is kept, the kept count of faults where it is stopped, the home's count, and the journal's length
@@ -93,16 +95,16 @@ pub record IsStored (o : Opened) (began : ℕ) (tells : Bool) (past : Past) (ope
   pub since : IsTrue tells → HasRecovered o began past front tail
   pub holds : IsTrue tells → faults ≡ None → HoldsNow past journal (world_after o (front ++ tail)).durable
 
--- what a prepare of the store finds: the commit comes next, and its room is kept; or the first read that sees something else
+-- what a prepare of the store finds: the commit comes next, and its room is kept; or the first stale read
 abbrev pub FindsNext : Opened → List Event → Claimed → Finished → ℕ → Result PreparedCommit PrepareRefused → Type 0
 FindsNext o events claimed f room (Ok c) = IsNextCommit o events claimed f c.prepared × (room ≡ places_of f.effects)
-FindsNext o events claimed f room (Err (prepare_refused.Retry changed)) = IsFirstChangedAt o events f.reads.items changed
+FindsNext o events claimed f room (Err (prepare_refused.Retry changed)) = IsFirstStale o.rules (opening_of o) events f.reads.items (stale_of changed)
 FindsNext o events claimed f room (Err prepare_refused.NoMemory) = Unit {0}
 
 -- the same of what a look finds, before its record is spelled
 abbrev pub LooksNext : Opened → List Event → Claimed → Finished → ℕ → Result Prepared PrepareRefused → Type 0
 LooksNext o events claimed f room (Ok p) = IsNextCommit o events claimed f p × (room ≡ places_of f.effects)
-LooksNext o events claimed f room (Err (prepare_refused.Retry changed)) = IsFirstChangedAt o events f.reads.items changed
+LooksNext o events claimed f room (Err (prepare_refused.Retry changed)) = IsFirstStale o.rules (opening_of o) events f.reads.items (stale_of changed)
 LooksNext o events claimed f room (Err prepare_refused.NoMemory) = Unit {0}
 
 -- the commit of some run comes next, and its room is kept

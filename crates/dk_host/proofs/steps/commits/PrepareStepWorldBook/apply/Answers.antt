@@ -32,6 +32,6 @@ returns g c =
         c.keep_for.ensures.whole.1,
         c.keep_for.ensures.commits ∙ (c.let_go.ensures.commits ∙ c.audit.ensures.commits.1),
         prepare_gives o now c.book.inside.core c.prepare-result.new.self c.book.inside.commits.total c.book.inside.places.total k c.prepare-result.ensures.stays c.args.self.claimed.now c.args.self.finished.now
-            c.prepare-result.result c.prepare-result.ensures.prepares (may_granted o c.args._pass now c.book.inside.core c.args.self.claimed.now k.1 c.requires.2.0) c.requires.2.1 _ _ c.audit.ensures.commits.0 c.keep_for.ensures.places.0,
+            c.prepare-result.result c.prepare-result.ensures.prepares (may_granted o c.args._pass now c.book.inside.core c.args.self.claimed.now k.1 c.requires.2.0) c.requires.2.1 c.prepare-result.ensures.stale _ _ c.audit.ensures.commits.0 c.keep_for.ensures.places.0,
       ),
     )
