@@ -50,6 +50,7 @@ use Rattle.dk_core.specs.Cores.{world_of, IsTracked, StandsFor, Stays, HasMoreRo
 use Rattle.dk_core.specs.Marking.{IsTaskFreed}
 use Rattle.dk_core.specs.Answers.{Commits, HasRoomFor, IsPrepared}
 use Rattle.dk_core.proofs.Having.{never, has_which}
+use Rattle.dk_core.proofs.Stales.{seen_here}
 use Rattle.dk_core.proofs.Standing.{sound_of, entered}
 use Rattle.dk_core.proofs.Entering.{with_connections}
 use Rattle.dk_core.proofs.Tracked.{tracked_less}
@@ -63,15 +64,11 @@ module _ (rules : Meaning) (lawful : AreLawful rules) (d : DurableWorld) (budget
   abbrev o : World
   o = opening d budget
 
-  -- what is seen now is what is seen after the history
-  seen_here : (item : Item) → seen_now old.world item ≡ seen rules o events item
-  seen_here item = s.stamps item ∙ ap (λ (w : World). seen_in w.durable (stamp rules o events item) item) (events_lead rules o events (world_of old) s.leads)
-
   -- what an honest read was answered is what is answered now, where it stands
   answered_now : (run : RunNo) (item : Item) (read : Read) → IsHonestRead rules o events run item read → read.seen ≡ seen_now old.world item → answer (durable_of old.world) item ≡ read.answer
   answered_now run item read h stands =
       let alike : seen rules o (h.earlier ++ h.later) item ≡ seen rules o h.earlier item
-      = ap (λ es. seen rules o es item) (sym h.all) ∙ sym (seen_here item) ∙ sym stands ∙ h.was.saw in
+      = ap (λ es. seen rules o es item) (sym h.all) ∙ sym (seen_here rules d budget events old s item) ∙ sym stands ∙ h.was.saw in
       ap (λ (w : World). answer w.durable item) (events_lead rules o events (world_of old) s.leads) ∙ ap (λ es. answer (after_events rules o es).durable item) h.all
       ∙ seen_alike rules lawful o h.earlier h.later item alike ∙ sym h.was.answered
 

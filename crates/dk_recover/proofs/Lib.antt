@@ -15,3 +15,4 @@ pub mod Table
 pub mod OnlyRead
 pub mod Undamaged
 pub mod Recoveries
+pub mod OneAnswer

@@ -1,26 +1,28 @@
 -- What recovering answers, by what was found and read.
-use Rattle.std.proofs.Common.{◌≡◌, ⊎_elim, inl, inr, ℕ, List, Option, Some, None, Result, Ok, Err, IfOk, IfErr, MatchResult, refl, sym, ap, subst, ◌∙◌, arith}
-use Rattle.std.proofs.lemmas.Bool.{false≢true}
+use Rattle.std.proofs.Common.{◌≡◌, ⊎_elim, inl, inr, ℕ, ◌≤◌, leb, ltb, true, false, if◌then◌else◌, take, length, List, Option, Some, None, Result, Ok, Err, IfOk, IfErr, MatchResult, refl, sym, ap, subst, ◌∙◌, arith}
+use Rattle.std.proofs.lemmas.Bool.{false≢true, leb-true}
 use Rattle.std.specs.Result.{IsErr, IsErrAnd}
 use Rattle.dk_types.specs.declared.side.Side.{Side}
 use Rattle.dk_types.specs.declared.side.Side.TheVariants.{Zero, One}
 use Rattle.dk_types.specs.declared.durable.Durable.{Durable}
 use Rattle.dk_disk.specs.Disk.{Disk, settled}
-use Rattle.dk_disk.specs.Past.{Past, now}
+use Rattle.dk_disk.specs.Past.{Past, now, other_side}
 use Rattle.dk_model.specs.DurableWorlds.{DurableWorld, empty_world}
 use Rattle.dk_model.specs.Images.{world_lists}
 use Rattle.dk_model.specs.Validity.{IsValid}
-use Rattle.dk_model.specs.Stores.{StoreHeader, header_spelling, NoStore, StandsOn, NoneStands, standing, Reads}
+use Rattle.dk_model.specs.Stores.{StoreHeader, header_spelling, Look, Blank, Live, Faulty, look, look_of_header, header_fault, is_blank, NoStore, StandsOn, NoneStands, standing, standing_of, Reads}
 use Rattle.dk_model.specs.Recovered.{HasWorld, HoldsWorld, HasDurable, IsDamaged, Recovers, Holding, NotYet, file_on}
 use Rattle.dk_model.specs.Recovered as files
 use Rattle.dk_image.proofs.Worlds.{one_world, world_valid, empty_valid}
 use Rattle.dk_journal.specs.Headers.{store_header}
+use Rattle.dk_journal.specs.Ranks.{IsLesser}
 use Rattle.dk_journal.specs.declared.header.Header.{Header}
 use Rattle.dk_journal.specs.declared.journal.Journal.{Journal}
 use Rattle.dk_journal.specs.declared.scan.Scan.{Scan}
 use Rattle.dk_journal.proofs.Readings.{one_reading}
+use Rattle.dk_journal.proofs.Outranked.{outranks}
 use Rattle.dk_recover.specs.Files.{Settles}
-use Rattle.dk_recover.specs.Recovery.{IsOurs, IsOfOther, IsStore, IsFound, IsAnswer, IsOfDevice}
+use Rattle.dk_recover.specs.Recovery.{IsOurs, IsOfOther, IsStore, IsNoStore, IsFound, IsAnswer, IsOfDevice}
 use Rattle.dk_recover.specs.Records.{IsWhole}
 use Rattle.dk_recover.specs.Stood.{IsStanding, IsStood, IsStandingFault}
 use Rattle.dk_recover.specs.declared.fault.OpenFault.{OpenFault}
@@ -37,12 +39,38 @@ side_file past Zero = refl
 side_file past One = refl
 
 -- one store stands
-one_side : (z o : List ℕ) (s t : Side) (h k : StoreHeader) → standing z o ≡ StandsOn s h → standing z o ≡ StandsOn t k → (s ≡ t) × (h ≡ k)
+pub one_side : (z o : List ℕ) (s t : Side) (h k : StoreHeader) → standing z o ≡ StandsOn s h → standing z o ≡ StandsOn t k → (s ≡ t) × (h ≡ k)
 one_side z o s t h k a b =
     let both : StandsOn s h ≡ StandsOn t k = sym a ∙ b in
     let sides : s ≡ t = cc in
     let headers : h ≡ k = cc in
     (sides, headers)
+
+-- no store is there yet only beside two blank files, the first of them short
+none_stands_of : (n : ℕ) (a b : Look) → standing_of n a b ≡ NoStore → (a ≡ Blank) × (b ≡ Blank) × (n ≤ 65)
+none_stands_of n (Faulty at) b is = absurd cc
+none_stands_of n Blank (Faulty at) is = absurd cc
+none_stands_of n (Live x) (Faulty at) is = absurd cc
+none_stands_of n (Live x) Blank is = absurd cc
+none_stands_of n Blank (Live k) is = absurd cc
+none_stands_of n Blank Blank is =
+    elim (leb n 65) as (λ c. leb n 65 ≡ c → (if c then NoStore else NoneStands Zero 0) ≡ NoStore → (Blank ≡ Blank) × (Blank ≡ Blank) × (n ≤ 65)) [ true ↦ λ short _. (refl, refl, leb-true n 65 short) | false ↦ λ _ no. absurd cc ] refl is
+none_stands_of n (Live x) (Live k) is =
+    elim (ltb k.epoch x.epoch) as (λ c. (if c then StandsOn Zero x else if ltb x.epoch k.epoch then StandsOn One k else NoneStands One 11) ≡ NoStore → (Live x ≡ Blank) × (Live k ≡ Blank) × (n ≤ 65)) [
+      | true ↦ λ no. absurd cc
+      | false ↦ λ rest. elim (ltb x.epoch k.epoch) as (λ c. (if c then StandsOn One k else NoneStands One 11) ≡ NoStore → (Live x ≡ Blank) × (Live k ≡ Blank) × (n ≤ 65)) [ true ↦ λ no. absurd cc | false ↦ λ no. absurd cc ] rest
+    ] is
+
+headed : (bytes : List ℕ) (fault : Option ℕ) → look_of_header bytes fault ≡ Blank → ⊥
+headed bytes None is = absurd cc
+headed bytes (Some at) is = absurd cc
+
+blank_is : (file : List ℕ) → look file ≡ Blank → is_blank file ≡ true
+blank_is file is =
+    elim (is_blank file) as (λ c. (if c then Blank else if ltb (length file) 65 then Faulty 0 else look_of_header (take 64 file) (header_fault (take 64 file))) ≡ Blank → c ≡ true) [
+      | true ↦ λ _. refl
+      | false ↦ λ rest. absurd (elim (ltb (length file) 65) as (λ c. (if c then Faulty 0 else look_of_header (take 64 file) (header_fault (take 64 file))) ≡ Blank → ⊥) [ true ↦ λ no. absurd cc | false ↦ λ no. headed (take 64 file) (header_fault (take 64 file)) no ] rest)
+    ] is
 
 module _ (z o game : List ℕ) (header : Header) (scan : Scan) (is : IsStanding z o header scan) where
   pub of_other : (header.game ≡ game → ⊥) → IsOfOther z o game header.game
@@ -63,24 +91,33 @@ module _ (z o game : List ℕ) (header : Header) (scan : Scan) (is : IsStanding 
   refused (WrongGame found) bad here = absurd bad
 
   pub recovered : (world : DurableWorld) (journal : Journal) (durable : Durable) (side : Side) (format : ℕ) → IsWhole (file_on scan.side z o) (store_header header) (Ok (world, journal)) → (journal.side ≡ scan.side) × (journal.epoch ≡ scan.epoch) × (journal.format ≡ scan.format)
-      → now past scan.side ≡ settled (file_on scan.side z o) → durable ≡ world_lists world → side ≡ scan.side → format ≡ scan.format → IsAnswer z o game past (Ok (record { durable = durable; store = Some journal; side = side; format = format }))
+      → ((s : Side) → now past s ≡ settled (file_on s z o)) → durable ≡ world_lists world → side ≡ scan.side → format ≡ scan.format → IsAnswer z o game past (Ok (record { durable = durable; store = Some journal; side = side; format = format }))
   recovered world journal durable side format whole journal_is at lists side_is format_is =
-      let reads : (now past scan.side).reads ≡ file_on scan.side z o = ap (λ (d : Disk). d.reads) at in
+      let reads : (s : Side) → (now past s).reads ≡ file_on s z o = λ s. ap (λ (d : Disk). d.reads) (at s) in
+      let rests : (s : Side) → now past s ≡ settled (now past s).reads = λ s. at s ∙ ap settled (sym (reads s)) in
       let store : IsStore z o game past (record { durable = durable; store = Some journal; side = scan.side; format = format }) journal = record {
         header = store_header header;
         world = world;
         stands = is.stands;
-        fits = is.opened.fits;
         ours = same;
         holds = record { payloads = whole.0; reads = whole.1; world = whole.2 };
         durable = lists;
         format = format_is ∙ is.opened.format;
-        journal_side = journal_is.0;
-        journal_header = (journal_is.1 ∙ is.opened.epoch, journal_is.2 ∙ is.opened.format);
-        journal_stands = record {
-          settled = at ∙ ap settled (sym reads);
-          reads = subst (λ (f : List ℕ). Reads f (header_spelling (store_header header)) whole.0) (sym reads) whole.1;
-          place = whole.3;
+        store = record {
+          fits = is.opened.fits;
+          here = journal_is.0;
+          epoch = journal_is.1 ∙ is.opened.epoch;
+          format = journal_is.2 ∙ is.opened.format;
+          stands = record {
+            settled = rests scan.side;
+            reads = subst (λ (f : List ℕ). Reads f (header_spelling (store_header header)) whole.0) (sym (reads scan.side)) whole.1;
+            place = whole.3;
+          };
+          outranked = record {
+            settled = rests (other_side scan.side);
+            lesser = subst (IsLesser (store_header header)) (sym (reads (other_side scan.side))) (outranks scan.side (store_header header) z o is.stands).1;
+          };
+          world = whole.2;
         };
       } in
       subst (λ (s : Side). IsStore z o game past (record { durable = durable; store = Some journal; side = s; format = format }) journal) (sym side_is) store
@@ -93,12 +130,26 @@ module _ (z o game : List ℕ) (past : Past) where
   none_stands (WrongGame found) is only = absurd only
   none_stands (Damaged side at) is only = absurd only
 
-  pub no_store : (result : Result Recovered OpenFault) → standing z o ≡ NoStore → IfOk result (λ found. (found.store ≡ None) × (found.durable ≡ world_lists empty_world) × (found.side ≡ Zero) × (found.format ≡ 2)) → IfErr result (λ fault. fault ≡ NoMemory) → IsAnswer z o game past result
-  no_store (Ok found) none new only = subst (IsFound z o game past found) (sym new.0) (record { not_yet = none; durable = new.1; side = new.2; format = new.3 })
-  no_store (Err fault) none new only = subst (λ (f : OpenFault). IsAnswer z o game past (Err f)) (sym only) (λ side h stands. let both : NoStore ≡ StandsOn side h = sym none ∙ stands in absurd cc)
+  pub no_store : (result : Result Recovered OpenFault) → standing z o ≡ NoStore → ((s : Side) → now past s ≡ settled (file_on s z o)) → IfOk result (λ found. (found.store ≡ None) × (found.durable ≡ world_lists empty_world) × (found.side ≡ Zero) × (found.format ≡ 2))
+      → IfErr result (λ fault. fault ≡ NoMemory) → IsAnswer z o game past result
+  no_store (Ok found) none at new only =
+      let blanks = none_stands_of (length z) (look z) (look o) none in
+      let reads : (s : Side) → (now past s).reads ≡ file_on s z o = λ s. ap (λ (d : Disk). d.reads) (at s) in
+      let rests : (s : Side) → now past s ≡ settled (now past s).reads = λ s. at s ∙ ap settled (sym (reads s)) in
+      let is : IsNoStore z o past found = record {
+        not_yet = none;
+        durable = new.1;
+        side = new.2;
+        format = new.3;
+        ready = record { settled = rests Zero; blank = ap is_blank (reads Zero) ∙ blank_is z blanks.0 };
+        short = omega (arith, blanks.2, ap length (reads Zero));
+        beside = record { settled = rests One; blank = ap look (reads One) ∙ blanks.1 };
+      } in
+      subst (IsFound z o game past found) (sym new.0) is
+  no_store (Err fault) none at new only = subst (λ (f : OpenFault). IsAnswer z o game past (Err f)) (sym only) (λ side h stands. let both : NoStore ≡ StandsOn side h = sym none ∙ stands in absurd cc)
 
 -- a file has one world
-one_held : (file : List ℕ) (header : StoreHeader) (d e : DurableWorld) → HoldsWorld file header d → HoldsWorld file header e → d ≡ e
+pub one_held : (file : List ℕ) (header : StoreHeader) (d e : DurableWorld) → HoldsWorld file header d → HoldsWorld file header e → d ≡ e
 one_held file header d e a b =
     one_world header b.payloads d e (subst (λ (ps : List (List ℕ)). HasWorld header ps d) (one_reading file (header_spelling header) a.payloads b.payloads a.reads b.reads) a.world) b.world
 

@@ -19,7 +19,7 @@ fronts (q ∷ qs) (p ∷ ps) g x rest sg sp closed same =
     let more = fronts qs ps g x rest sg.1 sp.1 closed both.1 in
     (more.0, cc (both.0, more.1), more.2)
 
-next_sized : (good : List (List ℕ)) (p : List ℕ) (ps : List (List ℕ)) → AreSized (good ++ p ∷ ps) → length p < 2 ^ 32
+pub next_sized : (good : List (List ℕ)) (p : List ℕ) (ps : List (List ℕ)) → AreSized (good ++ p ∷ ps) → length p < 2 ^ 32
 next_sized [] p ps are = are.0
 next_sized (q ∷ good) p ps are = next_sized good p ps are.1
 

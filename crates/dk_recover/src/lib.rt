@@ -16,6 +16,7 @@ pub use world::{Unfit, World};
 
 mod changes;
 pub mod fault;
+pub mod laws;
 mod listing;
 pub mod reading;
 pub mod records;

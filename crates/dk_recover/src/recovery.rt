@@ -2,7 +2,6 @@
 ghost use Rattle.std.specs.Prelude.{◌≡◌, length, IfOk, IfErr, MatchResult, IsErrOf, IsTrue, None};
 ghost use Rattle.dk_types.specs.Faults.{HasRisen};
 ghost use Rattle.dk_types.specs.declared.side.Side.TheVariants.{Zero as First, One as Second};
-ghost use Rattle.dk_disk.specs.Disk.{settled};
 ghost use Rattle.dk_disk.specs.Opening.{IsOpen};
 ghost use Rattle.dk_disk.specs.Past.{now};
 ghost use Rattle.dk_model.specs.DurableWorlds.{DurableWorld, empty_world};
@@ -10,6 +9,7 @@ ghost use Rattle.dk_model.specs.Images.{world_lists};
 ghost use Rattle.dk_model.specs.Recovered.{HasDurable};
 ghost use Rattle.dk_model.specs.Validity.{IsValid};
 ghost use Rattle.dk_journal.specs.Moments.{Looks};
+ghost use Rattle.dk_journal.specs.Stores.{AreSettled};
 ghost use Rattle.dk_recover.specs.Files.{OnlyReads, Settles};
 ghost use Rattle.dk_recover.specs.Recovery.{IsOurs, IsAnswer, IsOfDevice};
 ghost use Rattle.dk_recover.specs.Stood.{IsStanding};
@@ -61,7 +61,7 @@ fn recover_standing<M: Home>(
 ) -> Result<Recovered, OpenFault>
     requires is_open { IsOpen (M.opening home.old) }
     requires whole { IsTrue M.tells → scan.end ≡ length (now (M.past home.old) scan.side).reads }
-    ensures answer { IsTrue M.tells → now (M.past home.old) scan.side ≡ settled (now (M.past home.old) scan.side).reads → IsStanding (now (M.past home.old) First).reads (now (M.past home.old) Second).reads header scan → IsAnswer (now (M.past home.old) First).reads (now (M.past home.old) Second).reads game.now (M.past home.new) result }
+    ensures answer { IsTrue M.tells → AreSettled (M.past home.old) → IsStanding (now (M.past home.old) First).reads (now (M.past home.old) Second).reads header scan → IsAnswer (now (M.past home.old) First).reads (now (M.past home.old) Second).reads game.now (M.past home.new) result }
     ensures looks { IsTrue M.tells → Looks (M.past home.old) (M.past home.new) }
     ensures steady { (IsErrOf result FaultOfDisk → ⊥) → M.counted home.new ≡ M.counted home.old }
     ensures cause { IsErrOf result FaultOfDisk → HasRisen (M.counted home.old) (M.counted home.new) }

@@ -5,7 +5,9 @@ use Rattle.std.proofs.lemmas.Slice.Eq.{bytes_eq-Decides}
 use Rattle.std.proofs.lemmas.Bool.{false≢true}
 use Rattle.dk_disk.specs.Disk.{settled}
 use Rattle.dk_disk.specs.Past.{now}
+use Rattle.dk_types.specs.declared.side.Side.{Side}
 use Rattle.dk_types.specs.declared.side.Side.TheVariants.{Zero, One}
+use Rattle.dk_model.specs.Recovered.{file_on}
 use Rattle.dk_model.specs.Stores.{header_spelling}
 use Rattle.dk_journal.specs.Headers.{store_header}
 use Rattle.dk_journal.specs.Scanning.{IsScanned}
@@ -64,6 +66,6 @@ returns-clause-answer g c tells rests is =
     let file = side_file old c.args.scan.side in
     let header = store_header c.args.header in
     let whole = c.in_ok-world.ensures.read tells header refl (sym is.opened.format) (subst (λ (f : List ℕ). IsScanned f (header_spelling header) [] c.args.scan.at c.args.scan.end) file is.opened.scanned) in
-    let at = looks_now old new (c.in_ok-world.ensures.looks tells) c.args.scan.side ∙ rests ∙ ap settled (sym file) in
+    let at : (s : Side) → now new s ≡ settled (file_on s z o) = λ s. looks_now old new (c.in_ok-world.ensures.looks tells) s ∙ rests s ∙ ap settled (sym (side_file old s)) in
     recovered z o c.args.game.now c.args.header c.args.scan is game new c.in_ok-world.world c.in_ok-world.journal c.in_ok-durable.durable c.side-side.result c.format-format.result
     (subst (λ (f : List ℕ). IsWhole f header (Ok (c.in_ok-world.world, c.in_ok-world.journal))) (sym file) whole) c.in_ok-world.ensures.journal at c.in_ok-durable.ensures c.side-side.ensures c.format-format.ensures.value
