@@ -1,5 +1,5 @@
 -- The host of a test: a game that does nothing, on a durable world.
-use Rattle.std.specs.Prelude.{◌≡◌, Ok, None}
+use Rattle.std.specs.Prelude.{Ok, None}
 use Rattle.dk_types.specs.declared.durable.Durable.{Durable}
 use Rattle.dk_model.specs.Legal.{Opened}
 use Rattle.dk_model.specs.Runs.{give}

@@ -1,4 +1,4 @@
-use Rattle.std.proofs.Common.{◌≡◌, ◌∙◌, refl}
+use Rattle.std.proofs.Common.{◌∙◌, refl}
 use Rattle.dk_core.proofs.Bare.{bare_valid}
 use Rattle.dk_pump_tests.proofs.hosting.nothing.Goals as goal
 

@@ -1,4 +1,4 @@
-use Rattle.std.proofs.Common.{◌≡◌, ◌∙◌, sym, ap, subst}
+use Rattle.std.proofs.Common.{sym, subst}
 use Rattle.dk_model.specs.Lawful.{AreLawful}
 use Rattle.dk_model.specs.Legal.{Opened}
 use Rattle.dk_model.specs.Validity.{IsValid}
