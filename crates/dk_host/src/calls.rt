@@ -145,6 +145,7 @@ impl<W: Hosting, J: Naming, M: Home> Host<W, J, M> {
         ensures number { pass.new.number ≡ pass.old.number }
         ensures entered { Entered W.opened pass.old.number (commit_events pass.old.number claimed finished result) pass.old.front pass.new.front }
         ensures back { IsBackAt W.opened pass.new.front claimed finished result }
+        ensures named { All (λ e. pass_of e < J.name.passes) pass.new.front }
     {
         self.store
             .lock(rt)

@@ -1,5 +1,5 @@
 //! A commit: a look, a record, and its event.
-ghost use Rattle.std.specs.Prelude.{◌≡◌, None};
+ghost use Rattle.std.specs.Prelude.{◌≡◌, ◌<◌, None};
 ghost use Rattle.std.specs.List.{All};
 ghost use Rattle.dk_model.specs.Legal.{pass_of};
 ghost use Rattle.dk_core.specs.Rooms.{places_of};
@@ -34,10 +34,12 @@ impl<W: Hosting, J: Naming, M: Home> CommitStore<W, J, M> {
         ensures number { pass.new.number ≡ pass.old.number }
         ensures entered { Entered W.opened pass.old.number (commit_events pass.old.number claimed finished result) pass.old.front pass.new.front }
         ensures back { IsBackAt W.opened pass.new.front claimed finished result }
+        ensures named { All (λ e. pass_of e < J.name.passes) pass.new.front }
         ensures leaves { Leaves self.old self.new result }
         ensures free { IsFree self.new }
     {
         if let Some(faults) = self.faults {
+            pass.has_named();
             return Err(CommitRefused {
                 claimed,
                 why: Why::Stopped { faults },
@@ -66,9 +68,11 @@ impl<W: Hosting, J: Naming, M: Home> CommitStore<W, J, M> {
         requires next { IsNextCommit W.opened self.old.pass.front claimed finished commit.prepared × (self.old.room ≡ places_of finished.effects) }
         requires claim { IsClaimOf W.opened pass.old claimed }
         requires honest { IsHonestAt W.opened pass.old.front claimed finished }
+        requires named { All (λ e. pass_of e < J.name.passes) pass.old.front }
         ensures number { pass.new.number ≡ pass.old.number }
         ensures entered { Entered W.opened pass.old.number (commit_events pass.old.number claimed finished result) pass.old.front pass.new.front }
         ensures back { IsBackAt W.opened pass.new.front claimed finished result }
+        ensures named { All (λ e. pass_of e < J.name.passes) pass.new.front }
         ensures leaves { Leaves self.old self.new result }
         ensures free { IsFree self.new }
     {
@@ -103,6 +107,7 @@ impl<W: Hosting, J: Naming, M: Home> FreeStore<W, J, M> {
         ensures number { pass.new.number ≡ pass.old.number }
         ensures entered { Entered W.opened pass.old.number (commit_events pass.old.number claimed finished result) pass.old.front pass.new.front }
         ensures back { IsBackAt W.opened pass.new.front claimed finished result }
+        ensures named { All (λ e. pass_of e < J.name.passes) pass.new.front }
         ensures leaves { Leaves self.old.store self.new.store result }
     {
         self.store.commit(rt, world, pass, claimed, finished)
