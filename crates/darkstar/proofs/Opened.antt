@@ -1,19 +1,15 @@
 -- A play of the empty world, in which nothing has happened.
 use Rattle.std.proofs.Common.{◌≡◌, ℕ, ◌+◌, ◌≤◌, false, None, Ok, List, [], refl, sym, ap, ◌∙◌, subst}
-use Rattle.std.specs.List.{filter_map}
-use Rattle.std.specs.FinMap as maps
 use Rattle.dk_types.specs.declared.durable.Durable.{Durable}
-use Rattle.dk_types.specs.declared.number.ObjectId.{ObjectId}
 use Rattle.dk_types.specs.declared.limits.TheConstants.{NUMBERS_END}
 use Rattle.dk_model.specs.DurableWorlds.{empty_world}
-use Rattle.dk_model.specs.Worlds.{World, fresh_world}
+use Rattle.dk_model.specs.Worlds.{World}
 use Rattle.dk_model.specs.Events.{Meaning}
-use Rattle.dk_model.specs.Openings.{opening, with_sessions, first_of_each, session_at, login_of}
+use Rattle.dk_model.specs.Openings.{opening}
 use Rattle.dk_model.specs.Runs.{give}
 use Rattle.dk_model.specs.Transcripts.{playing}
 use Rattle.dk_model.specs.Validity.{IsValid}
 use Rattle.dk_progress.specs.Fitness.{IsFit}
-use Rattle.dk_progress.proofs.Picks.{no_entries}
 use Rattle.dk_core.specs.Listings.{world_of as world_in}
 use Rattle.dk_core.specs.declared.world.Core.{Core}
 use Rattle.dk_core.specs.Cores.{world_of, StandsFor}
@@ -29,24 +25,17 @@ nothing = record { commits = 0; last = None; objects = []; names = []; tasks = [
 pub nothing_valid : (d : Durable) → d ≡ nothing → IsValid (world_in d)
 nothing_valid d e = subst (λ x. IsValid (world_in x)) (sym e) (bare_valid nothing refl refl refl refl)
 
--- it opens to a world with no session
-opens_fresh : opening empty_world None ≡ fresh_world None
-unfolding opening
-opens_fresh =
-    ap (λ es. record { durable = empty_world; moment = 0; next = 0; budget = None; after_task = false; claims = maps.empty; connections = with_sessions (first_of_each [] (filter_map (λ (e : List ℕ × ObjectId). session_at empty_world (login_of e.0) e.1) es)) maps.empty })
-    (no_entries empty_world.names refl)
-
 module _ (d : Durable) (is : d ≡ nothing) (c : Core) (stands : (rules : Meaning) → StandsFor rules (world_in d) None [] c) where
-  opened_world : world_of c ≡ fresh_world None
-  opened_world = (stands (λ _. give (Ok tt))).leads ∙ ap (λ x. opening (world_in x) None) is ∙ opens_fresh
+  opened_world : world_of c ≡ opening empty_world None
+  opened_world = (stands (λ _. give (Ok tt))).leads ∙ ap (λ x. opening (world_in x) None) is
 
   module _ (p : Play) (core : p.core ≡ c) (means : p.means.entries ≡ []) (opened : p.opened.items ≡ []) where
-    pub opened_fresh : playing_of p ≡ playing (fresh_world None)
+    pub opened_fresh : playing_of p ≡ playing (opening empty_world None)
     opened_fresh = λ i. record { world = (ap world_of core ∙ opened_world) i; means = means_of (means i); opened = opened i }
 
     -- it goes on
     pub opened_going : (rules : Meaning) (more : ℕ) → 1 + more ≤ NUMBERS_END → IsGoing rules p more
     opened_going rules more le = record {
       standing = record { opened = world_in d; budget = None; events = []; stands = subst (StandsFor rules (world_in d) None []) (sym core) (stands rules) };
-      fit = subst (λ w. IsFit w p.opened.items more) (sym (ap world_of core ∙ opened_world)) (subst (λ conns. IsFit (fresh_world None) conns more) (sym opened) (fresh_fit more le));
+      fit = subst (λ w. IsFit w p.opened.items more) (sym (ap world_of core ∙ opened_world)) (subst (λ conns. IsFit (opening empty_world None) conns more) (sym opened) (fresh_fit more le));
     }

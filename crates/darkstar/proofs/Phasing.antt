@@ -13,7 +13,8 @@ use Rattle.std.specs.FinSet as sets
 use Rattle.dk_types.specs.declared.limits.TheConstants.{NUMBERS_END, SCRIPT_MOST_BYTES}
 use Rattle.dk_types.specs.declared.event.Event.{Event}
 use Rattle.dk_model.specs.declared.script.Line.{Line}
-use Rattle.dk_model.specs.Worlds.{fresh_world}
+use Rattle.dk_model.specs.DurableWorlds.{empty_world}
+use Rattle.dk_model.specs.Openings.{opening}
 use Rattle.dk_model.specs.Events.{Meaning}
 use Rattle.dk_model.specs.Lawful.{AreLawful}
 use Rattle.dk_model.specs.Orders.{OrderItem, AreInTurn}
@@ -113,7 +114,7 @@ pub record IsPlayedTo (rules : Meaning) (done left : List (List Line)) (p : Play
   pub order : List (List OrderItem)
   pub phases : List (List Event)
   pub names : LineNames
-  pub plays : Plays rules (playing (fresh_world None)) done order phases (playing_of p)
+  pub plays : Plays rules (playing (opening empty_world None)) done order phases (playing_of p)
   pub turns : AllByRecursion AreInTurn order
   pub small : AreSmall phases
   pub cut : phases_of p.events.items marks ≡ phases
@@ -125,7 +126,7 @@ pub record IsPlayedTo (rules : Meaning) (done left : List (List Line)) (p : Play
   pub stand : AllStand names left
 
 -- nothing is played yet
-pub none_played : (rules : Meaning) (script : List (List Line)) (p : Play) → playing_of p ≡ playing (fresh_world None) → p.events.items ≡ [] → ((more : ℕ) → 1 + more ≤ NUMBERS_END → IsGoing rules p more)
+pub none_played : (rules : Meaning) (script : List (List Line)) (p : Play) → playing_of p ≡ playing (opening empty_world None) → p.events.items ≡ [] → ((more : ℕ) → 1 + more ≤ NUMBERS_END → IsGoing rules p more)
     → AllStand sets.empty script → sum_by length script ≤ SCRIPT_MOST_BYTES → IsPlayedTo rules [] ([] ∷ script) p []
 none_played rules script p fresh untold going stand few = record {
   order = [];
@@ -169,7 +170,7 @@ module _ (rules : Meaning) (done left : List (List Line)) (lines : List Line) (p
         order = to.order ++ n.items ∷ [];
         phases = to.phases ++ n.events ∷ [];
         names = names_through to.names lines;
-        plays = plays-push rules (playing (fresh_world None)) (playing_of p) (playing_of q) done to.order to.phases lines n.items n.events to.plays n.plays;
+        plays = plays-push rules (playing (opening empty_world None)) (playing_of p) (playing_of q) done to.order to.phases lines n.items n.events to.plays n.plays;
         turns = all-append AreInTurn to.order (n.items ∷ []) to.turns (n.turns, tt);
         small = all-append (AllByRecursion IsSmall) to.phases (n.events ∷ []) to.small (n.small, tt);
         cut = ap (λ (es : List Event). phases_of es (marks ++ at ∷ [])) n.told ∙ cut-push p.events.items n.events marks to.places ∙ ap (λ (ps : List (List Event)). ps ++ n.events ∷ []) to.cut;
@@ -183,11 +184,11 @@ module _ (rules : Meaning) (done left : List (List Line)) (lines : List Line) (p
 
 -- the whole is a play of the script
 pub whole_played : (rules : Meaning) (script left : List (List Line)) (p : Play) (marks : List ℕ) (commits tasks : ℕ) → IsPlayedTo rules ([] ∷ script) left p marks → commits ≡ (world_of p.core).durable.commits → tasks ≡ maps.len (world_of p.core).durable.tasks
-    → IsPlayed rules (fresh_world None) script (phases_of p.events.items marks) commits tasks
+    → IsPlayed rules (opening empty_world None) script (phases_of p.events.items marks) commits tasks
 whole_played rules script left p marks commits tasks to commits_are tasks_are = record {
   order = to.order;
   end = playing_of p;
-  plays = subst (λ ps. Plays rules (playing (fresh_world None)) ([] ∷ script) to.order ps (playing_of p)) (sym to.cut) to.plays;
+  plays = subst (λ ps. Plays rules (playing (opening empty_world None)) ([] ∷ script) to.order ps (playing_of p)) (sym to.cut) to.plays;
   commits_are = commits_are;
   tasks_are = tasks_are;
   small = subst AreSmall (sym to.cut) to.small;

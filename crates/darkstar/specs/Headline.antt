@@ -6,7 +6,8 @@ use Rattle.dk_types.specs.declared.limits.TheConstants.{SCRIPT_MOST_BYTES}
 use Rattle.dk_edge.specs.Streams.{AppendsPrefix}
 use Rattle.dk_model.specs.declared.script.Line.{Line}
 use Rattle.dk_model.specs.Scripts.{IsScript}
-use Rattle.dk_model.specs.Worlds.{fresh_world}
+use Rattle.dk_model.specs.DurableWorlds.{empty_world}
+use Rattle.dk_model.specs.Openings.{opening}
 use Rattle.dk_model.specs.Orders.{AreInTurn, order_of}
 use Rattle.dk_model.specs.Transcripts.{IsTranscript}
 use Rattle.sword_world.specs.Rules.{sword_rules}
@@ -56,7 +57,7 @@ pub record IsReadScript (left left' : Option (List ℕ)) (phases : List (List Li
 -- the text is the transcript of SwordWorld for these phases, from the empty world on, in the order that the text itself tells, where each claim is followed at once
 -- by the commit of its run
 pub record IsToldPlay (phases : List (List Line)) (text : List ℕ) : Type 0 where
-  pub transcript : IsTranscript sword_rules (fresh_world None) phases (order_of text) text
+  pub transcript : IsTranscript sword_rules (opening empty_world None) phases (order_of text) text
   pub turns : AllByRecursion AreInTurn (order_of text)
 
 -- the source was read to its end as a script, and the text is a transcript of that script

@@ -7,7 +7,8 @@ ghost use Rattle.std.specs.FinSet as sets;
 ghost use Rattle.std.specs.List.{sum_by};
 ghost use Rattle.std.specs.List.Sorted.{IsNonDecreasing};
 ghost use Rattle.dk_types.specs.declared.limits.TheConstants.{SCRIPT_MOST_BYTES};
-ghost use Rattle.dk_model.specs.Worlds.{fresh_world};
+ghost use Rattle.dk_model.specs.DurableWorlds.{empty_world};
+ghost use Rattle.dk_model.specs.Openings.{opening};
 ghost use Rattle.dk_model.specs.Scripts.{AllStand};
 ghost use Rattle.dk_model.specs.Phases.{phases_of};
 ghost use Rattle.dk_model.specs.Transcripts.{IsPlayed};
@@ -71,7 +72,7 @@ pub fn play_script<G: Game>(
     requires terse { IsTerse (G.rules game.now) }
     requires stand { AllStand sets.empty script.now }
     requires few { sum_by length script.now ≤ SCRIPT_MOST_BYTES }
-    ensures played { IfOk result (λ p. IsPlayed (G.rules game.now) (fresh_world None) script.now (phases_of p.events.items p.marks.items) p.commits p.tasks) }
+    ensures played { IfOk result (λ p. IsPlayed (G.rules game.now) (opening empty_world None) script.now (phases_of p.events.items p.marks.items) p.commits p.tasks) }
     ensures ordered { IfOk result (λ p. IsNonDecreasing p.marks.items) }
     ensures within { IfOk result (λ p. All (λ mark. mark ≤ length p.events.items) p.marks.items) }
 {

@@ -1,3 +1,4 @@
+pub mod Asking
 pub mod Lookups
 pub mod Drops
 pub mod Sendings

@@ -1,11 +1,14 @@
 //! Channels and their records.
 ghost use Rattle.std.specs.Prelude.{◌≡◌, ℕ, List, Some, IfOk, OnErr, IfErr, MatchOption, true, false};
+ghost use Rattle.dk_types.specs.declared.item.Item.TheVariants as ask;
 ghost use Rattle.dk_types.specs.declared.mode.Mode.TheVariants as mode;
 ghost use Rattle.dk_model.specs.Records.{channel_name, is_name_too_long};
 ghost use Rattle.dk_model.specs.Platforms as platform;
+ghost use Rattle.dk_txn.specs.Asks.{Asks, AsksOf};
 ghost use Rattle.dk_txn.specs.Does.{Does, SameChanges};
 ghost use Rattle.dk_txn.specs.Refusals.{refusal_fault, TellsLength};
 ghost use Rattle.dk_types.specs.declared.fault.AppFault.TheVariants.{Refused};
+ghost use Rattle.dk_refs.specs.RecordAsks.{IsOfRecord};
 ghost use Rattle.dk_refs.specs.Telling.{TellsKindOf, TellsLengthIn, kind_under};
 ghost use Rattle.dk_channels.specs.Channels as acts;
 
@@ -128,6 +131,7 @@ pub fn recorded<V: View>(
     name: &Name,
 ) -> Result<Option<ObjectId>, Refusal>
     ensures does { Does V.sights refusal_fault txn.old txn.new (acts.recorded name.now) result }
+    ensures asks { Asks (ask.Bound (channel_name name.now)) V.sights txn.old txn.new }
     ensures same_changes { SameChanges txn.old.log txn.new.log }
 {
     match key_of(alloc, name)? {
@@ -143,6 +147,7 @@ pub fn get_channel<V: View>(
     name: &Name,
 ) -> Result<Channel, Refusal>
     ensures does { Does V.sights refusal_fault txn.old txn.new (acts.get_channel name.now) result }
+    ensures asks { Asks (ask.Bound (channel_name name.now)) V.sights txn.old txn.new }
     ensures refused { OnErr result (SameChanges txn.old.log txn.new.log) }
     ensures length { IfErr result (TellsLengthIn txn.new.log (channel_name name.now)) }
 {
@@ -155,6 +160,7 @@ pub fn get_channel<V: View>(
 
 fn find_channel<V: View>(alloc: Global, txn: &mut Txn<'_, V>, name: &Name) -> Result<(), Refusal>
     ensures does { Does V.sights refusal_fault txn.old txn.new (platform.get_channel name.now) result }
+    ensures asks { Asks (ask.Bound (channel_name name.now)) V.sights txn.old txn.new }
     ensures refused { OnErr result (SameChanges txn.old.log txn.new.log) }
     ensures length { IfErr result (TellsLengthIn txn.new.log (channel_name name.now)) }
 {
@@ -174,6 +180,7 @@ pub fn record_of<V: View>(
     name: &Name,
 ) -> Result<(ManagedRef<ChannelRecord>, ChannelRecord), Refusal>
     ensures does { Does V.sights refusal_fault txn.old txn.new (platform.channel_under name.now) result }
+    ensures asks { AsksOf (IsOfRecord txn.old.log txn.new.log (channel_name name.now)) V.sights txn.old txn.new }
     ensures same_changes { SameChanges txn.old.log txn.new.log }
     ensures kind { IfErr result (TellsKindOf txn.new.log (kind_under (channel_name name.now))) }
 {
@@ -194,6 +201,7 @@ pub fn members<V: View>(
     channel: &Channel,
 ) -> Result<Listed<Session>, Refusal>
     ensures does { Does V.sights refusal_fault txn.old txn.new (platform.members channel.now.name) result }
+    ensures asks { AsksOf (IsOfRecord txn.old.log txn.new.log (channel_name channel.now.name)) V.sights txn.old txn.new }
     ensures same_changes { SameChanges txn.old.log txn.new.log }
     ensures kind { IfErr result (TellsKindOf txn.new.log (kind_under (channel_name channel.now.name))) }
 {

@@ -5,8 +5,10 @@ ghost use Rattle.dk_types.specs.declared.job.Out.TheVariants as out;
 ghost use Rattle.dk_model.specs.Records.{channel_name};
 ghost use Rattle.dk_model.specs.Platforms as platform;
 ghost use Rattle.dk_model.specs.Runs as act;
+ghost use Rattle.dk_txn.specs.Asks.{AsksOf, AsksNothing};
 ghost use Rattle.dk_txn.specs.Does.{Does, SameChanges};
 ghost use Rattle.dk_txn.specs.Refusals.{refusal_fault};
+ghost use Rattle.dk_refs.specs.RecordAsks.{IsOfRecord};
 ghost use Rattle.dk_refs.specs.Telling.{TellsKindOf, TellsLengthIn, kind_under};
 ghost use Rattle.dk_channels.specs.Sendings.{letters_of};
 
@@ -27,7 +29,9 @@ pub fn send<V: View>(
     body: &Blob,
 ) -> Result<(), Refusal>
     ensures does { Does V.sights refusal_fault txn.old txn.new (platform.channel_send channel.now.name (option_copied sender.entry) body.now) result }
+    ensures asks { AsksOf (IsOfRecord txn.old.log txn.new.log (channel_name channel.now.name)) V.sights txn.old txn.new }
     ensures refused { OnErr result (SameChanges txn.old.log txn.new.log) }
+    ensures same_mode { txn.new.log.mode ≡ txn.old.log.mode }
     ensures kind { IfErr result (TellsKindOf txn.new.log (kind_under (channel_name channel.now.name))) }
     ensures length { IfErr result (TellsLengthIn txn.new.log body.now) }
 {
@@ -77,7 +81,9 @@ fn send_each<V: View>(
 ) -> Result<(), Refusal>
     requires { act.is_too_long body.now ≡ false }
     ensures does { Does V.sights refusal_fault txn.old txn.new (platform.send_each members.now (out.Channel channel.now body.now)) result }
+    ensures asks { AsksNothing txn.old txn.new }
     ensures refused { OnErr result (SameChanges txn.old.log txn.new.log) }
+    ensures same_mode { txn.new.log.mode ≡ txn.old.log.mode }
 {
     if !txn.has_room_for(members.len() as u64) {
         return Err(Refusal::TooMany);

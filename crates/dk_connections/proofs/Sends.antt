@@ -5,6 +5,7 @@ use Rattle.dk_types.specs.declared.number.ConnNo.{ConnNo}
 use Rattle.dk_types.specs.declared.job.Out.{Out}
 use Rattle.dk_model.specs.Keys.{conn_cmp}
 use Rattle.dk_model.specs.Deliveries.{change_connection, close_off, closed_by, is_close, takes, with_closed, with_out, with_outs, without_done}
+use Rattle.dk_model.proofs.Walks.{closed_more}
 use Rattle.dk_connections.specs.Linked.{Linked, all_of, change, left, linked, IsAlive, KeepsMarks}
 use Rattle.dk_connections.proofs.Changes.{all_of-change, all_of-left, swept_alive}
 use Rattle.dk_connections.proofs.Closings.{without-closed}
@@ -44,6 +45,7 @@ sending_next before now after outs rest closed o took s e t a =
       closed =
           (λ i. (if t i && is_close o.1 then closed ++ o.0 ∷ [] else closed) ++ closed_by rest (sent i))
           ∙ closed_next (takes (get (all_of now) o.0)) (is_close o.1) closed (closed_by rest (change_connection o.0 (with_out o.1) (all_of now))) o.0
+          ∙ ap (λ cs. closed ++ cs) (sym (closed_more o rest (all_of now)))
           ∙ s.closed;
       marks = marks_then _ before now after s.marks (subst (KeepsMarks now) (sym e) (keeps_change now o.0 (linked (with_out o.1)) (λ l. refl)));
       alive = a;

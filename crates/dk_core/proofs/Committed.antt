@@ -81,10 +81,11 @@ module _ (rules : Meaning) (lawful : AreLawful rules) (d : DurableWorld) (budget
 
   module _ (run : RunNo) (claim : Claim) (held : get old.claims.claims run ≡ Some claim) where
     -- what the run of the claim steps
-    abbrev s_of : Stepped
+    abbrev pub s_of : Stepped
     s_of = step_of rules (world_of old) run claim
 
-    tells : (f : Finished) → IsHonest rules o events claim.job run claim.at f.reads.items (told f) → AllByRecursion (Stands old.world) f.reads.items → told f ≡ told_step (durable_of old.world) s_of
+    -- an honest run whose reads stand tells what it steps
+    pub tells : (f : Finished) → IsHonest rules o events claim.job run claim.at f.reads.items (told f) → AllByRecursion (Stands old.world) f.reads.items → told f ≡ told_step (durable_of old.world) s_of
     tells f honest stand =
         let ready = claims_ready rules d budget events (world_of old) run claim lawful s.valid s.within s.leads held in
         honest.law.keeps (durable_of old.world) (sound_of rules lawful d budget events old s).valid (agrees_now run f.reads.items honest.honest stand) ready.0 ready.2

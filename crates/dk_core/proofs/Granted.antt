@@ -40,7 +40,7 @@ use Rattle.dk_core.specs.Cores.{world_of, IsTracked, StandsFor, Adds, IsGranted}
 use Rattle.dk_core.specs.Picking.{job_of, AreMarks, IsThere, IsPick}
 use Rattle.dk_core.specs.Marking.{is_task, conn_in, tasks_marked, tasks_freed, IsMarked, IsFreed}
 use Rattle.dk_core.proofs.Choosing.{job_there}
-use Rattle.dk_core.proofs.Runnable.{nothing_runnable, picked_runnable}
+use Rattle.dk_laws.proofs.Runnable.{nothing_runnable, picked_runnable}
 use Rattle.dk_core.proofs.Standing.{sound_of, below_of, entered_still}
 use Rattle.dk_core.proofs.Tracked.{InputClaimed, TaskClaimed, TaskFreed, TaskAlone, IsFree, tracked_claim, tracked_less}
 use Rattle.dk_core.proofs.Marked.{conn_there, input_marked, input_freed, task_marked, task_freed}

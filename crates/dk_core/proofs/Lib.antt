@@ -16,7 +16,6 @@ pub mod Having
 pub mod Tracked
 pub mod Marked
 pub mod Standing
-pub mod Runnable
 pub mod Counted
 pub mod Drawn
 pub mod Entering
@@ -26,3 +25,4 @@ pub mod Committed
 pub mod Opened
 pub mod Followed
 pub mod Bare
+pub mod Stales

@@ -17,12 +17,13 @@ use Rattle.dk_model.specs.Events.{Meaning}
 use Rattle.dk_model.specs.Openings.{opening}
 use Rattle.dk_model.specs.Lawful.{AreLawful}
 use Rattle.dk_model.specs.Finishes.{IsHonest}
+use Rattle.dk_model.specs.Retries.{IsFirstStale}
 use Rattle.dk_txn.specs.declared.finished.Finished.{Finished}
 use Rattle.dk_txn.specs.Finishes.{told}
 use Rattle.dk_connections.specs.declared.answers.PostRefused.{PostRefused}
 use Rattle.dk_connections.specs.declared.answers.PostRefused.TheVariants as post_refused
 use Rattle.dk_connections.specs.declared.answers.Handed.{Handed}
-use Rattle.dk_core.specs.Changes.{Stands, IsFirstChanged}
+use Rattle.dk_core.specs.Changes.{Stands, IsFirstChanged, stale_of}
 use Rattle.dk_core.specs.Rooms.{HasPlaces, places_of}
 use Rattle.dk_core.specs.declared.world.Core.{Core}
 use Rattle.dk_core.specs.declared.claimed.Claimed.{Claimed}
@@ -33,7 +34,7 @@ use Rattle.dk_core.specs.declared.answers.ClaimRefused.TheVariants as claim_refu
 use Rattle.dk_core.specs.declared.answers.PrepareRefused.{PrepareRefused}
 use Rattle.dk_core.specs.declared.answers.PrepareRefused.TheVariants as prepare_refused
 use Rattle.dk_core.specs.declared.prepared.Prepared.{Prepared}
-use Rattle.dk_core.specs.Cores.{Extends, Adds, Stays, IsGranted}
+use Rattle.dk_core.specs.Cores.{StandsFor, Extends, Adds, Stays, IsGranted}
 
 -- a Connect of this name, whatever pass it is of; after want of memory the core is as it was
 abbrev pub Connected : Core → Core → List ℕ → Result ConnNo ConnectRefused → Type 0
@@ -75,6 +76,13 @@ abbrev pub TellsRefused : Core → Finished → PrepareRefused → Type 0
 TellsRefused c f (prepare_refused.Retry changed) = IsFirstChanged c.world f.reads.items changed
 TellsRefused c f prepare_refused.NoMemory = Unit {0}
 
+-- a Retry tells the first stale read after every history that the core stands for
+abbrev pub TellsStale : Core → Finished → PrepareRefused → Type 0
+TellsStale c f (prepare_refused.Retry changed) =
+    (rules : Meaning) (d : DurableWorld) (budget : Option ℕ) (events : List Event)
+    → StandsFor rules d budget events c → IsFirstStale rules (opening d budget) events f.reads.items (stale_of changed)
+TellsStale c f prepare_refused.NoMemory = Unit {0}
+
 -- what is made ready, with the room, or why it is not
 abbrev pub Readies : Core → Core → Finished → Result (List (ConnNo × Out)) PrepareRefused → Type 0
 Readies old new f (Ok messages) = IsReady new f messages × HasRoomFor new f
@@ -100,5 +108,5 @@ Commits old new claimed f seq =
 -- both in one: where it is refused the claim is handed back, and stands
 abbrev pub CommitsOrTells : Core → Core → Claimed → Finished → Result ℕ (Claimed × PrepareRefused) → Type 0
 CommitsOrTells old new claimed f (Ok seq) = (seq ≡ old.world.commits + 1) × AllByRecursion (Stands old.world) f.reads.items × Commits old new claimed f seq
-CommitsOrTells old new claimed f (Err (back, prepare_refused.Retry changed)) = (back ≡ claimed) × IsGranted new claimed × IsFirstChanged old.world f.reads.items changed × Stays old new
+CommitsOrTells old new claimed f (Err (back, prepare_refused.Retry changed)) = (back ≡ claimed) × IsGranted new claimed × IsFirstChanged old.world f.reads.items changed × Stays old new × TellsStale old f (prepare_refused.Retry changed)
 CommitsOrTells old new claimed f (Err (back, prepare_refused.NoMemory)) = (back ≡ claimed) × IsGranted new claimed × Stays old new

@@ -1,26 +1,12 @@
 -- Which of a run's reads no longer stands.
-use Rattle.std.specs.Prelude.{◌≡◌, Bool, true, false, nat_eq, Option, Some, None, List, ◌∷◌, ◌++◌}
+use Rattle.std.specs.Prelude.{◌≡◌, Option, Some, None, List, ◌∷◌, ◌++◌}
 use Rattle.std.specs.List.{AllByRecursion}
-use Rattle.std.specs.Cmp.Lexicographic.{pointwise}
 use Rattle.dk_types.specs.declared.item.Item.{Item}
 use Rattle.dk_types.specs.declared.item.Read.{Read}
-use Rattle.dk_types.specs.declared.item.Seen.{Seen}
-use Rattle.dk_types.specs.declared.item.Seen.TheVariants as sight
-use Rattle.dk_model.specs.Effects.{same_value}
+pub use Rattle.dk_model.specs.Retries.{same_seen}
+use Rattle.dk_model.specs.Retries.{Stale}
 use Rattle.dk_core.specs.StampedWorlds.{Stamped, seen_now}
 use Rattle.dk_core.specs.declared.durable.changed.Changed.{Changed}
-
--- whether two sights are one
-abbrev pub same_seen : Seen → Seen → Bool
-same_seen sight.Absent sight.Absent = true
-same_seen sight.Absent (sight.At m) = false
-same_seen sight.Absent (sight.Next b) = false
-same_seen (sight.At n) sight.Absent = false
-same_seen (sight.At n) (sight.At m) = nat_eq n m
-same_seen (sight.At n) (sight.Next b) = false
-same_seen (sight.Next a) sight.Absent = false
-same_seen (sight.Next a) (sight.At m) = false
-same_seen (sight.Next a) (sight.Next b) = same_value (pointwise nat_eq) a b
 
 -- the read saw what is seen now
 abbrev pub Stands : Stamped → Item × Read → Type 0
@@ -41,3 +27,7 @@ pub record IsFirstChanged (w : Stamped) (reads : List (Item × Read)) (c : Chang
 abbrev pub TellsChanged : Stamped → List (Item × Read) → Option Changed → Type 0
 TellsChanged w reads None = AllByRecursion (Stands w) reads
 TellsChanged w reads (Some c) = IsFirstChanged w reads c
+
+-- what the model says of it
+abbrev pub stale_of : Changed → Stale
+stale_of c = record { item = c.item; found = c.found; now = c.now }

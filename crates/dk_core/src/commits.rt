@@ -1,6 +1,6 @@
 // Commits.
-ghost use Rattle.std.specs.Prelude.{◌≡◌, ◌+◌, IfOk};
-ghost use Rattle.dk_core.specs.Answers.{Commits, CommitsOrTells, HasRoomFor, IsPrepared, IsReady, Prepares, Readies};
+ghost use Rattle.std.specs.Prelude.{◌≡◌, ◌+◌, IfOk, IfErr};
+ghost use Rattle.dk_core.specs.Answers.{Commits, CommitsOrTells, HasRoomFor, IsPrepared, IsReady, Prepares, Readies, TellsStale};
 ghost use Rattle.dk_core.specs.Cores.{HasMoreRoom, IsGranted, Stays};
 
 use crate::answers::PrepareRefused;
@@ -20,6 +20,7 @@ fn copy_effects(effects: &Effects) -> Result<Effects, NoMemory>
 impl Core {
     /// Looks whether all reads of a finished run stand, and makes what its commit needs. Nothing is entered. The room of its
     /// messages is in what is told; the room of its effects stays in the world, where commits alone take of it.
+    #[tactic(auto, using(crate::proofs::Stales::tells_stale))]
     pub fn prepare(
         &mut self,
         claimed: &Claimed,
@@ -28,6 +29,7 @@ impl Core {
         requires granted { IsGranted self.old claimed.now }
         ensures same { HasMoreRoom self.old self.new }
         ensures prepares { Prepares self.old self.new claimed.now finished.now result }
+        ensures stale { IfErr result (λ refused. TellsStale self.old finished.now refused) }
         ensures granted { IsGranted self.new claimed.now }
         ensures stays { Stays self.old self.new }
     {

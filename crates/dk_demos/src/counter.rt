@@ -37,13 +37,13 @@ impl Form<Counter> for CounterForm {
     }
 
     #[tactic(auto, unfolding(crate::specs::Counting::next_counter))]
-    fn take(
+    fn take<'a>(
         _alloc: Global,
-        reader: &mut Reader<'_>,
+        mut reader: Reader<'a>,
         _: Option<&Counter>,
-    ) -> Result<Counter, PayloadRefused> {
+    ) -> Result<(Counter, Reader<'a>), PayloadRefused> {
         let count = reader.next_u64()?;
-        Ok(Counter { count })
+        Ok((Counter { count }, reader))
     }
 }
 

@@ -31,13 +31,13 @@ impl Form<Guest> for GuestForm {
     }
 
     #[tactic(auto, unfolding(crate::specs::Guests::next_guest))]
-    fn take(
+    fn take<'a>(
         _alloc: Global,
-        reader: &mut Reader<'_>,
+        mut reader: Reader<'a>,
         _: Option<&Guest>,
-    ) -> Result<Guest, PayloadRefused> {
+    ) -> Result<(Guest, Reader<'a>), PayloadRefused> {
         let visits = reader.next_u64()?;
-        Ok(Guest { visits })
+        Ok((Guest { visits }, reader))
     }
 }
 

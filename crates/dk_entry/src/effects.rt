@@ -37,19 +37,19 @@ impl<F: StoreFormat> Form<Effects> for EffectsForm<F> {
     }
 
     #[tactic(auto, unfolding(dk_model::specs::Entries::effects_at))]
-    fn take(
+    fn take<'a>(
         alloc: Global,
-        reader: &mut Reader<'_>,
+        mut reader: Reader<'a>,
         _: Option<&Effects>,
-    ) -> Result<Effects, PayloadRefused> {
-        let written = take_list::<(ObjectId, Object), ObjectForm<F>>(alloc, reader)?;
-        let removed = take_list::<ObjectId, NextIdForm>(alloc, reader)?;
-        let bound = take_list::<(Name, ObjectId), BindingForm>(alloc, reader)?;
-        let unbound = take_list::<Name, NextNameForm>(alloc, reader)?;
-        let added = take_list::<Pending, PendingForm<F>>(alloc, reader)?;
-        let dropped = take_list::<TaskKey, NextKeyForm>(alloc, reader)?;
-        let requeued = take_list::<(TaskKey, u64), MovedForm>(alloc, reader)?;
-        Ok(Effects {
+    ) -> Result<(Effects, Reader<'a>), PayloadRefused> {
+        let written = take_list::<(ObjectId, Object), ObjectForm<F>>(alloc, &mut reader)?;
+        let removed = take_list::<ObjectId, NextIdForm>(alloc, &mut reader)?;
+        let bound = take_list::<(Name, ObjectId), BindingForm>(alloc, &mut reader)?;
+        let unbound = take_list::<Name, NextNameForm>(alloc, &mut reader)?;
+        let added = take_list::<Pending, PendingForm<F>>(alloc, &mut reader)?;
+        let dropped = take_list::<TaskKey, NextKeyForm>(alloc, &mut reader)?;
+        let requeued = take_list::<(TaskKey, u64), MovedForm>(alloc, &mut reader)?;
+        let effects = Effects {
             written,
             removed,
             bound,
@@ -57,6 +57,7 @@ impl<F: StoreFormat> Form<Effects> for EffectsForm<F> {
             added,
             dropped,
             requeued,
-        })
+        };
+        Ok((effects, reader))
     }
 }

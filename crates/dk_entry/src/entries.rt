@@ -37,20 +37,21 @@ impl<F: StoreFormat> Form<Entry> for EntryForm<F> {
     }
 
     #[tactic(auto, unfolding(dk_model::specs::Entries::entry_at))]
-    fn take(
+    fn take<'a>(
         alloc: Global,
-        reader: &mut Reader<'_>,
+        mut reader: Reader<'a>,
         _: Option<&Entry>,
-    ) -> Result<Entry, PayloadRefused> {
-        let seq = next_seq(reader)?;
-        let run = next_run(reader)?;
+    ) -> Result<(Entry, Reader<'a>), PayloadRefused> {
+        let seq = next_seq(&mut reader)?;
+        let run = next_run(&mut reader)?;
         let before: Option<Effects> = None;
-        let effects = EffectsForm::<F>::take(alloc, reader, before.as_ref())?;
-        Ok(Entry {
+        let (effects, behind) = EffectsForm::<F>::take(alloc, reader, before.as_ref())?;
+        let entry = Entry {
             seq,
             run: RunNo(run),
             effects,
-        })
+        };
+        Ok((entry, behind))
     }
 }
 
@@ -58,12 +59,13 @@ impl<F: StoreFormat> Form<Entry> for EntryForm<F> {
 fn next_seq(reader: &mut Reader<'_>) -> Result<u64, PayloadRefused>
     ensures { Gives (checked is_seq next_u64) reader.old result reader.new }
 {
-    let at = reader.at();
-    let seq = reader.next_u64()?;
+    let mut ahead = reader.copy();
+    let seq = ahead.next_u64()?;
     if seq >= 1 {
+        *reader = ahead;
         Ok(seq)
     } else {
-        Err(PayloadRefused::NotInGrammar { at })
+        Err(PayloadRefused::NotInGrammar { at: reader.at() })
     }
 }
 
@@ -71,12 +73,13 @@ fn next_seq(reader: &mut Reader<'_>) -> Result<u64, PayloadRefused>
 fn next_run(reader: &mut Reader<'_>) -> Result<u64, PayloadRefused>
     ensures { Gives (checked is_run next_u64) reader.old result reader.new }
 {
-    let at = reader.at();
-    let run = reader.next_u64()?;
+    let mut ahead = reader.copy();
+    let run = ahead.next_u64()?;
     if run < NUMBERS_END {
+        *reader = ahead;
         Ok(run)
     } else {
-        Err(PayloadRefused::NotInGrammar { at })
+        Err(PayloadRefused::NotInGrammar { at: reader.at() })
     }
 }
 
@@ -102,17 +105,17 @@ impl<F: StoreFormat> Form<Listed<Entry>> for EntriesForm<F> {
     }
 
     #[tactic(auto, unfolding(dk_model::specs::Entries::entries_at))]
-    fn take(
+    fn take<'a>(
         alloc: Global,
-        reader: &mut Reader<'_>,
+        mut reader: Reader<'a>,
         _: Option<&Listed<Entry>>,
-    ) -> Result<Listed<Entry>, PayloadRefused> {
+    ) -> Result<(Listed<Entry>, Reader<'a>), PayloadRefused> {
         let at = reader.at();
-        let entries = take_list::<Entry, EntryForm<F>>(alloc, reader)?;
+        let entries = take_list::<Entry, EntryForm<F>>(alloc, &mut reader)?;
         if entries.as_slice().is_empty() {
             Err(PayloadRefused::NotInGrammar { at })
         } else {
-            Ok(entries)
+            Ok((entries, reader))
         }
     }
 }

@@ -40,11 +40,11 @@ impl<F: StoreFormat> Form<(ObjectId, Object)> for ObjectForm<F> {
     }
 
     #[tactic(auto, unfolding(dk_model::specs::Entries::object_at))]
-    fn take(
+    fn take<'a>(
         alloc: Global,
-        reader: &mut Reader<'_>,
+        mut reader: Reader<'a>,
         before: Option<&(ObjectId, Object)>,
-    ) -> Result<(ObjectId, Object), PayloadRefused> {
+    ) -> Result<((ObjectId, Object), Reader<'a>), PayloadRefused> {
         let at = reader.at();
         let id = reader.next_id()?;
         if !is_object_above(before, &id) {
@@ -52,7 +52,7 @@ impl<F: StoreFormat> Form<(ObjectId, Object)> for ObjectForm<F> {
         }
         let kind = reader.next_u16()?;
         let bytes = reader.next_blob(alloc, F::blob_most_bytes())?;
-        Ok((id, Object { kind, bytes }))
+        Ok(((id, Object { kind, bytes }), reader))
     }
 }
 
@@ -86,15 +86,15 @@ impl Form<ObjectId> for NextIdForm {
     }
 
     #[tactic(auto, unfolding(dk_model::specs::Entries::id_item_at))]
-    fn take(
+    fn take<'a>(
         _alloc: Global,
-        reader: &mut Reader<'_>,
+        mut reader: Reader<'a>,
         before: Option<&ObjectId>,
-    ) -> Result<ObjectId, PayloadRefused> {
+    ) -> Result<(ObjectId, Reader<'a>), PayloadRefused> {
         let at = reader.at();
         let id = reader.next_id()?;
         if is_id_above(before, &id) {
-            Ok(id)
+            Ok((id, reader))
         } else {
             Err(PayloadRefused::NotInGrammar { at })
         }
@@ -132,18 +132,18 @@ impl Form<(Name, ObjectId)> for BindingForm {
     }
 
     #[tactic(auto, unfolding(dk_model::specs::Entries::binding_at))]
-    fn take(
+    fn take<'a>(
         alloc: Global,
-        reader: &mut Reader<'_>,
+        mut reader: Reader<'a>,
         before: Option<&(Name, ObjectId)>,
-    ) -> Result<(Name, ObjectId), PayloadRefused> {
+    ) -> Result<((Name, ObjectId), Reader<'a>), PayloadRefused> {
         let at = reader.at();
         let name = reader.next_name(alloc)?;
         if !is_binding_above(before, &name) {
             return Err(PayloadRefused::NotInGrammar { at });
         }
         let id = reader.next_id()?;
-        Ok((name, id))
+        Ok(((name, id), reader))
     }
 }
 
@@ -177,15 +177,15 @@ impl Form<Name> for NextNameForm {
     }
 
     #[tactic(auto, unfolding(dk_model::specs::Entries::name_item_at))]
-    fn take(
+    fn take<'a>(
         alloc: Global,
-        reader: &mut Reader<'_>,
+        mut reader: Reader<'a>,
         before: Option<&Name>,
-    ) -> Result<Name, PayloadRefused> {
+    ) -> Result<(Name, Reader<'a>), PayloadRefused> {
         let at = reader.at();
         let name = reader.next_name(alloc)?;
         if is_name_above(before, &name) {
-            Ok(name)
+            Ok((name, reader))
         } else {
             Err(PayloadRefused::NotInGrammar { at })
         }

@@ -42,27 +42,28 @@ impl<F: StoreFormat> Form<Pending> for PendingForm<F> {
     }
 
     #[tactic(auto, unfolding(dk_model::specs::Entries::pending_at))]
-    fn take(
+    fn take<'a>(
         alloc: Global,
-        reader: &mut Reader<'_>,
+        mut reader: Reader<'a>,
         before: Option<&Pending>,
-    ) -> Result<Pending, PayloadRefused> {
+    ) -> Result<(Pending, Reader<'a>), PayloadRefused> {
         let at = reader.at();
         let key = reader.next_key()?;
         if !is_task_above(before, &key) {
             return Err(PayloadRefused::NotInGrammar { at });
         }
-        let due = next_due(reader)?;
-        let period = next_period(reader)?;
+        let due = next_due(&mut reader)?;
+        let period = next_period(&mut reader)?;
         let kind = reader.next_u16()?;
         let arg = reader.next_blob(alloc, F::blob_most_bytes())?;
-        Ok(Pending {
+        let task = Pending {
             key,
             due,
             period,
             kind,
             arg,
-        })
+        };
+        Ok((task, reader))
     }
 }
 
@@ -79,12 +80,13 @@ fn is_task_above(before: Option<&Pending>, key: &TaskKey) -> bool
 fn next_due(reader: &mut Reader<'_>) -> Result<u64, PayloadRefused>
     ensures { Gives (checked is_due next_u64) reader.old result reader.new }
 {
-    let at = reader.at();
-    let due = reader.next_u64()?;
+    let mut ahead = reader.copy();
+    let due = ahead.next_u64()?;
     if due <= MOMENT_MOST_MS + DELAY_MOST_MS {
+        *reader = ahead;
         Ok(due)
     } else {
-        Err(PayloadRefused::NotInGrammar { at })
+        Err(PayloadRefused::NotInGrammar { at: reader.at() })
     }
 }
 
@@ -92,12 +94,13 @@ fn next_due(reader: &mut Reader<'_>) -> Result<u64, PayloadRefused>
 fn next_period(reader: &mut Reader<'_>) -> Result<u64, PayloadRefused>
     ensures { Gives (checked is_period next_u64) reader.old result reader.new }
 {
-    let at = reader.at();
-    let period = reader.next_u64()?;
+    let mut ahead = reader.copy();
+    let period = ahead.next_u64()?;
     if period <= PERIOD_MOST_MS {
+        *reader = ahead;
         Ok(period)
     } else {
-        Err(PayloadRefused::NotInGrammar { at })
+        Err(PayloadRefused::NotInGrammar { at: reader.at() })
     }
 }
 
@@ -122,15 +125,15 @@ impl Form<TaskKey> for NextKeyForm {
     }
 
     #[tactic(auto, unfolding(dk_model::specs::Entries::key_item_at))]
-    fn take(
+    fn take<'a>(
         _alloc: Global,
-        reader: &mut Reader<'_>,
+        mut reader: Reader<'a>,
         before: Option<&TaskKey>,
-    ) -> Result<TaskKey, PayloadRefused> {
+    ) -> Result<(TaskKey, Reader<'a>), PayloadRefused> {
         let at = reader.at();
         let key = reader.next_key()?;
         if is_key_above(before, &key) {
-            Ok(key)
+            Ok((key, reader))
         } else {
             Err(PayloadRefused::NotInGrammar { at })
         }
@@ -168,18 +171,18 @@ impl Form<(TaskKey, u64)> for MovedForm {
     }
 
     #[tactic(auto, unfolding(dk_model::specs::Entries::moved_at_place))]
-    fn take(
+    fn take<'a>(
         _alloc: Global,
-        reader: &mut Reader<'_>,
+        mut reader: Reader<'a>,
         before: Option<&(TaskKey, u64)>,
-    ) -> Result<(TaskKey, u64), PayloadRefused> {
+    ) -> Result<((TaskKey, u64), Reader<'a>), PayloadRefused> {
         let at = reader.at();
         let key = reader.next_key()?;
         if !is_moved_above(before, &key) {
             return Err(PayloadRefused::NotInGrammar { at });
         }
-        let due = next_due(reader)?;
-        Ok((key, due))
+        let due = next_due(&mut reader)?;
+        Ok(((key, due), reader))
     }
 }
 

@@ -18,7 +18,7 @@ use Rattle.dk_model.specs.declared.records.ChannelRecord.{ChannelRecord}
 use Rattle.dk_model.specs.declared.records.Delivery.TheVariants.{Reliable}
 use Rattle.dk_types.specs.declared.mode.Mode.TheVariants.{Platform, Game}
 use Rattle.dk_model.specs.Keys.{id_cmp}
-use Rattle.dk_model.specs.Runs.{Run, begun, give, and_then, within, get, create, save, remove as remove_object, bind, unbind, send}
+use Rattle.dk_model.specs.Runs.{Run, begun, give, and_then, within, get, create, remove as remove_object, bind, unbind, send}
 use Rattle.dk_model.specs.Records.{session_of, next_session, channel_of, next_channel, next_member}
 use Rattle.dk_types.specs.Lists.{list_spelling, items_at, list_at}
 use Rattle.dk_model.specs.References.{get_as}

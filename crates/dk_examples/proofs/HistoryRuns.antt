@@ -1,5 +1,5 @@
 -- Worked histories.
-use Rattle.std.proofs.Common.{◌≡◌, ℕ, Bool, true, false, Some, None, List, [], ◌∷◌, codes, refl, sym, subst, arith}
+use Rattle.std.proofs.Common.{◌≡◌, ℕ, Bool, true, false, Some, None, List, [], ◌∷◌, refl, sym, subst, arith}
 use Rattle.dk_types.specs.declared.number.RunNo.{RunNo}
 use Rattle.dk_types.specs.declared.job.Job.{Job}
 use Rattle.dk_types.specs.declared.job.Job.TheVariants as job
@@ -12,11 +12,10 @@ use Rattle.dk_examples.specs.TimerGame.{timer_rules}
 use Rattle.dk_examples.specs.TimerRows.{occurrence, counting, counted}
 use Rattle.dk_examples.specs.SessionRows.{alice, with_alice, with_alice_again}
 use Rattle.dk_types.specs.declared.job.Out.TheVariants as out
-use Rattle.dk_types.specs.declared.job.Input.TheVariants as input
 use Rattle.dk_model.specs.declared.waiting.Waiting.TheVariants as waits
 use Rattle.dk_examples.specs.HistoryRows.{world, of_alice, timer_events, TimerHistory, second_login_events, SecondLoginHistory, restart_events, RestartHistory}
 use Rattle.dk_examples.proofs.Running.{looks, puts}
-use Rattle.dk_examples.proofs.EventSteps.{stands, opens_empty, claims, commits, connects, ticks, posts, hands}
+use Rattle.dk_examples.proofs.EventSteps.{stands, opens_empty, claims, commits, connects, ticks, hands}
 use Rattle.dk_examples.proofs.SessionRuns.{session_read, first_run_accepts, login_is_accepted, second_login_displaces, stop_ends}
 use Rattle.dk_examples.proofs.TimerRuns.{timer_begins, timer_skips, timer_goes_on, timer_ends}
 

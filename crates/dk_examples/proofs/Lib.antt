@@ -8,3 +8,4 @@ pub mod OutboxRuns
 pub mod EventSteps
 pub mod HistoryRuns
 pub mod PickRuns
+pub mod StoreRuns

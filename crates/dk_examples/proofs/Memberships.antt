@@ -1,5 +1,5 @@
 -- What a join and a leave do, where both records are there.
-use Rattle.std.proofs.Common.{◌≡◌, ℕ, Bool, true, false, nat_eq, Some, List, [], ◌∷◌, ◌++◌, Ok, refl}
+use Rattle.std.proofs.Common.{◌≡◌, ℕ, true, false, nat_eq, Some, List, [], ◌∷◌, ◌++◌, Ok}
 use Rattle.std.specs.FinMap.{insert, get as map_get}
 use Rattle.dk_types.specs.declared.number.ObjectId.{ObjectId}
 use Rattle.dk_types.specs.declared.object.Object.{Object}

@@ -14,6 +14,7 @@ use Rattle.dk_model.specs.Worlds.{Connection}
 use Rattle.dk_model.specs.Deliveries.{Connections, changed_at, change_connection, with_disconnect, cut_off, is_full, with_out, with_outs, is_close, takes, closed_by, with_closed}
 use Rattle.dk_model.specs.Events.{outbox}
 use Rattle.dk_model.proofs.Maps.{conns_total, get-with_value_here}
+use Rattle.dk_model.proofs.Walks.{closed_more}
 use Rattle.dk_examples.specs.OutboxRows.{to_one, IsLive, AsManyWait, OneMoreCuts, OneMoreInTheRunCuts, CutGetsNoMore, HandGivesAll}
 
 or_left : (a b : Bool) → (a || b) ≡ false → a ≡ false
@@ -66,7 +67,8 @@ none_closed : (ms : List Out) (all : Connections) (conn : ConnNo) → list_any i
 none_closed [] all conn h = refl
 none_closed (m ∷ ms) all conn h =
     let next = change_connection conn (with_out m) all in
-    ap (λ b. if b && takes (get all conn) then conn ∷ closed_by (to_one conn ms) next else closed_by (to_one conn ms) next) (or_left (is_close m) (list_any is_close ms) h)
+    closed_more (conn, m) (to_one conn ms) all
+    ∙ ap (λ b. if b && takes (get all conn) then conn ∷ closed_by (to_one conn ms) next else closed_by (to_one conn ms) next) (or_left (is_close m) (list_any is_close ms) h)
     ∙ none_closed ms next conn (or_right (is_close m) (list_any is_close ms) h)
 
 pub as_many_wait : AsManyWait
@@ -88,7 +90,7 @@ cut_is c e = ap (λ (q : List Waiting). record c { queue = with_disconnect q; cl
 
 pub one_more_cuts : OneMoreCuts
 one_more_cuts all conn c message e live many idle =
-    ap (λ ks. get (with_closed ks (change_connection conn (with_out message) all)) conn) (one_closed (is_close message) (takes (get all conn)) conn (full_takes (get all conn) c e live many))
+    ap (λ ks. get (with_closed ks (change_connection conn (with_out message) all)) conn) (closed_more (conn, message) [] all ∙ one_closed (is_close message) (takes (get all conn)) conn (full_takes (get all conn) c e live many))
     ∙ set_here conn (with_out message) all c e ∙ ap Some (cuts message c live many ∙ cut_is c idle)
 
 cut_takes : (c : Connection) → c.cut ≡ true → takes (Some c) ≡ false
@@ -99,7 +101,7 @@ cut_stays m c e = ap (λ b. if b || c.over then c else if is_full c then cut_off
 
 pub cut_gets_no_more : CutGetsNoMore
 cut_gets_no_more all conn c message e cut =
-    ap (λ ks. get (with_closed ks (change_connection conn (with_out message) all)) conn) (one_closed (is_close message) (takes (get all conn)) conn (ap takes e ∙ cut_takes c cut))
+    ap (λ ks. get (with_closed ks (change_connection conn (with_out message) all)) conn) (closed_more (conn, message) [] all ∙ one_closed (is_close message) (takes (get all conn)) conn (ap takes e ∙ cut_takes c cut))
     ∙ set_here conn (with_out message) all c e ∙ ap Some (cut_stays message c cut)
 
 with_outs-append : (xs ys : List (ConnNo × Out)) (all : Connections) → with_outs (xs ++ ys) all ≡ with_outs ys (with_outs xs all)
@@ -116,7 +118,8 @@ closed_by-append conn [] ys all h = refl
 closed_by-append conn (m ∷ ms) ys all h =
     let next = change_connection conn (with_out m) all in
     let rest = closed_by (to_one conn ms ++ ys) next in
-    ap (λ b. if b && takes (get all conn) then conn ∷ rest else rest) (or_left (is_close m) (list_any is_close ms) h)
+    closed_more (conn, m) (to_one conn ms ++ ys) all
+    ∙ ap (λ b. if b && takes (get all conn) then conn ∷ rest else rest) (or_left (is_close m) (list_any is_close ms) h)
     ∙ closed_by-append conn ms ys next (or_right (is_close m) (list_any is_close ms) h)
 
 pub one_more_in_the_run_cuts : OneMoreInTheRunCuts

@@ -53,7 +53,7 @@ effects_by a b = record {
   requeued = map (λ e. (e.0, e.1.due)) (where_key key_cmp (λ k. is_moved (find key_cmp k a.tasks) (find key_cmp k b.tasks)) b.tasks);
 }
 
-effects-listed : (a b : Lists) (c d : ℕ) (l k : Option RunNo) → AreSorted a → AreSorted b → effects (listed a c l) (listed b d k) ≡ effects_by a b
+pub effects-listed : (a b : Lists) (c d : ℕ) (l k : Option RunNo) → AreSorted a → AreSorted b → effects (listed a c l) (listed b d k) ≡ effects_by a b
 effects-listed a b c d l k s t i = record {
   written = set_in-made id_cmp ids_total exact_ids same_object a.objects b.objects t.objects i;
   removed = gone_in-made id_cmp ids_total exact_ids a.objects b.objects s.objects i;
@@ -71,7 +71,7 @@ pub record Holds (w : DurableWorld) (l : Lists) : Type 0 where
   pub tasks : entries w.tasks ≡ l.tasks
   pub sorted : AreSorted l
 
-world-made : (w : DurableWorld) (l : Lists) → Holds w l → w ≡ listed l w.commits w.last
+pub world-made : (w : DurableWorld) (l : Lists) → Holds w l → w ≡ listed l w.commits w.last
 world-made w l h i = record {
   objects = same_made id_cmp ids_total w.objects l.objects h.objects h.sorted.objects i;
   names = same_made bytes_cmp names_total w.names l.names h.names h.sorted.names i;

@@ -7,3 +7,4 @@ pub mod ChannelRows
 pub mod OutboxRows
 pub mod HistoryRows
 pub mod PickRows
+pub mod StoreRows

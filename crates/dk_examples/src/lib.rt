@@ -19,6 +19,13 @@ pub use sessions::{
     login_over_no_record_fails, long_login_fails, second_login_displaces, stop_ends,
     strange_message_is_nothing, turned_away_login_stays,
 };
+pub use stores::{
+    bare_commit_is_spelled, blank_files_are_no_store, damage_is_told_by_place,
+    first_commit_is_spelled, headers_are_spelled, image_is_spelled, images_stand,
+    journals_hold_their_world, later_commits_are_spelled, stores_hold_their_world,
+    the_greater_epoch_stands, torn_headers_are_no_store, torn_records_are_not_looked_at,
+    wrong_headers_are_told_by_place,
+};
 pub use timers::{
     once_fails, timer_begins, timer_ends, timer_fails, timer_goes_on, timer_is_over, timer_skips,
 };
@@ -28,4 +35,5 @@ mod histories;
 mod outboxes;
 mod picks;
 mod sessions;
+mod stores;
 mod timers;

@@ -8,15 +8,12 @@ use Rattle.dk_frame.specs.declared.frames.Frames.{Frames}
 use Rattle.dk_frame.specs.Meanings.{frame_of, fault_of, stage_of}
 use Rattle.dk_frame.specs.Fronts.{IsRead, IsToldOf}
 use Rattle.dk_frame.specs.Decoding.{Decoding, StandsFor, Refuses, following, following_at}
-use Rattle.dk_frame.proofs.Standing.{fed_on, stands_on}
+use Rattle.dk_frame.specs.Behind.{behind}
+use Rattle.dk_frame.proofs.Standing.{stands_on}
 
 -- with this piece, these are the next frames of whatever the decoder stands for
 abbrev pub Gives : Decoding → List ℕ → Decoding → List Frame → Type 0
 Gives old piece new frames = (stream : List ℕ) (given : List Frame) → StandsFor old stream given → StandsFor new (stream ++ piece) (given ++ frames)
-
--- the decoder behind what was read
-abbrev pub behind : Decoding → List ℕ → Frames → Decoding
-behind old piece read = fed_on old piece read.taken (stage_of read.stage) (option_map fault_of read.fault)
 
 -- what was read are the next frames
 pub gives_read : (old : Decoding) (piece : List ℕ) (read : Frames) → old.fault ≡ None → (old.stage ≡ LoggedOut → ⊥) → IsRead old.stage (old.held ++ piece) read → Gives old piece (behind old piece read) (map frame_of read.frames.items)

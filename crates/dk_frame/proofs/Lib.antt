@@ -6,6 +6,7 @@ pub mod FrontLemmas
 pub mod Turns
 pub mod GoingOn
 pub mod Standing
+pub mod Parted
 pub mod Fed
 pub mod Apart
 pub mod HeldFew

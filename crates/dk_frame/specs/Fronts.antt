@@ -43,6 +43,11 @@ pub record IsRead (start : Stage) (bytes : List ℕ) (read : Frames) : Type 0 wh
   pub taken : AreTaken start bytes (map frame_of read.frames.items) read.taken (stage_of read.stage)
   pub stops : Stops (stage_of read.stage) (drop read.taken bytes) (option_map fault_of read.fault)
 
+-- the frames at the front of these bytes were read, behind others whose bytes were taken whole
+abbrev pub IsReadOn : Frames → List ℕ → Frames → Type 0
+IsReadOn old bytes read =
+    (start : Stage) (before : List ℕ) → AreTaken start before (map frame_of old.frames.items) old.taken (stage_of old.stage) → old.taken ≡ length before → IsRead start (before ++ bytes) read
+
 -- no frame was read, and the bad frame that follows, at this place, is told
 pub record IsToldOf (read : Frames) (at : ℕ) (refused : FrameRefused) : Type 0 where
   pub why : FrameFault

@@ -6,8 +6,8 @@ ghost use Rattle.dk_model.specs.Frames.{Frame};
 ghost use Rattle.dk_frame.specs.Fields.{IsFrameOf, HasNoFrame, BeginsWithNoName};
 
 use crate::frame::ClientFrame;
-use crate::limits::FRAME_BODY_MOST_BYTES;
 use crate::stage::{CHANNEL, LOGIN, MESSAGE};
+use dk_types::limits::BODY_MOST_BYTES;
 use dk_types::{Blob, Name, NoMemory};
 use dk_wire::{Reader, WireRefused};
 use std::alloc::Global;
@@ -50,7 +50,7 @@ fn login(alloc: Global, fields: &[u8]) -> Result<Option<ClientFrame>, NoMemory>
 fn message(alloc: Global, fields: &[u8]) -> Result<Option<ClientFrame>, NoMemory>
     ensures { IfOk result (λ found. MatchOption found (HasNoFrame 2 fields.now) (IsFrameOf 2 fields.now)) }
 {
-    if fields.len() as u64 > FRAME_BODY_MOST_BYTES {
+    if fields.len() as u64 > BODY_MOST_BYTES {
         return Ok(None);
     }
     Ok(Some(ClientFrame::Message(Blob::copy_of(alloc, fields)?)))
@@ -63,7 +63,7 @@ fn channel(alloc: Global, fields: &[u8]) -> Result<Option<ClientFrame>, NoMemory
     let Some((channel, body)) = name_of(alloc, fields)? else {
         return Ok(None);
     };
-    if body.len() as u64 > FRAME_BODY_MOST_BYTES {
+    if body.len() as u64 > BODY_MOST_BYTES {
         return Ok(None);
     }
     let body = Blob::copy_of(alloc, body)?;

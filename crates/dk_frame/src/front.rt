@@ -54,7 +54,7 @@ impl Front {
 }
 
 /// The length at the front, and what stands behind it; nothing where there are fewer than four bytes.
-fn length_of(bytes: &[u8]) -> Option<(u32, &[u8])>
+pub(crate) fn length_of(bytes: &[u8]) -> Option<(u32, &[u8])>
     ensures found { IfSome result (λ found. States bytes.now found.0 found.1.now) }
     ensures none { IfNone result (length bytes.now < 4) }
 {

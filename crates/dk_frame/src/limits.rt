@@ -1,8 +1,5 @@
 //! The limits of a frame.
 
-/// The most bytes of a body.
-pub const FRAME_BODY_MOST_BYTES: u64 = 1_048_576;
-
 /// The greatest length that a frame states: the bytes of an opcode, a name and a body.
 pub const FRAME_LENGTH_MOST_BYTES: u32 = 1_048_833;
 

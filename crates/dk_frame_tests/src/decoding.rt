@@ -2,7 +2,7 @@
 
 use crate::reading::{Next, read};
 use dk_frame::FrameFault::{Field, Length, Opcode};
-use dk_frame::limits::FRAME_BODY_MOST_BYTES;
+use dk_types::limits::BODY_MOST_BYTES;
 use std::alloc::Global;
 use std::test::*;
 
@@ -189,7 +189,7 @@ fn with_body(alloc: Global, head: &[u8], body: u64) -> Result<Vec<u8>, Fail> {
 #[test]
 fn a_body_has_its_limit(rt: HostRuntime) -> Result<(), Fail> {
     let alloc = rt.alloc();
-    let most = FRAME_BODY_MOST_BYTES;
+    let most = BODY_MOST_BYTES;
     let field = Next::Bad { at: 11, why: Field };
     // The head, the bytes behind it, what comes of them, and a length of pieces.
     for (head, body, frames, next, least) in [

@@ -1,7 +1,7 @@
 //! The server's frames.
 
 use dk_frame::encode_out;
-use dk_frame::limits::FRAME_BODY_MOST_BYTES;
+use dk_types::limits::BODY_MOST_BYTES;
 use dk_types::{Blob, Name, Out};
 use std::alloc::Global;
 use std::test::*;
@@ -10,7 +10,7 @@ use std::test::*;
 fn frame(alloc: Global, out: &Out) -> Result<Blob, Fail> {
     match out {
         Out::Message(body) | Out::Channel { body, .. }
-            if body.as_slice().len() as u64 > FRAME_BODY_MOST_BYTES => { Err("too long")? }
+            if body.as_slice().len() as u64 > BODY_MOST_BYTES => { Err("too long")? }
         _ => Ok(encode_out(alloc, out)?),
     }
 }

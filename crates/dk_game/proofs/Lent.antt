@@ -11,6 +11,7 @@ use Rattle.dk_model.specs.Lawful.{IsJob}
 use Rattle.dk_txn.specs.declared.finished.Finished.{Finished}
 use Rattle.dk_overlay.specs.Logged.{Logged, nothing_done}
 use Rattle.dk_txn.specs.Finishes.{told}
+use Rattle.dk_txn.specs.Asks.{IsAskedOnce}
 use Rattle.dk_txn.specs.Knowing.{JobFits}
 use Rattle.dk_txn.specs.Law.{IsBegun}
 use Rattle.dk_txn.specs.Sights.{Sights}
@@ -29,6 +30,12 @@ law_so rules j run at t (Err e) start law = tt
 pub given_back : {S : Type 0} {v u : S} (sights : Sights S) (result : Result Finished NoMemory) → v ≡ u
     → IfOk result (λ f. AllByRecursion (λ r. sights.gave v r.0 r.1) f.reads.items) → IfOk result (λ f. AllByRecursion (λ r. sights.gave u r.0 r.1) f.reads.items)
 given_back sights result same given = subst (λ v. IfOk result (λ f. AllByRecursion (λ r. sights.gave v r.0 r.1) f.reads.items)) same given
+
+-- so the view was asked once for each, also once it is had back
+pub asked_back : {S : Type 0} {a v b u : S} (sights : Sights S) (result : Result Finished NoMemory) → a ≡ b → v ≡ u
+    → IfOk result (λ f. IsAskedOnce sights a v f.reads.items) → IfOk result (λ f. IsAskedOnce sights b u f.reads.items)
+asked_back {v = v} {b = b} sights result first last asked =
+    subst (λ x. IfOk result (λ f. IsAskedOnce sights b x f.reads.items)) last (subst (λ x. IfOk result (λ f. IsAskedOnce sights x v f.reads.items)) first asked)
 
 -- a job within its limits has the moments of a task within theirs
 pub job_fits : (j : Job) → IsJob j → JobFits j

@@ -1,5 +1,7 @@
 -- The law of a job that was run.
-use Rattle.std.proofs.Common.{◌≡◌, Some, Result, Ok, Err, IfOk, subst}
+use Rattle.std.proofs.Common.{◌≡◌, Some, List, [], Result, Ok, Err, IfOk, sym, ap, subst}
+use Rattle.dk_types.specs.declared.item.Item.{Item}
+use Rattle.dk_types.specs.declared.item.Read.{Read}
 use Rattle.dk_types.specs.declared.job.Job.{Job}
 use Rattle.dk_types.specs.declared.fault.AppFault.{AppFault}
 use Rattle.dk_types.specs.declared.fault.NoMemory.{NoMemory}
@@ -20,6 +22,7 @@ use Rattle.dk_game.specs.Halted.{halt_fault}
 use Rattle.dk_game.specs.Moving.{MayMove, AsksOwn}
 use Rattle.dk_game.proofs.Owning.{moves_own}
 use Rattle.dk_txn.specs.Sights.{Sights}
+use Rattle.dk_txn.specs.Asks.{AskedInTurn, AsksAny, IsAskedOnce}
 
 -- a run that did the whole of its job, from its start, and tells what its end tells, keeps the law
 pub job_kept : {S : Type 0} {sights : Sights S} {a b : Txn S Logged} {r : Result (Unit {0}) Halt} (rules : Job → Act (Unit {0})) (j : Job) (end : Result (Unit {0}) AppFault) (f : Finished)
@@ -38,3 +41,12 @@ both_ok (Err e) p q k = tt
 pub one_ok : {P R : Finished → Type 0} (r : Result Finished NoMemory) → IfOk r P → ((f : Finished) → P f → R f) → IfOk r R
 one_ok (Ok f) p k = k f p
 one_ok (Err e) p k = tt
+
+-- a run from its start asked the view once for each item that it tells
+pub asked_once : {S : Type 0} {sights : Sights S} {a b : Txn S Logged} {v : S} {reads : List (Item × Read)} → IsBegun a.log → AsksAny sights a b → v ≡ b.view.now → reads ≡ b.log.reads → IsAskedOnce sights a.view.now v reads
+asked_once {sights = sights} {a = a} {b = b} {v = v} {reads = reads} start p stays is = (
+  p.asks,
+  subst (λ rs. AskedInTurn sights a.view.now [] p.asks v rs) (sym is)
+      (subst (λ x. AskedInTurn sights a.view.now [] p.asks x b.log.reads) (sym stays)
+      (subst (λ rs. AskedInTurn sights a.view.now rs p.asks b.view.now b.log.reads) (ap (λ (t : Logged). t.reads) start) p.in_turn)),
+)

@@ -1,4 +1,5 @@
 //! Messages on channels.
+ghost use Rattle.std.specs.Prelude.{◌≡◌};
 ghost use Rattle.dk_model.specs.Steps as step;
 ghost use Rattle.dk_txn.specs.Does.{Does};
 ghost use Rattle.dk_game.specs.Halted.{halt_fault};
@@ -23,7 +24,8 @@ pub(crate) fn channel<G: Game, V: View>(
     body: &Blob,
     txn: &mut Txn<'_, V>,
 ) -> Result<(), Halt>
-    ensures { Does V.sights halt_fault txn.old txn.new (step.for_session session.now (step.channel_message session.now name.now body.now (step.game_part (G.rules game.now) job.now))) result }
+    ensures does { Does V.sights halt_fault txn.old txn.new (step.for_session session.now (step.channel_message session.now name.now body.now (step.game_part (G.rules game.now) job.now))) result }
+    ensures same_mode { txn.new.log.mode ≡ txn.old.log.mode }
 {
     if is_connected(alloc, txn, session)? {
         on_channel(alloc, game, job, session, name, body, txn)
@@ -41,7 +43,8 @@ fn on_channel<G: Game, V: View>(
     body: &Blob,
     txn: &mut Txn<'_, V>,
 ) -> Result<(), Halt>
-    ensures { Does V.sights halt_fault txn.old txn.new (step.channel_message session.now name.now body.now (step.game_part (G.rules game.now) job.now)) result }
+    ensures does { Does V.sights halt_fault txn.old txn.new (step.channel_message session.now name.now body.now (step.game_part (G.rules game.now) job.now)) result }
+    ensures same_mode { txn.new.log.mode ≡ txn.old.log.mode }
 {
     match record_of(alloc, txn, name) {
         Ok((_, record)) => {

@@ -32,6 +32,7 @@ pub(crate) fn work_job<G: Game, V: View>(
 ) -> Result<(), Halt>
     requires { JobFits job.now }
     ensures does { DoesFor (MayMove job.now) V.sights halt_fault txn.old txn.new (work (part (G.rules game.now)) job.now) result }
+    ensures same_mode { txn.new.log.mode ≡ txn.old.log.mode }
     ensures asked { IsBegun txn.old.log → AsksOwn job.now txn.new.log result }
 {
     match job {

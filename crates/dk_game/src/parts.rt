@@ -1,5 +1,5 @@
 //! The game's part of a job, and the occurrence of a task.
-ghost use Rattle.std.specs.Prelude.{Ok, if◌then◌else◌};
+ghost use Rattle.std.specs.Prelude.{◌≡◌, Ok, if◌then◌else◌};
 ghost use Rattle.dk_model.specs.Runs.{and_then, give};
 ghost use Rattle.dk_model.specs.Steps.{game_part as part, own_task as own_act};
 ghost use Rattle.dk_txn.specs.Knowing.{Fits};
@@ -21,7 +21,8 @@ pub(crate) fn game_part<G: Game, V: View>(
     job: &Job,
     txn: &mut Txn<'_, V>,
 ) -> Result<(), Halt>
-    ensures { Does V.sights halt_fault txn.old txn.new (part (G.rules game.now) job.now) result }
+    ensures does { Does V.sights halt_fault txn.old txn.new (part (G.rules game.now) job.now) result }
+    ensures same_mode { txn.new.log.mode ≡ txn.old.log.mode }
 {
     let before = txn.set_mode(Mode::Game);
     let end = game.run(alloc, job, txn);
@@ -42,6 +43,7 @@ pub(crate) fn occurrence<G: Game, V: View>(
 ) -> Result<(), Halt>
     requires { Fits due period }
     ensures does { DoesFor (Only key due) V.sights halt_fault txn.old txn.new (and_then (own_act key due period) (λ pending. if pending then part (G.rules game.now) job.now else give (Ok tt))) result }
+    ensures same_mode { txn.new.log.mode ≡ txn.old.log.mode }
     ensures asked { IsBegun txn.old.log → AsksTask key txn.new.log result }
 {
     if txn.own_task(key, due, period)? {

@@ -5,6 +5,7 @@ ghost use Rattle.dk_types.specs.declared.item.Item.{Item};
 ghost use Rattle.dk_types.specs.declared.item.Read.{Read};
 ghost use Rattle.dk_model.specs.Finishes.{KeepsLaw};
 ghost use Rattle.dk_overlay.specs.Asked.{IsOnce};
+ghost use Rattle.dk_txn.specs.Asks.{IsAskedOnce};
 ghost use Rattle.dk_txn.specs.Finishes.{told};
 ghost use Rattle.dk_txn.specs.Knowing.{JobFits};
 ghost use Rattle.dk_txn.specs.Law.{IsBegun};
@@ -31,6 +32,7 @@ pub fn run_job<G: Game, V: View>(
     ensures becomes { V.sights.becomes txn.old.view.now txn.new.view.now }
     ensures given { IfOk result (λ f. AllByRecursion (λ r. V.sights.gave txn.new.view.now r.0 r.1) f.reads.items) }
     ensures once { IfOk result (λ f. IsOnce f.reads.items) }
+    ensures asked { IfOk result (λ f. IsAskedOnce V.sights txn.old.view.now txn.new.view.now f.reads.items) }
 {
     let end = match work_job(alloc, game, job, txn) {
         Ok(()) => Ok(()),

@@ -1,4 +1,5 @@
 //! Logins, messages and the ends of sessions.
+ghost use Rattle.std.specs.Prelude.{◌≡◌};
 ghost use Rattle.dk_model.specs.Runs.{and_then};
 ghost use Rattle.dk_model.specs.Steps as step;
 ghost use Rattle.dk_txn.specs.Does.{Does};
@@ -22,7 +23,8 @@ pub(crate) fn login<G: Game, V: View>(
     session: &Session,
     txn: &mut Txn<'_, V>,
 ) -> Result<(), Halt>
-    ensures { Does V.sights halt_fault txn.old txn.new (and_then (step.displace_recorded session.now.name (step.game_part (G.rules game.now))) (λ _. step.admit session.now (step.game_part (G.rules game.now) job.now))) result }
+    ensures does { Does V.sights halt_fault txn.old txn.new (and_then (step.displace_recorded session.now.name (step.game_part (G.rules game.now))) (λ _. step.admit session.now (step.game_part (G.rules game.now) job.now))) result }
+    ensures same_mode { txn.new.log.mode ≡ txn.old.log.mode }
 {
     displace_recorded(alloc, game, &session.name, txn)?;
     open_record(alloc, txn, session)?;
@@ -38,7 +40,8 @@ fn displace_recorded<G: Game, V: View>(
     name: &Name,
     txn: &mut Txn<'_, V>,
 ) -> Result<(), Halt>
-    ensures { Does V.sights halt_fault txn.old txn.new (step.displace_recorded name.now (step.game_part (G.rules game.now))) result }
+    ensures does { Does V.sights halt_fault txn.old txn.new (step.displace_recorded name.now (step.game_part (G.rules game.now))) result }
+    ensures same_mode { txn.new.log.mode ≡ txn.old.log.mode }
 {
     if is_recorded(alloc, txn, name)? {
         let old = find(alloc, txn, name)?;
@@ -54,7 +57,8 @@ fn displace<G: Game, V: View>(
     old: &Session,
     txn: &mut Txn<'_, V>,
 ) -> Result<(), Halt>
-    ensures { Does V.sights halt_fault txn.old txn.new (step.displace old.now (step.game_part (G.rules game.now))) result }
+    ensures does { Does V.sights halt_fault txn.old txn.new (step.displace old.now (step.game_part (G.rules game.now))) result }
+    ensures same_mode { txn.new.log.mode ≡ txn.old.log.mode }
 {
     let lost = Job::Disconnect {
         conn: old.conn,
@@ -74,7 +78,8 @@ pub(crate) fn message<G: Game, V: View>(
     session: &Session,
     txn: &mut Txn<'_, V>,
 ) -> Result<(), Halt>
-    ensures { Does V.sights halt_fault txn.old txn.new (step.for_session session.now (step.game_part (G.rules game.now) job.now)) result }
+    ensures does { Does V.sights halt_fault txn.old txn.new (step.for_session session.now (step.game_part (G.rules game.now) job.now)) result }
+    ensures same_mode { txn.new.log.mode ≡ txn.old.log.mode }
 {
     if is_connected(alloc, txn, session)? {
         game_part(alloc, game, job, txn)
@@ -91,7 +96,8 @@ pub(crate) fn disconnect<G: Game, V: View>(
     session: &Session,
     txn: &mut Txn<'_, V>,
 ) -> Result<(), Halt>
-    ensures { Does V.sights halt_fault txn.old txn.new (step.for_session session.now (step.end_session session.now (step.game_part (G.rules game.now) job.now))) result }
+    ensures does { Does V.sights halt_fault txn.old txn.new (step.for_session session.now (step.end_session session.now (step.game_part (G.rules game.now) job.now))) result }
+    ensures same_mode { txn.new.log.mode ≡ txn.old.log.mode }
 {
     if is_connected(alloc, txn, session)? {
         end_session(alloc, game, job, session, txn)
@@ -107,7 +113,8 @@ fn end_session<G: Game, V: View>(
     session: &Session,
     txn: &mut Txn<'_, V>,
 ) -> Result<(), Halt>
-    ensures { Does V.sights halt_fault txn.old txn.new (step.end_session session.now (step.game_part (G.rules game.now) job.now)) result }
+    ensures does { Does V.sights halt_fault txn.old txn.new (step.end_session session.now (step.game_part (G.rules game.now) job.now)) result }
+    ensures same_mode { txn.new.log.mode ≡ txn.old.log.mode }
 {
     game_part(alloc, game, job, txn)?;
     let (_, record) = own_record(alloc, txn, session)?;
@@ -123,7 +130,8 @@ fn leave_channels<V: View>(
     session: &Session,
     channels: &[Name],
 ) -> Result<(), Refusal>
-    ensures { Does V.sights refusal_fault txn.old txn.new (step.leave_channels session.now channels.now) result }
+    ensures does { Does V.sights refusal_fault txn.old txn.new (step.leave_channels session.now channels.now) result }
+    ensures same_mode { txn.new.log.mode ≡ txn.old.log.mode }
 {
     for name in channels {
         let channel = Channel {

@@ -10,13 +10,14 @@ use Rattle.dk_types.specs.declared.job.Input.{Input}
 use Rattle.dk_types.specs.declared.number.ConnNo.{ConnNo}
 use Rattle.dk_model.specs.Legal.{Opened, IsLegal, IsFront, pass_of}
 use Rattle.dk_laws.proofs.LaterOn.{claims_stand}
+use Rattle.dk_connections.specs.declared.answers.Handed.{Handed}
 use Rattle.dk_connections.specs.declared.answers.PostRefused.{PostRefused}
 use Rattle.dk_core.specs.declared.claimed.Claimed.{Claimed}
 use Rattle.dk_core.specs.declared.answers.ClaimRefused.{ClaimRefused}
 use Rattle.dk_turn.proofs.Beginnings.{own-append}
 use Rattle.dk_turn.specs.Fronts.{Known, known, own, Continues, Called}
-use Rattle.dk_host.specs.Calls.{Entered, Grants, ReadsAt, IsClaimOf, IsSpared, claim_events, post_events}
-use Rattle.dk_host.specs.Steps.{Adds, Posts, Claims, Reads, MayEnd}
+use Rattle.dk_host.specs.Calls.{Entered, Grants, ReadsAt, IsClaimOf, IsSpared, AreShort, claim_events, post_events, hand_events}
+use Rattle.dk_host.specs.Steps.{Adds, Posts, Hands, Claims, Reads, MayEnd}
 
 -- events of which none is the pass's are of others
 others : (pass : ℕ) (events : List Event) → own pass_of pass events ≡ [] → AllByRecursion (λ e. pass_of e ≢ pass) events
@@ -68,6 +69,13 @@ module _ (o : Opened) (pass : ℕ) (conn : ConnNo) (input : Input) (r : Result (
 
   pub post_spared : IsSpared input r
   post_spared = c.given.spared
+
+module _ (o : Opened) (pass : ℕ) (conn : ConnNo) (most : ℕ) (r : Result Handed NoMemory) (old new : List Event) (c : Called pass_of pass (λ before added. Hands o pass conn most before r added) old new) where
+  pub hand_entered : Entered o pass (hand_events pass conn most r) old new
+  hand_entered = entered_by o pass (hand_events pass conn most r) old new c c.given.adds
+
+  pub hand_short : AreShort r
+  hand_short = c.given.short
 
 module _ (o : Opened) (pass : ℕ) (item : Item) (r : Result Read NoMemory) (old new : List Event) (c : Called pass_of pass (λ before added. Reads o item before r added) old new) where
   pub read_entered : Entered o pass [] old new

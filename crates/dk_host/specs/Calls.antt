@@ -16,6 +16,7 @@ use Rattle.dk_model.specs.Legal.{Opened, opening_of, world_after, IsLegal, IsFro
 use Rattle.dk_model.specs.declared.waiting.Waiting.TheVariants as waits
 use Rattle.dk_model.specs.Deliveries.{is_disconnect}
 use Rattle.dk_model.specs.Finishes.{IsHonest}
+use Rattle.dk_model.specs.Lawful.{HasShortBody}
 use Rattle.dk_model.specs.Sights.{IsReadAt}
 use Rattle.dk_txn.specs.declared.finished.Finished.{Finished}
 use Rattle.dk_txn.specs.Finishes.{told}
@@ -68,6 +69,10 @@ claim_events pass (Err claim_refused.NoMemory) = []
 abbrev pub hand_events : ℕ → ConnNo → ℕ → Result Handed NoMemory → List Event
 hand_events pass conn most (Ok handed) = event.Hand pass conn most handed.outs handed.end ∷ []
 hand_events pass conn most (Err refused) = []
+
+-- no message that is handed has a body that is too long
+abbrev pub AreShort : Result Handed NoMemory → Type 0
+AreShort r = IfOk r (λ handed. All HasShortBody handed.outs)
 
 -- the claim was granted, and has not ended, in the world after these events
 abbrev pub Stands : Opened → List Event → Claimed → Type 0

@@ -50,7 +50,9 @@ given_still o a b g item read h =
 abbrev pub sights_by : {S : Type 0} {N : Type 0} → Opened → (S → Looking) → (S → N) → Sights S
 sights_by o look name = record {
   gave = λ v item read. IsGiven o (look v) item read;
+  asked = λ u item v. LooksOn o (look u) (look v) × (name v ≡ name u);
   becomes = λ u v. LooksOn o (look u) (look v) × (name v ≡ name u);
+  asking = λ u v item on. on;
   stays = λ v. (looks_still o (look v), refl);
   goes_on = λ u v w a b. (looks_then o (look u) (look v) (look w) a.0 b.0, b.1 ∙ a.1);
   keeps = λ u v same item read h. given_still o (look u) (look v) same.0 item read h;

@@ -4,7 +4,7 @@ ghost use Rattle.std.specs.List.{All};
 ghost use Rattle.dk_types.specs.declared.event.Event.TheVariants as event;
 ghost use Rattle.dk_model.specs.Lawful.{IsInput};
 ghost use Rattle.dk_model.specs.Legal.{pass_of};
-ghost use Rattle.dk_host.specs.Calls.{Entered, Grants, IsClaimOf, IsSpared, ReadsAt, claim_events, connect_events, hand_events, post_events};
+ghost use Rattle.dk_host.specs.Calls.{AreShort, Entered, Grants, IsClaimOf, IsSpared, ReadsAt, claim_events, connect_events, hand_events, post_events};
 
 use crate::book::WorldBook;
 use crate::host::Host;
@@ -97,6 +97,7 @@ impl<W: Hosting, J: Naming> Host<W, J> {
         requires some { 1 ≤ most }
         ensures number { pass.new.number ≡ pass.old.number }
         ensures entered { Entered W.opened pass.old.number (hand_events pass.old.number conn most result) pass.old.front pass.new.front }
+        ensures short { AreShort result }
         ensures named { All (λ e. pass_of e < J.name.passes) pass.new.front }
     {
         self.world.with(rt, pass, Hand { conn, most })

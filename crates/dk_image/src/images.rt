@@ -43,23 +43,24 @@ impl<F: StoreFormat> Form<Durable> for ImageForm<F> {
     }
 
     #[tactic(auto, unfolding(dk_model::specs::Images::image_at))]
-    fn take(
+    fn take<'a>(
         alloc: Global,
-        reader: &mut Reader<'_>,
+        mut reader: Reader<'a>,
         _: Option<&Durable>,
-    ) -> Result<Durable, PayloadRefused> {
+    ) -> Result<(Durable, Reader<'a>), PayloadRefused> {
         let commits = reader.next_u64()?;
-        let next = next_behind(reader, commits)?;
-        let objects = take_list::<(ObjectId, Object), ObjectForm<F>>(alloc, reader)?;
-        let names = take_list::<(Name, ObjectId), BindingForm>(alloc, reader)?;
-        let tasks = take_list::<Pending, PendingForm<F>>(alloc, reader)?;
-        Ok(Durable {
+        let next = next_behind(&mut reader, commits)?;
+        let objects = take_list::<(ObjectId, Object), ObjectForm<F>>(alloc, &mut reader)?;
+        let names = take_list::<(Name, ObjectId), BindingForm>(alloc, &mut reader)?;
+        let tasks = take_list::<Pending, PendingForm<F>>(alloc, &mut reader)?;
+        let world = Durable {
             commits,
             last: last_before(next),
             objects,
             names,
             tasks,
-        })
+        };
+        Ok((world, reader))
     }
 }
 
@@ -94,12 +95,13 @@ fn do_agree(commits: u64, next: u64) -> bool
 fn next_behind(reader: &mut Reader<'_>, commits: u64) -> Result<u64, PayloadRefused>
     ensures { Gives (checked (agrees_with commits) next_u64) reader.old result reader.new }
 {
-    let at = reader.at();
-    let next = reader.next_u64()?;
+    let mut ahead = reader.copy();
+    let next = ahead.next_u64()?;
     if do_agree(commits, next) {
+        *reader = ahead;
         Ok(next)
     } else {
-        Err(PayloadRefused::NotInGrammar { at })
+        Err(PayloadRefused::NotInGrammar { at: reader.at() })
     }
 }
 

@@ -6,11 +6,11 @@ use Rattle.std.proofs.lemmas.List.{append-nil}
 use Rattle.dk_types.specs.declared.side.Side.{Side}
 use Rattle.dk_disk.specs.Disk.{Disk, IsImage, settled, overwritten, after_write, after_failed_write, after_cut, after_failed_cut}
 use Rattle.dk_disk.specs.Past.{Past, now}
-use Rattle.dk_disk.proofs.Images.{settled_only}
+use Rattle.dk_disk.proofs.Images.{settled_only, settled_image, failed_write_image}
 use Rattle.dk_model.specs.Stores.{Reads, is_blank, header_fields, header_spelling, StoreHeader}
 use Rattle.dk_journal.specs.Standing.{Stands, IsReady, IsAtRest}
 use Rattle.dk_journal.proofs.Going.{begun, weakened}
-use Rattle.dk_journal.specs.Moments.{Runs, IsWriting, IsClearing, IsBlankUpTo, AreBlankOr, IsNewOrEmpty}
+use Rattle.dk_journal.specs.Moments.{Runs, IsWriting, IsClearing, IsBlankUpTo, HasSome, AreBlankOr, IsNewOrEmpty}
 use Rattle.dk_journal.proofs.Gates.{one_byte, made_as_failed}
 
 pub blank_short : (file : List ℕ) → length file ≤ 1 → is_blank file ≡ true
@@ -34,6 +34,42 @@ blank_is file is = ⊎_elim (λ short. inl (leb-true (length file) 1 short)) (λ
 abbrev Blank : ℕ → List ℕ → List ℕ → Type 0
 Blank most this image = IsBlankUpTo most image ⊎ (image ≡ this)
 
+-- each image is so
+abbrev Each : ℕ → List ℕ → Disk → Type 0
+Each most this d = (image : List ℕ) → IsImage d image → IsBlankUpTo most image ⊎ (image ≡ this)
+
+-- a file that is cut or written leaves itself, or what it was made
+settled_some : (file : List ℕ) (d : Disk) → d ≡ settled file → HasSome d
+settled_some file d is = (file, subst (λ (x : Disk). IsImage x file) (sym is) (settled_image file))
+
+cleared_some : (file : List ℕ) (old d : Disk) → old ≡ settled file → IsClearing old d → HasSome d
+cleared_some file old d is may =
+    let cut : IsImage (after_failed_cut 0 (settled file)) file = record { no_shorter = omega arith; no_longer = omega arith; kept = λ i l k u. refl } in
+    ⊎_elim
+    (λ (e : d ≡ old). settled_some file d (e ∙ is))
+    (λ others. ⊎_elim
+    (λ (e : d ≡ after_failed_cut 0 old). (file, subst (λ (x : Disk). IsImage x file) (sym (e ∙ ap (after_failed_cut 0) is)) cut))
+    (λ more. ⊎_elim
+    (λ (e : d ≡ after_cut 0 old). (file, subst (λ (x : Disk). IsImage x file) (sym (e ∙ ap (after_cut 0) is)) (record { no_shorter = cut.no_shorter; no_longer = cut.no_longer; kept = cut.kept })))
+    (λ (e : d ≡ settled []). settled_some [] d e)
+    more)
+    others)
+    may
+
+pub written_some : (at : ℕ) (bytes file : List ℕ) (old d : Disk) → old ≡ settled file → IsWriting at bytes old d → HasSome d
+written_some at bytes file old d is may =
+    let failed : IsImage (after_failed_write at (length bytes) (settled file)) file = failed_write_image at (length bytes) (settled file) file (settled_image file) in
+    ⊎_elim
+    (λ (e : d ≡ old). settled_some file d (e ∙ is))
+    (λ others. ⊎_elim
+    (λ (e : d ≡ after_failed_write at (length bytes) old). (file, subst (λ (x : Disk). IsImage x file) (sym (e ∙ ap (after_failed_write at (length bytes)) is)) failed))
+    (λ more. ⊎_elim
+    (λ (e : d ≡ after_write at bytes old). (file, subst (λ (x : Disk). IsImage x file) (sym (e ∙ ap (after_write at bytes) is)) (record { no_shorter = failed.no_shorter; no_longer = failed.no_longer; kept = failed.kept })))
+    (λ (e : d ≡ settled (overwritten at bytes old.reads)). settled_some (overwritten at bytes old.reads) d e)
+    more)
+    others)
+    may
+
 -- an image of a file with nothing pending
 only : (P : List ℕ → Type 0) (file : List ℕ) (d : Disk) → d ≡ settled file → P file → (image : List ℕ) → IsImage d image → P image
 only P file d is here image left = subst P (sym (settled_only file image (subst (λ (e : Disk). IsImage e image) is left))) here
@@ -54,8 +90,8 @@ cut_as_failed : (file image : List ℕ) → IsImage (after_cut 0 (settled file))
 cut_as_failed file image is = record { no_shorter = is.no_shorter; no_longer = is.no_longer; kept = is.kept }
 
 -- while it is cut to nothing
-pub clearing : (most : ℕ) (this file : List ℕ) (old d : Disk) → old ≡ settled file → IsBlankUpTo most file → IsClearing old d → AreBlankOr most this d
-clearing most this file old d is blank may =
+clearing_each : (most : ℕ) (this file : List ℕ) (old d : Disk) → old ≡ settled file → IsBlankUpTo most file → IsClearing old d → Each most this d
+clearing_each most this file old d is blank may =
     let P = Blank most this in
     ⊎_elim
     (λ (e : d ≡ old). only P file d (e ∙ is) (inl blank))
@@ -68,9 +104,12 @@ clearing most this file old d is blank may =
     others)
     may
 
+pub clearing : (most : ℕ) (this file : List ℕ) (old d : Disk) → old ≡ settled file → IsBlankUpTo most file → IsClearing old d → AreBlankOr most this d
+clearing most this file old d is blank may = (clearing_each most this file old d is blank may, cleared_some file old d is may)
+
 -- while a closed gate is put into the empty file
-pub closing : (most : ℕ) (this : List ℕ) (old d : Disk) → old ≡ settled [] → 1 ≤ most → IsWriting 0 (0 ∷ []) old d → AreBlankOr most this d
-closing most this old d is room may =
+closing_each : (most : ℕ) (this : List ℕ) (old d : Disk) → old ≡ settled [] → 1 ≤ most → IsWriting 0 (0 ∷ []) old d → Each most this d
+closing_each most this old d is room may =
     let P = Blank most this in
     ⊎_elim
     (λ (e : d ≡ old). only P [] d (e ∙ is) (inl (blank_short [] (omega arith), omega arith)))
@@ -86,13 +125,16 @@ closing most this old d is room may =
     short : (image : List ℕ) → length image ≤ 1 → IsBlankUpTo most image ⊎ (image ≡ this)
     short image le = inl (blank_short image le, omega (arith, le, room))
 
+pub closing : (most : ℕ) (this : List ℕ) (old d : Disk) → old ≡ settled [] → 1 ≤ most → IsWriting 0 (0 ∷ []) old d → AreBlankOr most this d
+closing most this old d is room may = (closing_each most this old d is room may, written_some 0 (0 ∷ []) [] old d is may)
+
 -- behind one byte
 pub behind_one : (byte : ℕ) (rest : List ℕ) → overwritten 1 rest (byte ∷ []) ≡ byte ∷ rest
 behind_one byte rest = ap (λ (l : List ℕ). (byte ∷ rest) ++ l) (drop_of_length-le (byte ∷ []) {i = 1 + length rest} (omega arith)) ∙ append-nil (byte ∷ rest)
 
 -- while the bytes are put behind the closed gate
-pub filling : (most : ℕ) (this rest : List ℕ) (old d : Disk) → old ≡ settled (0 ∷ []) → 1 + length rest ≤ most → IsWriting 1 rest old d → AreBlankOr most this d
-filling most this rest old d is room may =
+filling_each : (most : ℕ) (this rest : List ℕ) (old d : Disk) → old ≡ settled (0 ∷ []) → 1 + length rest ≤ most → IsWriting 1 rest old d → Each most this d
+filling_each most this rest old d is room may =
     let P = Blank most this in
     ⊎_elim
     (λ (e : d ≡ old). only P (0 ∷ []) d (e ∙ is) (inl (blank_short (0 ∷ []) (omega arith), omega (arith, room))))
@@ -116,9 +158,12 @@ filling most this rest old d is room may =
     shut_made : (image : List ℕ) → IsImage (after_write 1 rest (settled (0 ∷ []))) image → IsBlankUpTo most image ⊎ (image ≡ this)
     shut_made image left = shut image (record { no_shorter = left.no_shorter; no_longer = left.no_longer; kept = left.kept })
 
+pub filling : (most : ℕ) (this rest : List ℕ) (old d : Disk) → old ≡ settled (0 ∷ []) → 1 + length rest ≤ most → IsWriting 1 rest old d → AreBlankOr most this d
+filling most this rest old d is room may = (filling_each most this rest old d is room may, written_some 1 rest (0 ∷ []) old d is may)
+
 -- while the gate is opened
-pub opening : (most : ℕ) (rest : List ℕ) (old d : Disk) → old ≡ settled (0 ∷ rest) → 1 + length rest ≤ most → IsWriting 0 (1 ∷ []) old d → AreBlankOr most (1 ∷ rest) d
-opening most rest old d is room may =
+opening_each : (most : ℕ) (rest : List ℕ) (old d : Disk) → old ≡ settled (0 ∷ rest) → 1 + length rest ≤ most → IsWriting 0 (1 ∷ []) old d → Each most (1 ∷ rest) d
+opening_each most rest old d is room may =
     let P = Blank most (1 ∷ rest) in
     ⊎_elim
     (λ (e : d ≡ old). only P (0 ∷ rest) d (e ∙ is) (inl (blank_shut (0 ∷ rest) (omega arith), omega (arith, room))))
@@ -139,6 +184,9 @@ opening most rest old d is room may =
         (λ shut. inl (blank_shut image shut, omega (arith, ap length whole, room)))
         (cases_eq (get_or image 0 0) 1)
 
+pub opening : (most : ℕ) (rest : List ℕ) (old d : Disk) → old ≡ settled (0 ∷ rest) → 1 + length rest ≤ most → IsWriting 0 (1 ∷ []) old d → AreBlankOr most (1 ∷ rest) d
+opening most rest old d is room may = (opening_each most rest old d is room may, written_some 0 (1 ∷ []) (0 ∷ rest) old d is may)
+
 -- the whole file is an empty journal
 pub empty_reads : (header : StoreHeader) → length (header_spelling header) ≡ 64 → Reads (1 ∷ (header_fields header ++ 0 ∷ [])) (header_spelling header) []
 empty_reads header long = record { gate = 0; behind = []; closed = omega arith; bytes = refl; header_length = long; sized = tt }
@@ -148,7 +196,7 @@ pub new_or_empty : (header : StoreHeader) → length (header_spelling header) �
 new_or_empty header long d are image left = ⊎_elim
     (λ blank. inl blank)
     (λ (e : image ≡ 1 ∷ (header_fields header ++ 0 ∷ [])). inr (subst (λ (f : List ℕ). Reads f (header_spelling header) []) (sym e) (empty_reads header long)))
-    (are image left)
+    (are.0 image left)
 
 module _ (header : StoreHeader) (behind : List ℕ) (spelled : behind ≡ header_fields header ++ 0 ∷ []) (long : length (header_spelling header) ≡ 64) (side : Side) where
   pub behind_length : 1 + length behind ≡ 65

@@ -9,4 +9,10 @@ pub mod Scans
 pub mod Blanks
 pub mod HeaderBytes
 pub mod Lookings
+pub mod Closings
 pub mod Anew
+pub mod Seen
+pub mod Standings
+pub mod Stores
+pub mod Outranked
+pub mod Recoveries

@@ -4,3 +4,6 @@ pub mod Scanning
 pub mod Headers
 pub mod Refusals
 pub mod Opened
+pub mod Ranks
+pub mod Recoveries
+pub mod Stores

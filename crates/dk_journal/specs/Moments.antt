@@ -61,10 +61,18 @@ IsClearing old disk = (disk ≡ old) ⊎ ((disk ≡ after_failed_cut 0 old) ⊎ 
 abbrev pub IsBlankUpTo : ℕ → List ℕ → Type 0
 IsBlankUpTo most file = (is_blank file ≡ true) × (length file ≤ most)
 
+-- a stop leaves something
+abbrev pub HasSome : Disk → Type 0
+HasSome disk = (image : List ℕ) × IsImage disk image
+
 -- each image is blank, or is this file
 abbrev pub AreBlankOr : ℕ → List ℕ → Disk → Type 0
-AreBlankOr most file disk = (image : List ℕ) → IsImage disk image → IsBlankUpTo most image ⊎ (image ≡ file)
+AreBlankOr most file disk = ((image : List ℕ) → IsImage disk image → IsBlankUpTo most image ⊎ (image ≡ file)) × HasSome disk
 
 -- each image is blank and no longer than a header and a gate, or has this header and no record
 abbrev pub IsNewOrEmpty : List ℕ → Disk → Type 0
 IsNewOrEmpty header disk = (image : List ℕ) → IsImage disk image → IsBlankUpTo 65 image ⊎ Reads image header []
+
+-- each image is this file, or blank
+abbrev pub AreSameOrBlank : List ℕ → Disk → Type 0
+AreSameOrBlank file disk = ((image : List ℕ) → IsImage disk image → (image ≡ file) ⊎ (is_blank image ≡ true)) × HasSome disk

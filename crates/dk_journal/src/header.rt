@@ -27,7 +27,7 @@ pub struct Header {
 
 /// The header of a live file behind its gate, 63 bytes.
 pub fn header_fields_of(alloc: Global, header: &Header) -> Result<Blob, NoMemory>
-    ensures { IfOk result (λ bytes. (bytes ≡ header_fields (store_header header.now)) × (length bytes ≡ 63)) }
+    ensures { IfOk result (λ bytes. (bytes ≡ header_fields (store_header header.now)) × (length bytes ≡ 63) × IsGameId header.now.game) }
 {
     let game = header.game.as_slice();
     let mut bytes = Vec::new(alloc);

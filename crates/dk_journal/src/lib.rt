@@ -12,7 +12,7 @@ pub use making::create;
 pub use opening::open;
 pub use refused::JournalRefused;
 pub use scan::Scan;
-pub use writing::write_anew;
+pub use writing::{close, write_anew};
 
 pub mod header;
 pub mod journal;

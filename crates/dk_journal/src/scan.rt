@@ -4,6 +4,7 @@ ghost use Rattle.dk_types.specs.Faults.{HasRisen};
 ghost use Rattle.dk_disk.specs.Opening.{IsOpen};
 ghost use Rattle.dk_disk.specs.Past.{now, Stays};
 ghost use Rattle.dk_types.specs.Fields.{u32_spelling};
+ghost use Rattle.dk_model.specs.Entries.{IsFormat};
 ghost use Rattle.dk_model.specs.Stores.{Reads};
 ghost use Rattle.dk_journal.specs.Moments.{Looks};
 ghost use Rattle.dk_journal.specs.Scanning.{IsScanned, IsCutOff};
@@ -25,6 +26,7 @@ pub struct Scan {
     end: u64,
     epoch: u64,
     format: u16,
+    ghost known: { (1 ≤ format) × (format ≤ 2) },
     ghost first: { 64 ≤ at },
     ghost inside: { at < end },
 }
@@ -113,7 +115,8 @@ fn bytes_at<M: Home>(mut bytes: Vec<u8>, home: &mut M, side: Side, at: u64) -> R
 impl Scan {
     // At the first gate of a file of this length, behind a header of this epoch and format.
     pub(crate) fn first(side: Side, end: u64, epoch: u64, format: u16) -> Scan
-        requires { 64 < end }
+        requires behind { 64 < end }
+        requires known { (1 ≤ format) × (format ≤ 2) }
         ensures place { (result.at ≡ 64) × (result.end ≡ end) }
         ensures header { (result.side ≡ side) × (result.epoch ≡ epoch) × (result.format ≡ format) }
     {
@@ -138,6 +141,14 @@ impl Scan {
         ensures { result ≡ self.now.side }
     {
         self.side
+    }
+
+    /// The format of the payloads, one that is read.
+    pub fn format(&self) -> u16
+        ensures value { result ≡ self.now.format }
+        ensures known { IsFormat result }
+    {
+        self.format
     }
 
     /// The next payload, or `None` at the gate that ends the journal. It is called while the file is as it was at

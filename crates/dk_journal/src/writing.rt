@@ -1,12 +1,14 @@
 //! The calls that change a file, each run of them ended by a sync.
-ghost use Rattle.std.specs.Prelude.{◌≡◌, ◌+◌, ◌<◌, ◌≤◌, ◌^◌, ℕ, List, [], ◌∷◌, ◌++◌, length, take, OnOk, OnErr, IsTrue};
+ghost use Rattle.std.specs.Prelude.{◌≡◌, ◌+◌, ◌<◌, ◌≤◌, ◌^◌, ℕ, List, [], ◌∷◌, ◌++◌, true, false, length, take, slice_index, IfOk, OnOk, OnErr, IsTrue};
 ghost use Rattle.dk_types.specs.Faults.{HasRisen};
 ghost use Rattle.dk_disk.specs.Disk.{settled, overwritten, after_write};
 ghost use Rattle.dk_disk.specs.Opening.{IsOpen};
 ghost use Rattle.dk_disk.specs.Past.{now};
-ghost use Rattle.dk_journal.specs.Moments.{Runs, IsFrontSafe, HasOrNot, NeverFalls, IsWriting, IsClearing, AreBlankOr};
+ghost use Rattle.dk_journal.specs.Moments.{Runs, Looks, IsFrontSafe, HasOrNot, NeverFalls, IsWriting, IsClearing, AreBlankOr, AreSameOrBlank};
+ghost use Rattle.dk_model.specs.Stores.{is_blank};
 ghost use Rattle.dk_journal.specs.Standing.{Stands, IsAtRest, IsReady, behind_gate};
 
+use crate::scan::byte_at;
 use dk_disk::Home;
 use dk_types::{Failed, Side};
 
@@ -97,6 +99,39 @@ fn put<M: Home>(home: &mut M, side: Side, at: u64, bytes: &[u8]) -> Result<(), F
     home.write_at(side, at, bytes)?;
     home.sync(side)?;
     Ok(())
+}
+
+// Whether a file's first byte is an open gate.
+fn is_open<M: Home>(home: &mut M, side: Side) -> Result<bool, Failed>
+    requires { IsOpen (M.opening home.old) }
+    ensures shut { IsTrue M.tells → IfOk result (λ open_gate. open_gate ≡ false → is_blank (now (M.past home.old) side).reads ≡ true) }
+    ensures open_gate { IsTrue M.tells → IfOk result (λ open_gate. open_gate ≡ true → (0 < length (now (M.past home.old) side).reads) × (slice_index (now (M.past home.old) side).reads 0 ≡ 1)) }
+    ensures looks { IsTrue M.tells → Looks (M.past home.old) (M.past home.new) }
+    ensures opening { M.opening home.new ≡ M.opening home.old }
+    ensures steady { OnOk result (M.counted home.new ≡ M.counted home.old) }
+    ensures cause { OnErr result (HasRisen (M.counted home.old) (M.counted home.new)) }
+{
+    if home.len(side)? == 0 {
+        return Ok(false);
+    }
+    let gate = byte_at(home, side, 0)?;
+    Ok(gate == 1)
+}
+
+/// Closes a file's header where its gate is open, so that the file is blank. A stop leaves the file as it was, or blank.
+pub fn close<M: Home>(home: &mut M, side: Side) -> Result<(), Failed>
+    requires is_open { IsOpen (M.opening home.old) }
+    requires settled { IsTrue M.tells → now (M.past home.old) side ≡ settled (now (M.past home.old) side).reads }
+    ensures run { IsTrue M.tells → Runs side (AreSameOrBlank (now (M.past home.old) side).reads) (M.past home.old) (M.past home.new) }
+    ensures done { IsTrue M.tells → OnOk result (IsReady side (M.past home.new)) }
+    ensures opening { M.opening home.new ≡ M.opening home.old }
+    ensures steady { OnOk result (M.counted home.new ≡ M.counted home.old) }
+    ensures cause { OnErr result (HasRisen (M.counted home.old) (M.counted home.new)) }
+{
+    if !is_open(home, side)? {
+        return Ok(());
+    }
+    put(home, side, 0, &[0])
 }
 
 /// Makes a blank file anew: an open gate with these bytes behind it. The gate is opened once they are on the disk, so

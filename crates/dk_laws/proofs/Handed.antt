@@ -28,6 +28,7 @@ use Rattle.dk_model.specs.Histories.{Leads}
 use Rattle.dk_model.specs.Successors.{after_connect, after_post, after_claim, after_commit, after_event}
 use Rattle.dk_model.specs.Openings.{opening, counting, with_sessions, ended_connection}
 use Rattle.dk_model.specs.Messages.{same_conn, appended, appended_at, appended_by, messages, handed_by, handed}
+use Rattle.dk_model.proofs.Walks.{appended_more}
 use Rattle.dk_laws.proofs.NumberedMaps.{equal, unequal, one_conn, conn-insert, get-change, get-without_done}
 use Rattle.dk_laws.proofs.OneWorld.{event_leads}
 use Rattle.dk_laws.proofs.Numbers.{AreBelow, opening_below, happens_below}
@@ -99,7 +100,7 @@ box-with_outs (o ∷ outs) all conn =
     box-with_outs outs next conn
     ∙ ap (λ xs. xs ++ appended conn outs next) (box-with_out o all conn)
     ∙ append_assoc (box all conn) (if b then o.1 ∷ [] else []) (appended conn outs next)
-    ∙ ap (λ xs. box all conn ++ xs) (appended-one b o.1 (appended conn outs next))
+    ∙ ap (λ xs. box all conn ++ xs) (appended-one b o.1 (appended conn outs next) ∙ sym (appended_more conn o outs all))
 
 box-with_closed : (conns : List ConnNo) (all : Connections) (conn : ConnNo) → box (with_closed conns all) conn ≡ box all conn
 box-with_closed [] all conn = refl

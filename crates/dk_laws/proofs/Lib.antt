@@ -21,3 +21,6 @@ pub mod Lawfuls
 pub mod LaterOn
 pub mod Between
 pub mod Answered
+pub mod Runnable
+pub mod StaleReads
+pub mod Claimable

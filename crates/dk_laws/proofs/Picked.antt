@@ -35,7 +35,7 @@ pub mapped_has : {A B : Type 0} (P : B → Type 0) (f : A → B) (o : Option A) 
 mapped_has P f None h y e = absurd cc
 mapped_has P f (Some x) h y e = subst P (some_is (f x) y e) (h x refl)
 
-or_else_has : {A : Type 0} (P : A → Type 0) (a b : Option A) → If P a → If P b → If P (or_else a b)
+pub or_else_has : {A : Type 0} (P : A → Type 0) (a b : Option A) → If P a → If P b → If P (or_else a b)
 or_else_has P None b p q y e = q y e
 or_else_has P (Some x) b p q y e = p y e
 

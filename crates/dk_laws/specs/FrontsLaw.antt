@@ -1,6 +1,6 @@
 -- What a pass knows of the one history still holds as that history goes on.
 use Rattle.std.specs.Prelude.{◌≡◌, ◌≢◌, ℕ, ◌+◌, ◌<◌, true, Some, List, ◌++◌}
-use Rattle.std.specs.List.{AllByRecursion, list_any}
+use Rattle.std.specs.List.{list_any}
 use Rattle.std.specs.FinMap.{get}
 use mathlib.Core.List.{IsPrefix}
 use Rattle.dk_types.specs.declared.number.RunNo.{RunNo}
@@ -16,6 +16,7 @@ use Rattle.dk_model.specs.Lawful.{AreLawful}
 use Rattle.dk_model.specs.Legal.{Opened, opening_of, world_after, IsLegal, IsFront, commits_of}
 use Rattle.dk_model.specs.Messages.{messages, handed}
 use Rattle.dk_model.specs.Sights.{grants, seen, IsHonestRead}
+pub use Rattle.dk_model.specs.Retries.{StandAt}
 use Rattle.dk_model.specs.Successors.{after_events}
 
 -- what a legal history begins with is legal
@@ -46,10 +47,6 @@ pub record IsReadAlike (rules : Meaning) (w : World) (before after : List Event)
 -- what is read changes at commits alone
 abbrev pub CommitsAloneChange : Type 0
 CommitsAloneChange = (rules : Meaning) (w : World) (before more : List Event) → AreLawful rules → commits_of more ≡ 0 → IsReadAlike rules w before (before ++ more)
-
--- each read sees what it saw
-abbrev pub StandAt : Meaning → World → List Event → List (Item × Read) → Type 0
-StandAt rules w events reads = AllByRecursion (λ r. r.1.seen ≡ seen rules w events r.0) reads
 
 -- a run that was found valid is valid still where no commit came, and its commit has the same number
 abbrev pub ValidRunsStayValid : Type 0

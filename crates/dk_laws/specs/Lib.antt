@@ -4,3 +4,5 @@ pub mod MessagesLaw
 pub mod HistoryLaws
 pub mod SightsLaw
 pub mod FrontsLaw
+pub mod RetriesLaw
+pub mod ClaimsLaw

@@ -4,6 +4,7 @@
 //! The layers above cite the lemmas that stand in `proofs/`. Nothing here runs.
 #![tactic(auto)]
 
+pub use claims::{claims_are_answered, claims_are_granted, nothing_is_picked, something_is_picked};
 pub use effects::effects_lead_there;
 pub use fronts::{
     changes_tell_of_commits, claims_stand_on, commits_alone_change, commits_are_counted,
@@ -18,11 +19,17 @@ pub use messages::{
     the_displaced_are_closed,
 };
 pub use operations::{calls_are_lawful, modes_are_put_back, operations_are_lawful};
+pub use retries::{
+    none_is_stale_where_all_stand, reads_stand_or_one_is_stale, stale_reads_tell_of_commits,
+    the_first_stale_read_is_one,
+};
 pub use sights::sights_tell;
 
+mod claims;
 mod effects;
 mod fronts;
 mod histories;
 mod messages;
 mod operations;
+mod retries;
 mod sights;

@@ -13,4 +13,6 @@ pub mod PlatformActs
 pub mod Works
 pub mod StepLaws
 pub mod StepValid
+pub mod Tails
 pub mod OnceTasks
+pub mod Walks

@@ -1,5 +1,5 @@
 -- What a commit does to the connections: the job's input leaves its queue, messages wait in outboxes, and connections end.
-use Rattle.std.specs.Prelude.{◌&&◌, ◌||◌, ◌==◌, not, Bool, true, false, Option, Some, None, List, [], ◌∷◌, ◌++◌, length, drop, nat_le, if◌then◌else◌}
+use Rattle.std.specs.Prelude.{◌&&◌, ◌||◌, ◌==◌, not, Bool, true, false, Option, Some, None, List, [], ◌∷◌, ◌++◌, length, drop, map, filter, nat_le, if◌then◌else◌}
 use Rattle.std.specs.List.{list_any}
 use Rattle.std.specs.FinMap.{FinMap, get, insert, retain_keys}
 use Rattle.dk_types.specs.declared.number.ConnNo.{ConnNo}
@@ -67,9 +67,26 @@ with_out message c =
     else if is_full c then cut_off c
     else record c { outbox = c.outbox ++ message ∷ [] }
 
+-- whether a message that comes next is appended
+abbrev pub takes : Option Connection → Bool
+takes None = false
+takes (Some c) = not (c.cut || c.over || is_full c)
+
+-- what becomes of messages: the connections behind the last of them, and those of them that were appended, in order
+pub record Sent : Type 0 where
+  pub connections : Connections
+  pub appended : List (ConnNo × Out)
+
+-- THE WALK over the messages of a commit, one after another
+abbrev pub sent : List (ConnNo × Out) → Connections → Sent
+sent [] all = record { connections = all; appended = [] }
+sent (o ∷ outs) all =
+    let later = sent outs (change_connection o.0 (with_out o.1) all) in
+    record { connections = later.connections; appended = if takes (get all o.0) then o ∷ later.appended else later.appended }
+
+-- the connections with the messages in their outboxes
 abbrev pub with_outs : List (ConnNo × Out) → Connections → Connections
-with_outs [] all = all
-with_outs (o ∷ outs) all = with_outs outs (change_connection o.0 (with_out o.1) all)
+with_outs outs all = (sent outs all).connections
 
 abbrev pub is_close : Out → Bool
 is_close out.Close = true
@@ -78,16 +95,9 @@ is_close out.Refused = false
 is_close (out.Message body) = false
 is_close (out.Channel channel body) = false
 
-abbrev pub takes : Option Connection → Bool
-takes None = false
-takes (Some c) = not (c.cut || c.over || is_full c)
-
 -- the connections to which a Close was appended
 abbrev pub closed_by : List (ConnNo × Out) → Connections → List ConnNo
-closed_by [] all = []
-closed_by (o ∷ outs) all =
-    let later = closed_by outs (change_connection o.0 (with_out o.1) all) in
-    if is_close o.1 && takes (get all o.0) then o.0 ∷ later else later
+closed_by outs all = map (λ o. o.0) (filter (λ o. is_close o.1) (sent outs all).appended)
 
 -- nothing more comes from a connection that was closed, and nothing more is sent to it
 abbrev pub close_off : Connection → Connection

@@ -36,9 +36,14 @@ swept w = record w { connections = without_done w.connections }
 abbrev pub with_connection : World → List ℕ → World
 with_connection w name = record w { next = w.next + 1; connections = insert w.connections (record { 0 = w.next }) (new_connection name w.next) }
 
+-- the world after a Connect that was answered so
+abbrev pub after_connect : World → List ℕ → ConnectReply → World
+after_connect w name (connected.Number conn) = swept (with_connection w name)
+after_connect w name (connected.Exhausted next) = w
+
 abbrev pub Connects : World → List ℕ → ConnectReply → World → Type 0
-Connects w name (connected.Exhausted next) after = (NUMBERS_END ≤ w.next) × (next ≡ w.next) × (after ≡ w)
-Connects w name (connected.Number conn) after = (w.next < NUMBERS_END) × (conn ≡ record { 0 = w.next }) × (after ≡ swept (with_connection w name))
+Connects w name (connected.Exhausted next) after = (NUMBERS_END ≤ w.next) × (next ≡ w.next) × (after ≡ after_connect w name (connected.Exhausted next))
+Connects w name (connected.Number conn) after = (w.next < NUMBERS_END) × (conn ≡ record { 0 = w.next }) × (after ≡ after_connect w name (connected.Number conn))
 
 abbrev pub is_open_at : Option Connection → Bool
 is_open_at None = false
@@ -67,10 +72,16 @@ with_input w conn input = record w { connections = change_connection conn (put_l
 abbrev pub has_no_place : World → ConnNo → Input → Bool
 has_no_place w conn input = nat_le INPUTS_MOST_COUNT (waiting w conn) && not (is_disconnect (waits.Input input))
 
+-- the world after a Post that was answered so
+abbrev pub after_post : World → ConnNo → Input → PostReply → World
+after_post w conn input posted.Taken = swept (with_input w conn input)
+after_post w conn input posted.Closed = w
+after_post w conn input (posted.QueueFull waiting) = w
+
 abbrev pub Posts : World → ConnNo → Input → PostReply → World → Type 0
-Posts w conn input posted.Closed after = (is_open w conn ≡ false) × (after ≡ w)
-Posts w conn input (posted.QueueFull n) after = (is_open w conn ≡ true) × (has_no_place w conn input ≡ true) × (n ≡ waiting w conn) × (after ≡ w)
-Posts w conn input posted.Taken after = (is_open w conn ≡ true) × (has_no_place w conn input ≡ false) × (after ≡ swept (with_input w conn input))
+Posts w conn input posted.Closed after = (is_open w conn ≡ false) × (after ≡ after_post w conn input posted.Closed)
+Posts w conn input (posted.QueueFull n) after = (is_open w conn ≡ true) × (has_no_place w conn input ≡ true) × (n ≡ waiting w conn) × (after ≡ after_post w conn input (posted.QueueFull n))
+Posts w conn input posted.Taken after = (is_open w conn ≡ true) × (has_no_place w conn input ≡ false) × (after ≡ after_post w conn input posted.Taken)
 
 abbrev pub has_left : Option Budget → Bool
 has_left None = true
@@ -102,13 +113,20 @@ with_claim w pass job = record w {
   connections = for_conn (conn_of job) (λ c. record c { turn = w.next }) w.connections;
 }
 
+-- the world after a Claim that was answered so
+abbrev pub after_claim : World → ℕ → ClaimReply → World
+after_claim w pass (claimed.Granted run at job) = swept (with_claim w pass job)
+after_claim w pass claimed.Nothing = w
+after_claim w pass (claimed.Spent granted) = w
+after_claim w pass (claimed.Exhausted next) = w
+
 -- where nothing is runnable; where the budget is spent; where numbers are; else the job that is picked
 abbrev pub Claims : World → ℕ → ClaimReply → World → Type 0
-Claims w pass claimed.Nothing after = (runnable w ≡ []) × (after ≡ w)
-Claims w pass (claimed.Spent granted) after = (runnable w ≢ []) × (has_left w.budget ≡ false) × (granted ≡ granted_of w.budget) × (after ≡ w)
-Claims w pass (claimed.Exhausted next) after = (runnable w ≢ []) × (has_left w.budget ≡ true) × (NUMBERS_END ≤ w.next) × (next ≡ w.next) × (after ≡ w)
+Claims w pass claimed.Nothing after = (runnable w ≡ []) × (after ≡ after_claim w pass claimed.Nothing)
+Claims w pass (claimed.Spent granted) after = (runnable w ≢ []) × (has_left w.budget ≡ false) × (granted ≡ granted_of w.budget) × (after ≡ after_claim w pass (claimed.Spent granted))
+Claims w pass (claimed.Exhausted next) after = (runnable w ≢ []) × (has_left w.budget ≡ true) × (NUMBERS_END ≤ w.next) × (next ≡ w.next) × (after ≡ after_claim w pass (claimed.Exhausted next))
 Claims w pass (claimed.Granted run at job) after =
-    (pick w ≡ Some job) × (has_left w.budget ≡ true) × (w.next < NUMBERS_END) × (run ≡ record { 0 = w.next }) × (at ≡ w.moment) × (after ≡ swept (with_claim w pass job))
+    (pick w ≡ Some job) × (has_left w.budget ≡ true) × (w.next < NUMBERS_END) × (run ≡ record { 0 = w.next }) × (at ≡ w.moment) × (after ≡ after_claim w pass (claimed.Granted run at job))
 
 -- the claim is gone, and its job can be run again where it still waits
 abbrev pub without_claim : World → RunNo → World
@@ -142,15 +160,28 @@ ticked w moment = record w { moment = max w.moment (min moment MOMENT_MOST_MS) }
 abbrev pub step_of : Meaning → World → RunNo → Claim → Stepped
 step_of rules w run claim = step rules claim.job run claim.at w.durable
 
+-- the worlds after the other four; a Commit does its claim's step
+abbrev pub after_release : World → RunNo → World
+after_release w run = swept (without_claim w run)
+
+abbrev pub after_step : Meaning → World → RunNo → Claim → World
+after_step rules w run claim = swept (committed w run claim.job (step_of rules w run claim))
+
+abbrev pub after_hand : World → ConnNo → ℕ → World
+after_hand w conn most = swept (with_handed w conn most)
+
+abbrev pub after_tick : World → ℕ → World
+after_tick w moment = swept (ticked w moment)
+
 -- the event may happen in the world, and leads to the other
 abbrev pub Happens : Meaning → World → Event → World → Type 0
 Happens rules w (event.Connect pass name reply) after = Connects w name reply after
 Happens rules w (event.Post pass conn input reply) after = Posts w conn input reply after
 Happens rules w (event.Claim pass reply) after = Claims w pass reply after
-Happens rules w (event.Release pass run) after = (claim : Claim) × (get w.claims run ≡ Some claim) × (pass ≡ claim.pass) × (after ≡ swept (without_claim w run))
+Happens rules w (event.Release pass run) after = (claim : Claim) × (get w.claims run ≡ Some claim) × (pass ≡ claim.pass) × (after ≡ after_release w run)
 Happens rules w (event.Commit pass run seq outcome) after =
     (claim : Claim) × (get w.claims run ≡ Some claim) × (pass ≡ claim.pass) × (seq ≡ w.durable.commits + 1)
-    × (outcome ≡ (step_of rules w run claim).outcome) × (after ≡ swept (committed w run claim.job (step_of rules w run claim)))
+    × (outcome ≡ (step_of rules w run claim).outcome) × (after ≡ after_step rules w run claim)
 Happens rules w (event.Hand pass conn most outs end) after =
-    (outs ≡ take most (outbox w conn)) × (end ≡ is_none (get after.connections conn)) × (after ≡ swept (with_handed w conn most))
-Happens rules w (event.Tick pass moment) after = after ≡ swept (ticked w moment)
+    (outs ≡ take most (outbox w conn)) × (end ≡ is_none (get after.connections conn)) × (after ≡ after_hand w conn most)
+Happens rules w (event.Tick pass moment) after = after ≡ after_tick w moment

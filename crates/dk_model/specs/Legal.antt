@@ -1,8 +1,9 @@
 -- Legal histories from an opening, and what a pass has seen of one.
-use Rattle.std.specs.Prelude.{◌≡◌, ◌≢◌, ℕ, Bool, true, false, Option, List, ◌++◌, count_by}
+use Rattle.std.specs.Prelude.{◌≡◌, ◌≢◌, ℕ, ◌<◌, ◌≤◌, Bool, true, false, Option, List, ◌++◌, count_by}
 use Rattle.std.specs.List.{AllByRecursion}
 use Rattle.dk_types.specs.declared.event.Event.{Event}
 use Rattle.dk_types.specs.declared.event.Event.TheVariants as event
+use Rattle.dk_types.specs.declared.limits.TheConstants.{PASSES_MOST_COUNT}
 use Rattle.dk_model.specs.DurableWorlds.{DurableWorld}
 use Rattle.dk_model.specs.Validity.{IsValid}
 use Rattle.dk_model.specs.Worlds.{World}
@@ -21,6 +22,10 @@ pass_of (event.Release pass run) = pass
 pass_of (event.Commit pass run seq outcome) = pass
 pass_of (event.Hand pass conn most outs end) = pass
 pass_of (event.Tick pass moment) = pass
+
+-- how many passes a host may have
+abbrev pub IsPassCount : ℕ → Type 0
+IsPassCount count = (0 < count) × (count ≤ PASSES_MOST_COUNT)
 
 abbrev pub is_commit : Event → Bool
 is_commit (event.Commit pass run seq outcome) = true

@@ -19,6 +19,7 @@ pub mod Openings
 pub mod Legal
 pub mod Messages
 pub mod Sights
+pub mod Retries
 pub mod Finishes
 pub mod Scripts
 pub mod Lines
@@ -30,3 +31,4 @@ pub mod Entries
 pub mod Images
 pub mod Stores
 pub mod Recovered
+pub mod Tails

@@ -1,5 +1,5 @@
 -- What a history sent to a connection, and what it handed to it.
-use Rattle.std.specs.Prelude.{◌&&◌, Bool, Option, Some, None, List, [], ◌∷◌, ◌++◌, nat_eq, if◌then◌else◌}
+use Rattle.std.specs.Prelude.{Bool, Option, Some, None, List, [], ◌∷◌, ◌++◌, map, filter, nat_eq, if◌then◌else◌}
 use Rattle.std.specs.FinMap.{get}
 use Rattle.dk_types.specs.declared.number.ConnNo.{ConnNo}
 use Rattle.dk_types.specs.declared.number.RunNo.{RunNo}
@@ -7,19 +7,16 @@ use Rattle.dk_types.specs.declared.job.Out.{Out}
 use Rattle.dk_types.specs.declared.event.Event.{Event}
 use Rattle.dk_types.specs.declared.event.Event.TheVariants as event
 use Rattle.dk_model.specs.Worlds.{World, Claim}
-use Rattle.dk_model.specs.Deliveries.{Connections, change_connection, with_out, takes, conn_of, for_conn, input_left}
+use Rattle.dk_model.specs.Deliveries.{Connections, sent, conn_of, for_conn, input_left}
 use Rattle.dk_model.specs.Events.{Meaning, step_of}
 use Rattle.dk_model.specs.Successors.{after_event}
 
 abbrev pub same_conn : ConnNo → ConnNo → Bool
 same_conn a b = nat_eq a.0 b.0
 
--- which of the messages are appended to this connection's outbox
+-- those of the messages that are appended to this connection's outbox, in order
 abbrev pub appended : ConnNo → List (ConnNo × Out) → Connections → List Out
-appended conn [] all = []
-appended conn (o ∷ outs) all =
-    let later = appended conn outs (change_connection o.0 (with_out o.1) all) in
-    if same_conn o.0 conn && takes (get all o.0) then o.1 ∷ later else later
+appended conn outs all = map (λ o. o.1) (filter (λ o. same_conn o.0 conn) (sent outs all).appended)
 
 abbrev pub appended_at : Meaning → World → ConnNo → RunNo → Option Claim → List Out
 appended_at rules w conn run None = []

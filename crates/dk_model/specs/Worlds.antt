@@ -1,12 +1,12 @@
 -- The world: the durable world, and all that a stop loses.
 use Rattle.std.specs.Prelude.{ℕ, Bool, false, Option, List, [], ◌∷◌}
-use Rattle.std.specs.FinMap.{FinMap, empty}
+use Rattle.std.specs.FinMap.{FinMap}
 use Rattle.dk_types.specs.declared.job.Job.{Job}
 use Rattle.dk_types.specs.declared.job.Out.{Out}
 use Rattle.dk_model.specs.declared.waiting.Waiting.{Waiting}
 use Rattle.dk_model.specs.declared.waiting.Waiting.TheVariants.{Login}
 use Rattle.dk_model.specs.Keys.{run_cmp, conn_cmp}
-use Rattle.dk_model.specs.DurableWorlds.{DurableWorld, empty_world}
+use Rattle.dk_model.specs.DurableWorlds.{DurableWorld}
 
 -- a client's connection: its login name, what waits to be run, what waits to be handed, its turn, and the marks of its end
 pub record Connection : Type 0 where
@@ -39,18 +39,6 @@ pub record World : Type 0 where
   pub after_task : Bool
   pub claims : FinMap run_cmp Claim
   pub connections : FinMap conn_cmp Connection
-
--- a world that nothing has happened to, with no session of an earlier one
-abbrev pub fresh_world : Option Budget → World
-fresh_world budget = record {
-  durable = empty_world;
-  moment = 0;
-  next = 0;
-  budget = budget;
-  after_task = false;
-  claims = empty;
-  connections = empty;
-}
 
 -- a connection as Connect makes it: its login waits
 abbrev pub new_connection : List ℕ → ℕ → Connection

@@ -1,10 +1,14 @@
 -- A fit world stays fit where only its connections change, and leave no more.
-use Rattle.std.proofs.Common.{◌≡◌, ℕ, ◌+◌, ◌≤◌, Some, None, List, length, drop, Contains, refl, sym, subst, ◌∙◌, length-drop, take_all, arith}
-use Rattle.std.specs.FinMap.{get, get-empty}
+use Rattle.std.proofs.Common.{◌≡◌, ℕ, ◌+◌, ◌≤◌, false, Some, None, List, [], length, drop, Contains, refl, sym, ap, subst, ◌∙◌, length-drop, take_all, arith}
+use Rattle.std.specs.List.{filter_map}
+use Rattle.std.specs.FinMap.{get, empty, get-empty}
 use Rattle.dk_types.specs.declared.number.ConnNo.{ConnNo}
-use Rattle.dk_types.specs.declared.limits.TheConstants.{OUTS_MOST_COUNT}
+use Rattle.dk_types.specs.declared.number.ObjectId.{ObjectId}
+use Rattle.dk_types.specs.declared.limits.TheConstants.{OUTS_MOST_COUNT, NUMBERS_END}
 use Rattle.dk_model.specs.Keys.{conn_cmp}
-use Rattle.dk_model.specs.Worlds.{World, Connection, fresh_world}
+use Rattle.dk_model.specs.DurableWorlds.{empty_world}
+use Rattle.dk_model.specs.Openings.{opening, with_sessions, first_of_each, session_at, login_of}
+use Rattle.dk_model.specs.Worlds.{World, Connection}
 use Rattle.dk_model.specs.Deliveries.{Connections, change_connection, without_done}
 use Rattle.dk_model.specs.Events.{outbox_at, ticked}
 use Rattle.dk_model.proofs.Maps.{not_both}
@@ -12,6 +16,7 @@ use Rattle.dk_progress.specs.Fitness.{left_at, IsFit}
 use Rattle.dk_progress.specs.ProgressLaws.{FreshIsFit, TicksFit, HandsTakeAll}
 use Rattle.dk_progress.proofs.Kept.{AtEach, kept_changed, kept_swept}
 use Rattle.dk_progress.proofs.Lefts.{LeavesNoMore, StaysWithin, StaysAway, lefts_steady, boxes_steady, left_none}
+use Rattle.dk_progress.proofs.Picks.{no_entries}
 use Rattle.dk_progress.proofs.Sums.{sum_no_more, contains_none}
 
 -- each connection that is there is one of these
@@ -67,23 +72,34 @@ fit_with w all conns more less within fit = record {
   numbers = omega (arith, fit.numbers, sum_no_more all w.connections less conns);
 }
 
+-- what the empty world opens to, which has no session
+abbrev bare_world : World
+bare_world = record { durable = empty_world; moment = 0; next = 0; budget = None; after_task = false; claims = empty; connections = empty }
+
+opens_bare : opening empty_world None ≡ bare_world
+unfolding opening
+opens_bare = ap (λ es. record bare_world { connections = with_sessions (first_of_each [] (filter_map (λ (e : List ℕ × ObjectId). session_at empty_world (login_of e.0) e.1) es)) empty }) (no_entries empty_world.names refl)
+
 -- no connection is there at first
-none_there : (conn : ConnNo) → get (fresh_world None).connections conn ≡ None
+none_there : (conn : ConnNo) → get bare_world.connections conn ≡ None
 none_there conn = get-empty conn_cmp conn
 
--- a world that nothing has happened to
-pub fresh_fit : FreshIsFit
-fresh_fit more few = record {
+bare_fit : (more : ℕ) → 1 + more ≤ NUMBERS_END → IsFit bare_world [] more
+bare_fit more few = record {
   unclaimed = refl;
   unlimited = refl;
   moment = omega arith;
   tasks = refl;
-  known = λ conn c there. absurd (not_both (get (fresh_world None).connections conn) c there (none_there conn));
+  known = λ conn c there. absurd (not_both (get bare_world.connections conn) c there (none_there conn));
   drawn = λ conn there. absurd (contains_none conn there);
   distinct = tt;
   boxes = λ conn. subst (λ o. length (outbox_at o) ≤ OUTS_MOST_COUNT) (sym (none_there conn)) (omega arith);
   numbers = omega (arith, few);
 }
+
+-- a world that nothing has happened to
+pub fresh_fit : FreshIsFit
+fresh_fit more few = subst (λ w. IsFit w [] more) (sym opens_bare) (bare_fit more few)
 
 -- a hand takes all that may wait
 pub hands_all : HandsTakeAll

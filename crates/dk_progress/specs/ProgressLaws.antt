@@ -12,7 +12,9 @@ use Rattle.dk_types.specs.declared.event.ConnectReply.TheVariants as connected
 use Rattle.dk_types.specs.declared.event.PostReply.{PostReply}
 use Rattle.dk_types.specs.declared.event.ClaimReply.TheVariants as claimed
 use Rattle.dk_types.specs.declared.limits.TheConstants.{NUMBERS_END, MOMENT_MOST_MS, OUTS_MOST_COUNT}
-use Rattle.dk_model.specs.Worlds.{World, fresh_world}
+use Rattle.dk_model.specs.DurableWorlds.{empty_world}
+use Rattle.dk_model.specs.Openings.{opening}
+use Rattle.dk_model.specs.Worlds.{World}
 use Rattle.dk_model.specs.Events.{Meaning, Happens, outbox}
 use Rattle.dk_model.specs.Transcripts.{IsQuiet}
 use Rattle.dk_model.specs.Lawful.{AreLawful}
@@ -20,7 +22,7 @@ use Rattle.dk_model.specs.Sendings.{IsTerse}
 use Rattle.dk_progress.specs.Fitness.{IsFit, left}
 
 abbrev pub FreshIsFit : Type 0
-FreshIsFit = (more : ℕ) → 1 + more ≤ NUMBERS_END → IsFit (fresh_world None) [] more
+FreshIsFit = (more : ℕ) → 1 + more ≤ NUMBERS_END → IsFit (opening empty_world None) [] more
 
 -- a Connect draws a number where four are left, and then its connection is one of those that the world has
 abbrev pub Connected : List ConnNo → ℕ → ConnectReply → World → Type 0

@@ -31,17 +31,18 @@ impl Form<Session> for MemberForm {
     }
 
     #[tactic(auto, unfolding(dk_model::specs::Records::next_member))]
-    fn take(
+    fn take<'a>(
         alloc: Global,
-        reader: &mut Reader<'_>,
+        mut reader: Reader<'a>,
         _: Option<&Session>,
-    ) -> Result<Session, PayloadRefused> {
+    ) -> Result<(Session, Reader<'a>), PayloadRefused> {
         let name = reader.next_name(alloc)?;
         let conn = reader.next_u64()?;
-        Ok(Session {
+        let member = Session {
             name,
             conn: ConnNo(conn),
-        })
+        };
+        Ok((member, reader))
     }
 }
 
@@ -68,19 +69,20 @@ impl Form<ChannelRecord> for ChannelForm {
     }
 
     #[tactic(auto, unfolding(dk_model::specs::Records::next_channel))]
-    fn take(
+    fn take<'a>(
         alloc: Global,
-        reader: &mut Reader<'_>,
+        mut reader: Reader<'a>,
         _: Option<&ChannelRecord>,
-    ) -> Result<ChannelRecord, PayloadRefused> {
-        let listener = next_below(reader, 2)?;
-        let delivery = next_below(reader, 4)?;
-        let members = take_list::<Session, MemberForm>(alloc, reader)?;
-        Ok(ChannelRecord {
+    ) -> Result<(ChannelRecord, Reader<'a>), PayloadRefused> {
+        let listener = next_below(&mut reader, 2)?;
+        let delivery = next_below(&mut reader, 4)?;
+        let members = take_list::<Session, MemberForm>(alloc, &mut reader)?;
+        let record = ChannelRecord {
             listener: listener == 1,
             delivery: delivery_from(delivery),
             members,
-        })
+        };
+        Ok((record, reader))
     }
 }
 
@@ -88,12 +90,13 @@ impl Form<ChannelRecord> for ChannelForm {
 fn next_below(reader: &mut Reader<'_>, end: u8) -> Result<u8, PayloadRefused>
     ensures { Gives (checked (λ b. nat_lt b end) next_u8) reader.old result reader.new }
 {
-    let at = reader.at();
-    let byte = reader.next_u8()?;
+    let mut ahead = reader.copy();
+    let byte = ahead.next_u8()?;
     if byte < end {
+        *reader = ahead;
         Ok(byte)
     } else {
-        Err(PayloadRefused::NotInGrammar { at })
+        Err(PayloadRefused::NotInGrammar { at: reader.at() })
     }
 }
 

@@ -25,12 +25,13 @@ impl Form<Name> for NameForm {
         writer.put_name(name)
     }
 
-    fn take(
+    fn take<'a>(
         alloc: Global,
-        reader: &mut Reader<'_>,
+        mut reader: Reader<'a>,
         _: Option<&Name>,
-    ) -> Result<Name, PayloadRefused> {
-        reader.next_name(alloc)
+    ) -> Result<(Name, Reader<'a>), PayloadRefused> {
+        let name = reader.next_name(alloc)?;
+        Ok((name, reader))
     }
 }
 
@@ -54,11 +55,12 @@ impl Form<ObjectId> for IdForm {
         writer.put_id(*id)
     }
 
-    fn take(
+    fn take<'a>(
         _alloc: Global,
-        reader: &mut Reader<'_>,
+        mut reader: Reader<'a>,
         _: Option<&ObjectId>,
-    ) -> Result<ObjectId, PayloadRefused> {
-        reader.next_id()
+    ) -> Result<(ObjectId, Reader<'a>), PayloadRefused> {
+        let id = reader.next_id()?;
+        Ok((id, reader))
     }
 }

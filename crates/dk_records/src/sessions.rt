@@ -30,17 +30,18 @@ impl Form<SessionRecord> for SessionForm {
     }
 
     #[tactic(auto, unfolding(dk_model::specs::Records::next_session))]
-    fn take(
+    fn take<'a>(
         alloc: Global,
-        reader: &mut Reader<'_>,
+        mut reader: Reader<'a>,
         _: Option<&SessionRecord>,
-    ) -> Result<SessionRecord, PayloadRefused> {
+    ) -> Result<(SessionRecord, Reader<'a>), PayloadRefused> {
         let conn = reader.next_u64()?;
-        let channels = take_list::<Name, NameForm>(alloc, reader)?;
-        Ok(SessionRecord {
+        let channels = take_list::<Name, NameForm>(alloc, &mut reader)?;
+        let record = SessionRecord {
             conn: ConnNo(conn),
             channels,
-        })
+        };
+        Ok((record, reader))
     }
 }
 

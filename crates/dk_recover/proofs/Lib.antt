@@ -13,3 +13,6 @@ pub mod Damages
 pub mod Faults
 pub mod Table
 pub mod OnlyRead
+pub mod Undamaged
+pub mod Recoveries
+pub mod OneAnswer

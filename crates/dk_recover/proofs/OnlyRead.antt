@@ -59,3 +59,17 @@ settled_since old first second new a b zero one synced same looks = (
     is : (s : Side) → now second s ≡ settled (now old s).reads
     is Zero = same ∙ zero
     is One = synced ∙ ap (λ (d : Disk). settled d.reads) one
+
+-- and then looked at again
+pub settles_looked : (old mid new : Past) → Settles old mid → Looks mid new → Settles old new
+settles_looked old mid new is looks = (
+  is.0,
+  record {
+    from = is.1.from;
+    to = omega (arith, is.1.to, looks.later);
+    since = λ t s from to. ⊎_elim
+        (λ after. looks.each t s (omega (arith, after)) to ∙ is.1.since mid.clock s is.1.to (omega arith))
+        (λ before. looks.kept t s before ∙ is.1.since t s from before)
+        (cases_lt mid.clock t);
+  },
+)

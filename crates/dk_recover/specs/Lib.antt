@@ -7,3 +7,4 @@ pub mod Files
 pub mod Scanned
 pub mod Stood
 pub mod Placed
+pub mod Recovery

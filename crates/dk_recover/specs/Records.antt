@@ -28,6 +28,11 @@ IsStep file header done at end (Err DiskFault) = ⊤
 IsStep file header done at end (Err (NotAStore side place)) = ⊥
 IsStep file header done at end (Err (WrongGame found)) = ⊥
 
+-- the image stands before the next gate, and this is its world; or a refusal as of a record behind none
+abbrev pub IsFirst : List ℕ → StoreHeader → ℕ → ℕ → Result DurableWorld OpenFault → Type 0
+IsFirst file header at end (Ok first) = HasMore file header [] at end first
+IsFirst file header at end (Err fault) = IsStep file header [] at end (Err fault)
+
 -- all records, with their world and the journal; or damage
 abbrev pub IsWhole : List ℕ → StoreHeader → Result (DurableWorld × Journal) OpenFault → Type 0
 IsWhole file header (Ok r) = (payloads : List (List ℕ)) × Reads file (header_spelling header) payloads × HasWorld header payloads r.0 × (r.1.length ≡ end_of (header_spelling header) payloads + 1)

@@ -5,8 +5,6 @@ use Rattle.dk_types.specs.declared.number.ConnNo.{ConnNo}
 use Rattle.dk_types.specs.declared.number.ObjectId.{ObjectId}
 use Rattle.dk_types.specs.declared.job.Session.{Session}
 use Rattle.dk_types.specs.declared.job.Out.{Out}
-use Rattle.dk_types.specs.declared.item.Item.{Item}
-use Rattle.dk_types.specs.declared.item.Read.{Read}
 use Rattle.dk_types.specs.declared.fault.AppFault.{AppFault}
 use Rattle.dk_types.specs.declared.fault.AppFault.TheVariants.{Refused}
 use Rattle.dk_model.specs.Runs as act

@@ -2,3 +2,4 @@ pub mod Managing
 pub mod Telling
 pub mod RecordReads
 pub mod Lookups
+pub mod RecordAsks

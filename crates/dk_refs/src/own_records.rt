@@ -2,8 +2,10 @@
 ghost use Rattle.std.specs.Prelude.{◌≡◌, IfErr};
 ghost use Rattle.dk_model.specs.Records.{session_name};
 ghost use Rattle.dk_model.specs.Platforms as platform;
+ghost use Rattle.dk_txn.specs.Asks.{AsksOf};
 ghost use Rattle.dk_txn.specs.Does.{Does, SameChanges};
 ghost use Rattle.dk_txn.specs.Refusals.{refusal_fault};
+ghost use Rattle.dk_refs.specs.RecordAsks.{IsOfRecord};
 ghost use Rattle.dk_refs.specs.Telling.{TellsKindOf, kind_under};
 
 use crate::recorded::recorded;
@@ -20,6 +22,7 @@ pub fn session_under<V: View>(
     name: &Name,
 ) -> Result<(ManagedRef<SessionRecord>, SessionRecord), Refusal>
     ensures does { Does V.sights refusal_fault txn.old txn.new (platform.session_under name.now) result }
+    ensures asks { AsksOf (IsOfRecord txn.old.log txn.new.log (session_name name.now)) V.sights txn.old txn.new }
     ensures same_changes { SameChanges txn.old.log txn.new.log }
     ensures kind { IfErr result (TellsKindOf txn.new.log (kind_under (session_name name.now))) }
 {
@@ -41,6 +44,7 @@ pub fn own_record<V: View>(
     session: &Session,
 ) -> Result<(ManagedRef<SessionRecord>, SessionRecord), Refusal>
     ensures does { Does V.sights refusal_fault txn.old txn.new (platform.own_record session.now) result }
+    ensures asks { AsksOf (IsOfRecord txn.old.log txn.new.log (session_name session.now.name)) V.sights txn.old txn.new }
     ensures same_changes { SameChanges txn.old.log txn.new.log }
     ensures kind { IfErr result (TellsKindOf txn.new.log (kind_under (session_name session.now.name))) }
 {
@@ -59,6 +63,7 @@ pub fn record_if_connected<V: View>(
     session: &Session,
 ) -> Result<Option<(ManagedRef<SessionRecord>, SessionRecord)>, Refusal>
     ensures does { Does V.sights refusal_fault txn.old txn.new (platform.record_if_connected session.now) result }
+    ensures asks { AsksOf (IsOfRecord txn.old.log txn.new.log (session_name session.now.name)) V.sights txn.old txn.new }
     ensures same_changes { SameChanges txn.old.log txn.new.log }
     ensures kind { IfErr result (TellsKindOf txn.new.log (kind_under (session_name session.now.name))) }
 {

@@ -1,6 +1,8 @@
 //! The platform names of sessions, and what they are bound to.
 ghost use Rattle.std.specs.Prelude.{◌≡◌, true, false, IfOk, MatchOption};
+ghost use Rattle.dk_types.specs.declared.item.Item.TheVariants as ask;
 ghost use Rattle.dk_model.specs.Records.{session_name as named, is_name_too_long};
+ghost use Rattle.dk_txn.specs.Asks.{Asks};
 ghost use Rattle.dk_txn.specs.Does.{Does, SameChanges};
 ghost use Rattle.dk_txn.specs.Refusals.{refusal_fault, TellsLength};
 ghost use Rattle.dk_refs.specs.Lookups as lookup;
@@ -41,6 +43,7 @@ pub fn recorded<V: View>(
     name: &Name,
 ) -> Result<Option<ObjectId>, Refusal>
     ensures does { Does V.sights refusal_fault txn.old txn.new (lookup.recorded name.now) result }
+    ensures asks { Asks (ask.Bound (named name.now)) V.sights txn.old txn.new }
     ensures same_changes { SameChanges txn.old.log txn.new.log }
 {
     match session_name(alloc, name)? {
@@ -56,6 +59,7 @@ pub fn is_recorded<V: View>(
     name: &Name,
 ) -> Result<bool, Refusal>
     ensures does { Does V.sights refusal_fault txn.old txn.new (lookup.is_recorded name.now) result }
+    ensures asks { Asks (ask.Bound (named name.now)) V.sights txn.old txn.new }
     ensures same_changes { SameChanges txn.old.log txn.new.log }
 {
     let id = recorded(alloc, txn, name)?;

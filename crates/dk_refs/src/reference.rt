@@ -1,7 +1,9 @@
 //! References to objects of one type.
 ghost use Rattle.std.specs.Prelude.{◌≡◌, OnErr, IfErr};
+ghost use Rattle.dk_types.specs.declared.item.Item.TheVariants as ask;
 ghost use Rattle.dk_model.specs.Runs as act;
 ghost use Rattle.dk_model.specs.References.{get_as, get_for_update_as, save_as};
+ghost use Rattle.dk_txn.specs.Asks.{Asks, AsksNothing};
 ghost use Rattle.dk_txn.specs.Does.{Does, SameChanges};
 ghost use Rattle.dk_txn.specs.Refusals.{refusal_fault, TellsLength};
 ghost use Rattle.dk_refs.specs.Telling.{TellsKind};
@@ -66,6 +68,7 @@ impl<T: Managed> ManagedRef<T> {
         value: &T,
     ) -> Result<ManagedRef<T>, Refusal>
         ensures does { Does V.sights refusal_fault txn.old txn.new (act.create T.KIND (T.bytes value.now)) result }
+        ensures asks { AsksNothing txn.old txn.new }
         ensures refused { OnErr result (SameChanges txn.old.log txn.new.log) }
         ensures length { IfErr result (TellsLength (T.bytes value.now)) }
     {
@@ -77,6 +80,7 @@ impl<T: Managed> ManagedRef<T> {
     /// The object's value (`ManagedReference.get`). Refuses 2, 3, 10.
     pub fn get<V: View>(&self, alloc: Global, txn: &mut Txn<'_, V>) -> Result<T, Refusal>
         ensures does { Does V.sights refusal_fault txn.old txn.new (get_as T.KIND T.of self.now) result }
+        ensures asks { Asks (ask.Object self.now) V.sights txn.old txn.new }
         ensures same_changes { SameChanges txn.old.log txn.new.log }
         ensures kind { IfErr result (TellsKind txn.new.log self.now) }
     {
@@ -91,6 +95,7 @@ impl<T: Managed> ManagedRef<T> {
     /// (`ManagedReference.getForUpdate`). Refuses 2, 3, 10, 6.
     pub fn get_for_update<V: View>(&self, alloc: Global, txn: &mut Txn<'_, V>) -> Result<T, Refusal>
         ensures does { Does V.sights refusal_fault txn.old txn.new (get_for_update_as T.KIND T.of self.now) result }
+        ensures asks { Asks (ask.Object self.now) V.sights txn.old txn.new }
         ensures refused { OnErr result (SameChanges txn.old.log txn.new.log) }
         ensures kind { IfErr result (TellsKind txn.new.log self.now) }
     {
@@ -103,6 +108,7 @@ impl<T: Managed> ManagedRef<T> {
     /// at. Refuses 2, 6.
     pub fn mark_for_update<V: View>(&self, txn: &mut Txn<'_, V>) -> Result<(), Refusal>
         ensures does { Does V.sights refusal_fault txn.old txn.new (act.mark self.now) result }
+        ensures asks { Asks (ask.Object self.now) V.sights txn.old txn.new }
         ensures refused { OnErr result (SameChanges txn.old.log txn.new.log) }
     {
         txn.mark(self.id)
@@ -116,6 +122,7 @@ impl<T: Managed> ManagedRef<T> {
         value: &T,
     ) -> Result<(), Refusal>
         ensures does { Does V.sights refusal_fault txn.old txn.new (save_as T.KIND self.now (T.bytes value.now)) result }
+        ensures asks { Asks (ask.Object self.now) V.sights txn.old txn.new }
         ensures refused { OnErr result (SameChanges txn.old.log txn.new.log) }
         ensures kind { IfErr result (TellsKind txn.new.log self.now) }
         ensures length { IfErr result (TellsLength (T.bytes value.now)) }
@@ -131,6 +138,7 @@ impl<T: Managed> ManagedRef<T> {
     /// Takes the object away (`DataManager.removeObject`). Its kind is not looked at. Refuses 2, 6.
     pub fn remove<V: View>(&self, txn: &mut Txn<'_, V>) -> Result<(), Refusal>
         ensures does { Does V.sights refusal_fault txn.old txn.new (act.remove self.now) result }
+        ensures asks { Asks (ask.Object self.now) V.sights txn.old txn.new }
         ensures refused { OnErr result (SameChanges txn.old.log txn.new.log) }
     {
         txn.remove(self.id)

@@ -24,7 +24,7 @@ impl Counting {
 }
 
 impl View for Counting {
-    ghost sights = { record { gave = λ view item read. Unit {0}; becomes = λ u v. Unit {0}; stays = λ v. tt; goes_on = λ u v w a b. tt; keeps = λ u v same item read h. tt } };
+    ghost sights = { record { gave = λ view item read. Unit {0}; asked = λ u item v. Unit {0}; becomes = λ u v. Unit {0}; asking = λ u v item asked. tt; stays = λ v. tt; goes_on = λ u v w a b. tt; keeps = λ u v same item read h. tt } };
 
     fn read(&mut self, item: &Item) -> Result<Read, NoMemory> {
         self.asked = self.asked.saturating_add(1);

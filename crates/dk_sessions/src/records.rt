@@ -2,8 +2,10 @@
 ghost use Rattle.std.specs.Prelude.{◌≡◌, IfErr};
 ghost use Rattle.dk_model.specs.Records.{session_name};
 ghost use Rattle.dk_model.specs.Platforms as platform;
+ghost use Rattle.dk_txn.specs.Asks.{AsksOf};
 ghost use Rattle.dk_txn.specs.Does.{Does, SameChanges};
 ghost use Rattle.dk_txn.specs.Refusals.{refusal_fault};
+ghost use Rattle.dk_refs.specs.RecordAsks.{IsOfRecord};
 ghost use Rattle.dk_refs.specs.Telling.{TellsKindOf, TellsLengthIn, kind_under};
 
 use dk_refs::own_records::session_under;
@@ -20,6 +22,7 @@ pub fn is_connected<V: View>(
     session: &Session,
 ) -> Result<bool, Refusal>
     ensures does { Does V.sights refusal_fault txn.old txn.new (platform.is_connected session.now) result }
+    ensures asks { AsksOf (IsOfRecord txn.old.log txn.new.log (session_name session.now.name)) V.sights txn.old txn.new }
     ensures same_changes { SameChanges txn.old.log txn.new.log }
     ensures kind { IfErr result (TellsKindOf txn.new.log (kind_under (session_name session.now.name))) }
 {
@@ -35,6 +38,7 @@ pub fn is_connected<V: View>(
 /// The session that is recorded under a login name. Refuses 4, 1, and then 2, 3 and 10 of the record.
 pub fn find<V: View>(alloc: Global, txn: &mut Txn<'_, V>, name: &Name) -> Result<Session, Refusal>
     ensures does { Does V.sights refusal_fault txn.old txn.new (platform.find_session name.now) result }
+    ensures asks { AsksOf (IsOfRecord txn.old.log txn.new.log (session_name name.now)) V.sights txn.old txn.new }
     ensures same_changes { SameChanges txn.old.log txn.new.log }
     ensures kind { IfErr result (TellsKindOf txn.new.log (kind_under (session_name name.now))) }
     ensures length { IfErr result (TellsLengthIn txn.new.log (session_name name.now)) }

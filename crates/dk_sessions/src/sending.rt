@@ -2,8 +2,10 @@
 ghost use Rattle.std.specs.Prelude.{◌≡◌, OnErr, IfErr};
 ghost use Rattle.dk_model.specs.Records.{session_name};
 ghost use Rattle.dk_model.specs.Platforms as platform;
+ghost use Rattle.dk_txn.specs.Asks.{AsksOf};
 ghost use Rattle.dk_txn.specs.Does.{Does, SameChanges};
 ghost use Rattle.dk_txn.specs.Refusals.{refusal_fault};
+ghost use Rattle.dk_refs.specs.RecordAsks.{IsOfRecord};
 ghost use Rattle.dk_refs.specs.Telling.{TellsKindOf, TellsLengthIn, kind_under};
 
 use crate::records::is_connected;
@@ -20,6 +22,7 @@ pub fn send<V: View>(
     body: &Blob,
 ) -> Result<(), Refusal>
     ensures does { Does V.sights refusal_fault txn.old txn.new (platform.session_send session.now body.now) result }
+    ensures asks { AsksOf (IsOfRecord txn.old.log txn.new.log (session_name session.now.name)) V.sights txn.old txn.new }
     ensures refused { OnErr result (SameChanges txn.old.log txn.new.log) }
     ensures kind { IfErr result (TellsKindOf txn.new.log (kind_under (session_name session.now.name))) }
     ensures length { IfErr result (TellsLengthIn txn.new.log body.now) }

@@ -7,6 +7,18 @@ mod files;
 #[cfg(test)]
 mod quiet_home;
 #[cfg(test)]
+mod recovery;
+#[cfg(test)]
+mod recovery_tests;
+#[cfg(test)]
+mod samples;
+#[cfg(test)]
+mod stop_tests;
+#[cfg(test)]
+mod stops;
+#[cfg(test)]
 mod tests;
+#[cfg(test)]
+mod twin;
 #[cfg(test)]
 mod vectors;

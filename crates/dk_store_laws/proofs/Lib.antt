@@ -1,3 +1,1 @@
-pub mod Seen
-pub mod Worlds
 pub mod Stopped

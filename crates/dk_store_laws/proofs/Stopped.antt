@@ -1,80 +1,21 @@
--- What a stop leaves while one of two files is written.
-use Rattle.std.proofs.Common.{◌≡◌, ◌⊎◌, ⊎_elim, inl, inr, ℕ, ◌<◌, ◌≤◌, ltb, true, false, List, [], ◌∷◌, ◌++◌, length, refl, sym, ◌∙◌, ap, subst, arith}
-use Rattle.std.proofs.lemmas.Bool.{lt-ltb, ltb-true, le-leb}
+-- What a stop leaves of an append, by the entries that it puts behind.
+use Rattle.std.proofs.Common.{◌⊎◌, ℕ, ◌≤◌, List}
 use Rattle.dk_types.specs.declared.side.Side.{Side}
-use Rattle.dk_types.specs.declared.side.Side.TheVariants.{Zero, One}
-use Rattle.dk_disk.specs.Disk.{Disk, IsImage}
-use Rattle.dk_disk.specs.Past.{Past, now, other_side, MayLeave}
-use Rattle.dk_disk.proofs.Images.{settled_only}
-use Rattle.dk_model.specs.DurableWorlds.{DurableWorld, empty_world}
-use Rattle.dk_model.specs.Stores.{StoreHeader, IsHeader, header_spelling, Reads, Blank, Live, look, NoStore, StandsOn, is_blank, standing, standing_of}
-use Rattle.dk_model.specs.Recovered.{Takes, HasWorld, Recovers, Holding, NotYet, file_on}
-use Rattle.dk_journal.specs.Moments.{Runs, HasOrNot, IsNewOrEmpty, IsBlankUpTo}
-use Rattle.dk_journal.proofs.HeaderBytes.{false_of}
-use Rattle.dk_store_laws.specs.Ranks.{IsLesser, IsOutranked, IsBlankBeside}
-use Rattle.dk_store_laws.proofs.Seen.{live}
+use Rattle.dk_disk.specs.Past.{Past, other_side, MayLeave}
+use Rattle.dk_model.specs.DurableWorlds.{DurableWorld}
+use Rattle.dk_model.specs.Stores.{StoreHeader, IsHeader, header_spelling}
+use Rattle.dk_model.specs.Recovered.{Takes, HasWorld, Recovers, Holding}
+use Rattle.dk_journal.specs.Moments.{Runs, HasOrNot, NeverFalls}
+use Rattle.dk_journal.specs.Recoveries.{HeldNeverFalls}
+use Rattle.dk_journal.specs.Ranks.{IsOutranked}
+use Rattle.dk_journal.proofs.Standings.{appended}
 use Rattle.dk_image.proofs.Worlds.{next_world}
+use Rattle.dk_checkpoint.proofs.Held.{append_held, takes_more}
 
--- the live file with the greater epoch stands, and so does one beside a blank file
-wins : (side : Side) (h : StoreHeader) (zero one : List ℕ) → look (file_on side zero one) ≡ Live h → IsLesser h (file_on (other_side side) zero one) → standing zero one ≡ StandsOn side h
-wins Zero h zero one here lesser = ⊎_elim
-    (λ (blank : look one ≡ Blank). λ i. standing_of (length zero) (here i) (blank i))
-    (λ (other : (k : StoreHeader) × (look one ≡ Live k) × (k.epoch < h.epoch)). let both : standing_of (length zero) (look zero) (look one) ≡ standing_of (length zero) (Live h) (Live other.0) = λ i. standing_of (length zero) (here i) (other.1 i) in both ∙ rw (lt-ltb other.0.epoch h.epoch other.2) refl)
-    lesser
-wins One h zero one here lesser = ⊎_elim
-    (λ (blank : look zero ≡ Blank). λ i. standing_of (length zero) (blank i) (here i))
-    (λ (other : (k : StoreHeader) × (look zero ≡ Live k) × (k.epoch < h.epoch)).
-    let both : standing_of (length zero) (look zero) (look one) ≡ standing_of (length zero) (Live other.0) (Live h) = λ i. standing_of (length zero) (other.1 i) (here i) in
-    let not_first : ltb h.epoch other.0.epoch ≡ false = false_of _ (λ less. omega (arith, other.2, ltb-true h.epoch other.0.epoch less)) in
-    both ∙ rw (not_first, lt-ltb other.0.epoch h.epoch other.2) refl)
-    lesser
-
-pub holding : (side : Side) (zero one : List ℕ) (h : StoreHeader) (payloads : List (List ℕ)) (d : DurableWorld) → IsHeader h → Reads (file_on side zero one) (header_spelling h) payloads → HasWorld h payloads d → IsLesser h (file_on (other_side side) zero one) → Recovers zero one (Holding d)
-holding side zero one h payloads d is reads world lesser =
-    (side, (h, wins side h zero one (live (file_on side zero one) h payloads is reads) lesser, record { payloads = payloads; reads = reads; world = world }))
-
-image_on : (side : Side) (past : Past) (t : ℕ) (zero one : List ℕ) → MayLeave past t zero one → IsImage (past.disks t side) (file_on side zero one)
-image_on Zero past t zero one left = left.0
-image_on One past t zero one left = left.1
-
-pub appended : (side : Side) (h : StoreHeader) (payloads : List (List ℕ)) (payload : List ℕ) (d e : DurableWorld) (old new : Past) → IsHeader h → IsOutranked h old (other_side side) → HasWorld h payloads d → Takes h.format d payload e
+pub entries_appended : (side : Side) (h : StoreHeader) (payloads : List (List ℕ)) (payload : List ℕ) (d e : DurableWorld) (old new : Past) → IsHeader h → IsOutranked h old (other_side side) → HasWorld h payloads d → Takes h.format d payload e
     → Runs side (HasOrNot (header_spelling h) payloads payload) old new → (t : ℕ) → old.clock ≤ t → t ≤ new.clock → (zero one : List ℕ) → MayLeave new t zero one → Recovers zero one (Holding d) ⊎ Recovers zero one (Holding e)
-appended side h payloads payload d e old new is rank world takes run t from to zero one left =
-    let mine = image_on side new t zero one left in
-    let others = image_on (other_side side) new t zero one left in
-    let other_is : file_on (other_side side) zero one ≡ (now old (other_side side)).reads = settled_only _ _ (subst (λ (x : Disk). IsImage x (file_on (other_side side) zero one)) (run.other t from to ∙ rank.settled) others) in
-    let lesser : IsLesser h (file_on (other_side side) zero one) = subst (IsLesser h) (sym other_is) rank.lesser in
-    ⊎_elim
-    (λ (r : Reads (file_on side zero one) (header_spelling h) payloads). inl (holding side zero one h payloads d is r world lesser))
-    (λ (r : Reads (file_on side zero one) (header_spelling h) (payloads ++ payload ∷ [])). inr (holding side zero one h (payloads ++ payload ∷ []) e is r (next_world h payloads payload d e world takes) lesser))
-    (run.each t from to (file_on side zero one) mine)
+entries_appended side h payloads payload d e old new is rank world takes = appended side h payloads payload d e old new is rank world (next_world h payloads payload d e world takes)
 
-blank_looks : (file : List ℕ) → is_blank file ≡ true → look file ≡ Blank
-blank_looks file is = rw is refl
-
--- two blank files, the first of them short
-nothing : (zero one : List ℕ) → look zero ≡ Blank → look one ≡ Blank → length zero ≤ 65 → standing zero one ≡ NoStore
-nothing zero one first second short =
-    let both : standing_of (length zero) (look zero) (look one) ≡ standing_of (length zero) Blank Blank = λ i. standing_of (length zero) (first i) (second i) in
-    both ∙ rw (le-leb (length zero) 65 short) refl
-
-not_yet : (side : Side) (zero one : List ℕ) → IsBlankUpTo 65 (file_on side zero one) → look (file_on (other_side side) zero one) ≡ Blank → (side ≡ One → length zero ≤ 65) → standing zero one ≡ NoStore
-not_yet Zero zero one mine other short = nothing zero one (blank_looks zero mine.0) other mine.1
-not_yet One zero one mine other short = nothing zero one other (blank_looks one mine.0) (short refl)
-
--- of the side that is not written, while the other is
-first_file : (side : Side) (past : Past) (zero one : List ℕ) → file_on (other_side side) zero one ≡ (now past (other_side side)).reads → length (now past Zero).reads ≤ 65 → side ≡ One → length zero ≤ 65
-first_file Zero past zero one same short is = absurd cc
-first_file One past zero one same short is = omega (arith, ap length same, short)
-
-pub created : (side : Side) (h : StoreHeader) (old new : Past) → IsHeader h → h.epoch ≡ 0 → IsBlankBeside old (other_side side) → length (now old Zero).reads ≤ 65
-    → Runs side (IsNewOrEmpty (header_spelling h)) old new → (t : ℕ) → old.clock ≤ t → t ≤ new.clock → (zero one : List ℕ) → MayLeave new t zero one → Recovers zero one NotYet ⊎ Recovers zero one (Holding empty_world)
-created side h old new is first beside short run t from to zero one left =
-    let mine = image_on side new t zero one left in
-    let others = image_on (other_side side) new t zero one left in
-    let other_is : file_on (other_side side) zero one ≡ (now old (other_side side)).reads = settled_only _ _ (subst (λ (x : Disk). IsImage x (file_on (other_side side) zero one)) (run.other t from to ∙ beside.settled) others) in
-    let blank : look (file_on (other_side side) zero one) ≡ Blank = ap look other_is ∙ beside.blank in
-    ⊎_elim
-    (λ (b : IsBlankUpTo 65 (file_on side zero one)). inl (not_yet side zero one b blank (first_file side old zero one other_is short)))
-    (λ (r : Reads (file_on side zero one) (header_spelling h) []). inr (holding side zero one h [] empty_world is r (inl (first, refl)) (inl blank)))
-    (run.each t from to (file_on side zero one) mine)
+pub entries_held : (side : Side) (h : StoreHeader) (payloads : List (List ℕ)) (payload : List ℕ) (d e : DurableWorld) (old new : Past) → IsHeader h → IsOutranked h old (other_side side) → HasWorld h payloads d → Takes h.format d payload e
+    → Runs side (HasOrNot (header_spelling h) payloads payload) old new → NeverFalls (header_spelling h) side old.clock new → HeldNeverFalls old.clock new
+entries_held side h payloads payload d e old new is rank world takes = append_held side h payloads payload d e old new is rank world (next_world h payloads payload d e world takes) (takes_more h.format d e payload takes)

@@ -4,8 +4,6 @@ use Rattle.std.specs.Result.{IsErrAnd}
 use Rattle.std.specs.List.{AllByRecursion}
 use Rattle.std.specs.FinMap as map
 use Rattle.dk_types.specs.declared.number.TaskKey.{TaskKey}
-use Rattle.dk_types.specs.declared.item.Item.{Item}
-use Rattle.dk_types.specs.declared.item.Read.{Read}
 use Rattle.dk_types.specs.declared.fault.AppFault.{AppFault}
 use Rattle.dk_types.specs.declared.mode.Mode.{Mode}
 use Rattle.dk_model.specs.DurableWorlds.{DurableWorld, Agrees}
@@ -17,6 +15,7 @@ use Rattle.dk_overlay.proofs.Tests.{Some_injective}
 use Rattle.dk_txn.specs.declared.txn.Txn.{Txn}
 use Rattle.dk_txn.specs.Does.{KeepsFor, DoesFor, LeadsFor, Keeps, Does, failure}
 use Rattle.dk_txn.specs.Sights.{Sights}
+use Rattle.dk_txn.proofs.Asking.{asks_nothing, asks_then}
 
 -- what a step that fails with a fault leads to
 stopped : {A B : Type 0} (W : DurableWorld → Type 0) (o : Option AppFault) (f : Act A) (g : A → Act B) (before after : DurableWorld → Run)
@@ -29,13 +28,14 @@ stopped W (Some fault) f g before after p s t d h = ap (λ o. carry_on o.0 g o.1
 module _ {P : TaskKey → ℕ → Type 0} {S : Type 0} {sights : Sights S} where
   -- nothing was done
   pub keeps_all : {a : Txn S Logged} → KeepsFor P sights a a
-  keeps_all {a = a} = record { same_view = refl; reads_stay = ([], sym (append-nil a.log.reads)); becomes = sights.stays a.view.now; given = λ h. h; same_run = refl; same_at = refl; sound = λ s. s; moves = λ k due p m. m }
+  keeps_all {a = a} = record { same_view = refl; reads_stay = ([], sym (append-nil a.log.reads)); becomes = sights.stays a.view.now; asks = asks_nothing (record { same_view = refl; same_reads = refl }); given = λ h. h; same_run = refl; same_at = refl; sound = λ s. s; moves = λ k due p m. m }
 
   pub keeps_then : {a b c : Txn S Logged} → KeepsFor P sights a b → KeepsFor P sights b c → KeepsFor P sights a c
   keeps_then {a = a} {b = b} {c = c} k l = record {
     same_view = l.same_view ∙ k.same_view;
     reads_stay = (k.reads_stay.0 ++ l.reads_stay.0, l.reads_stay.1 ∙ ap (λ rs. rs ++ l.reads_stay.0) k.reads_stay.1 ∙ append_assoc a.log.reads k.reads_stay.0 l.reads_stay.0);
     becomes = sights.goes_on a.view.now b.view.now c.view.now k.becomes l.becomes;
+    asks = asks_then k.asks l.asks;
     given = λ h. l.given (k.given h);
     same_run = l.same_run ∙ k.same_run;
     same_at = l.same_at ∙ k.same_at;
@@ -49,7 +49,7 @@ module _ {P : TaskKey → ℕ → Type 0} {S : Type 0} {sights : Sights S} where
 
   -- what moves no task moves none but those for which P holds
   pub keeps_for : {a b : Txn S Logged} → Keeps sights a b → KeepsFor P sights a b
-  keeps_for k = record { same_view = k.same_view; reads_stay = k.reads_stay; becomes = k.becomes; given = k.given; same_run = k.same_run; same_at = k.same_at; sound = k.sound; moves = λ key due p m. k.moves key due tt m }
+  keeps_for k = record { same_view = k.same_view; reads_stay = k.reads_stay; becomes = k.becomes; asks = k.asks; given = k.given; same_run = k.same_run; same_at = k.same_at; sound = k.sound; moves = λ key due p m. k.moves key due tt m }
 
   pub does_for : {a b : Txn S Logged} {E A : Type 0} {told : E → Option AppFault} {f : Act A} {r : Result A E} → Does sights told a b f r → DoesFor P sights told a b f r
   does_for p = record { keeps = keeps_for p.keeps; does = p.does }
@@ -150,6 +150,7 @@ module _ {P : TaskKey → ℕ → Type 0} {S : Type 0} {sights : Sights S} where
     same_view = same;
     reads_stay = ([], ap (λ (t : Logged). t.reads) e ∙ sym (append-nil a.log.reads));
     becomes = subst (sights.becomes a.view.now) (sym stays) (sights.stays a.view.now);
+    asks = asks_nothing (record { same_view = stays; same_reads = ap (λ (t : Logged). t.reads) e });
     given = λ h. record { given = subst (λ rs. AllByRecursion (λ r. sights.gave b.view.now r.0 r.1) rs) (sym (ap (λ (t : Logged). t.reads) e)) (subst (λ v. AllByRecursion (λ r. sights.gave v r.0 r.1) a.log.reads) (sym stays) h.given) };
     same_run = ap (λ (t : Logged). t.run) e;
     same_at = ap (λ (t : Logged). t.at) e;

@@ -6,6 +6,7 @@ pub mod Nets
 pub mod Owning
 pub mod RunEnds
 pub mod Counting
+pub mod Asking
 pub mod Kit
 pub mod Reading
 pub mod ObjectCalls

@@ -3,10 +3,8 @@ use Rattle.std.proofs.Common.{◌≡◌, ℕ, true, false, Option, Some, None, i
 use Rattle.std.specs.Option.{ok_or}
 use Rattle.std.specs.FinMap as map
 use Rattle.dk_types.specs.declared.number.ObjectId.{ObjectId}
-use Rattle.dk_types.specs.declared.item.Item.{Item}
 use Rattle.dk_types.specs.declared.item.Item.TheVariants as item
 use Rattle.dk_types.specs.declared.item.Answer.{Answer}
-use Rattle.dk_types.specs.declared.item.Read.{Read}
 use Rattle.dk_types.specs.declared.fault.AppFault.TheVariants.{Refused}
 use Rattle.dk_model.specs.DurableWorlds.{DurableWorld, Agrees, answer}
 use Rattle.dk_model.specs.Runs as act

@@ -6,10 +6,8 @@ use Rattle.std.specs.Cmp.{tied_itself}
 use Rattle.std.specs.FinMap as map
 use Rattle.std.specs.FinMap.{find}
 use Rattle.dk_types.specs.declared.number.ObjectId.{ObjectId}
-use Rattle.dk_types.specs.declared.item.Item.{Item}
 use Rattle.dk_types.specs.declared.item.Item.TheVariants as item
 use Rattle.dk_types.specs.declared.item.Answer.{Answer}
-use Rattle.dk_types.specs.declared.item.Read.{Read}
 use Rattle.dk_types.specs.Names.{bytes_cmp}
 use Rattle.dk_model.specs.DurableWorlds.{DurableWorld, Agrees, answer, next_name, is_above}
 use Rattle.dk_model.specs.Runs as act
@@ -32,6 +30,8 @@ use Rattle.dk_txn.specs.Does.{Keeps, Does, SameChanges, NextStanding, is_standin
 use Rattle.dk_txn.proofs.Kit.{keeps_all, keeps_then, agreed}
 use Rattle.dk_txn.proofs.Reading.{same_current}
 use Rattle.dk_txn.specs.Sights.{Sights}
+use Rattle.dk_txn.specs.Asks.{Asks, AsksOf, IsNext}
+use Rattle.dk_txn.proofs.Asking.{asks_nothing, asks_then, asks_weaker}
 
 -- how many names of entries are above one
 abbrev pub names_above : {X : Type 0} → Option (List ℕ) → List (List ℕ × X) → ℕ
@@ -92,6 +92,8 @@ pub record Passed {S : Type 0} (sights : Sights S) (a b : Txn S Logged) (after c
   pub same_changes : SameChanges a.log b.log
   pub passed : (d : DurableWorld) → Agrees d b.log.reads → (q : List ℕ) → is_standing b.log d after q ≡ true → is_above cursor q ≡ true
   pub further : (d : DurableWorld) → Agrees d b.log.reads → (q : List ℕ) → is_above cursor q ≡ true → is_above after q ≡ true
+  pub asks : AsksOf (IsNext a.log after) sights a b
+  pub next : IsNext a.log after (item.NextAfter cursor)
 
 module _ {S : Type 0} {sights : Sights S} where
   pub passed_start : {a : Txn S Logged} (after cursor : Option (List ℕ)) → cursor ≡ after → Passed sights a a after cursor
@@ -100,15 +102,19 @@ module _ {S : Type 0} {sights : Sights S} where
     same_changes = refl;
     passed = λ d agrees q h. ap (λ c. is_above c q) e ∙ pass_at (is_above after) q (map.get d.names q) (and_left _ _ h);
     further = λ d agrees q h. ap (λ c. is_above c q) (sym e) ∙ h;
+    asks = asks_nothing (record { same_view = refl; same_reads = refl });
+    next = inl (ap item.NextAfter e);
   }
 
   -- one more read changes nothing of it
-  pub passed_asked : {a b c : Txn S Logged} {after cursor : Option (List ℕ)} → Passed sights a b after cursor → Keeps sights b c → SameChanges b.log c.log → Passed sights a c after cursor
-  passed_asked {a = a} {b = b} {c = c} {after = after} p k same = record {
+  pub passed_asked : {a b c : Txn S Logged} {after cursor : Option (List ℕ)} → Passed sights a b after cursor → Keeps sights b c → SameChanges b.log c.log → Asks (item.NextAfter cursor) sights b c → Passed sights a c after cursor
+  passed_asked {a = a} {b = b} {c = c} {after = after} p k same asks = record {
     keeps = keeps_then p.keeps k;
     same_changes = same ∙ ap (λ (t : Logged). record t { reads = c.log.reads }) p.same_changes;
     passed = λ d agrees q h. p.passed d (agreed k d agrees) q (ap (λ (t : Logged). is_standing t d after q) (sym same) ∙ h);
     further = λ d agrees. p.further d (agreed k d agrees);
+    asks = asks_then p.asks (asks_weaker (λ q is. subst (IsNext a.log after) (sym is) p.next) asks);
+    next = p.next;
   }
 
   module _ {a c : Txn S Logged} {after cursor : Option (List ℕ)} (p : Passed sights a c after cursor) (said : Answer)
@@ -150,6 +156,8 @@ module _ {S : Type 0} {sights : Sights S} where
       further = λ d agrees q h.
           let l : Least bytes_cmp (λ q. passes (is_above cursor) (λ _. true) q (map.get d.names q)) (Some n) = next_is d cursor said (Some n) (tells d agrees) e in
           p.further d agrees q (above_mono cursor n q (pass_at (is_above cursor) n (map.get d.names n) l.0) h);
+      asks = p.asks;
+      next = inr (n, refl, ap (λ (t : Logged). is_some (map.get t.names n)) (sym p.same_changes) ∙ changed);
     }
 
 changed : {X : Type 0} (at : List ℕ → Bool) (q : List ℕ) (now : Option X) (o : Option X) → ((passes at (λ _. true) q o && false) || (at q && is_some now)) ≡ passes at (λ _. true) q now

@@ -22,23 +22,22 @@ use Rattle.dk_txn.specs.declared.txn.Txn.{Txn}
 use Rattle.dk_txn.specs.Refusals.{refusal_fault}
 use Rattle.dk_txn.specs.Does.{KeepsFor, Keeps, SameChanges, failure, outcome_told}
 use Rattle.dk_txn.specs.Sights.{Sights}
+use Rattle.dk_txn.specs.Asks.{AsksAny}
+use Rattle.dk_txn.proofs.Asking.{All-weaker, asks_changed}
 
 All-push : {X : Type 0} (P : X → Type 0) (xs : List X) (x : X) → AllByRecursion P xs → P x → AllByRecursion P (xs ++ x ∷ [])
 All-push P [] x h p = (p, tt)
 All-push P (y ∷ xs) x h p = (h.0, All-push P xs x h.1 p)
 
-All-weaker : {X : Type 0} (P Q : X → Type 0) (xs : List X) → ((x : X) → P x → Q x) → AllByRecursion P xs → AllByRecursion Q xs
-All-weaker P Q [] f h = tt
-All-weaker P Q (x ∷ xs) f h = (f x h.0, All-weaker P Q xs f h.1)
-
 module _ {S : Type 0} {sights : Sights S} {a b : Txn S Logged} where
   -- after a read
   pub keeps_read : (item : Item) (read : Read) → b.view.ghost_name ≡ a.view.ghost_name → sights.gave b.view.now item read
-      → sights.becomes a.view.now b.view.now → b.log ≡ reading a.log item read → Keeps sights a b
-  keeps_read item read same gives becomes e = record {
+      → sights.becomes a.view.now b.view.now → AsksAny sights a b → b.log ≡ reading a.log item read → Keeps sights a b
+  keeps_read item read same gives becomes asks e = record {
     same_view = same;
     reads_stay = ((item, read) ∷ [], ap (λ (t : Logged). t.reads) e);
     becomes = becomes;
+    asks = asks;
     given = λ h. record {
       given = subst (λ (t : Logged). AllByRecursion (λ r. sights.gave b.view.now r.0 r.1) t.reads) (sym e)
           (All-push (λ r. sights.gave b.view.now r.0 r.1) a.log.reads (item, read) (All-weaker (λ r. sights.gave a.view.now r.0 r.1) (λ r. sights.gave b.view.now r.0 r.1) a.log.reads (λ r. sights.keeps _ _ becomes r.0 r.1) h.given) gives);
@@ -50,11 +49,12 @@ module _ {S : Type 0} {sights : Sights S} {a b : Txn S Logged} where
   }
 
   -- after a read that was refused
-  pub keeps_unread : b.view.ghost_name ≡ a.view.ghost_name → sights.becomes a.view.now b.view.now → b.log ≡ a.log → Keeps sights a b
-  keeps_unread same becomes e = record {
+  pub keeps_unread : b.view.ghost_name ≡ a.view.ghost_name → sights.becomes a.view.now b.view.now → AsksAny sights a b → b.log ≡ a.log → Keeps sights a b
+  keeps_unread same becomes asks e = record {
     same_view = same;
     reads_stay = ([], ap (λ (t : Logged). t.reads) e ∙ sym (append-nil a.log.reads));
     becomes = becomes;
+    asks = asks;
     given = λ h. record {
       given = subst (λ (t : Logged). AllByRecursion (λ r. sights.gave b.view.now r.0 r.1) t.reads) (sym e)
           (All-weaker (λ r. sights.gave a.view.now r.0 r.1) (λ r. sights.gave b.view.now r.0 r.1) a.log.reads (λ r. sights.keeps _ _ becomes r.0 r.1) h.given);
@@ -84,6 +84,7 @@ keeps_changed {sights = sights} {b = b} k t reads run at sound moves = record {
   same_view = k.same_view;
   reads_stay = (k.reads_stay.0, reads ∙ k.reads_stay.1);
   becomes = k.becomes;
+  asks = asks_changed t k.asks reads;
   given = λ h. record { given = subst (λ rs. AllByRecursion (λ r. sights.gave b.view.now r.0 r.1) rs) (sym reads) (k.given h).given };
   same_run = run ∙ k.same_run;
   same_at = at ∙ k.same_at;

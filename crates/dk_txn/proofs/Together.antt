@@ -1,5 +1,5 @@
 -- What two changes that are made together do.
-use Rattle.std.proofs.Common.{◌≡◌, ℕ, ◌+◌, ◌<◌, ◌≤◌, Bool, true, false, cond, if◌then◌else◌, Option, Some, None, is_some, List, ◌++◌, Result, Ok, Err, refl, sym, ap, subst, ◌∙◌, is_eq}
+use Rattle.std.proofs.Common.{◌≡◌, ℕ, ◌+◌, ◌<◌, true, false, cond, Option, Some, None, is_some, List, ◌++◌, Result, Ok, Err, refl, sym, ap, subst, ◌∙◌, is_eq}
 use Rattle.std.specs.declared.cmp.Ordering.TheVariants.{Less, Equal, Greater}
 use Rattle.std.specs.List.{AllByRecursion}
 use Rattle.std.specs.Result.{IsErrAnd}
@@ -8,11 +8,8 @@ use Rattle.std.specs.FinMap.{get-insert}
 use Rattle.dk_types.specs.declared.number.ConnNo.{ConnNo}
 use Rattle.dk_types.specs.declared.number.ObjectId.{ObjectId}
 use Rattle.dk_types.specs.declared.object.Object.{Object}
-use Rattle.dk_types.specs.declared.item.Item.{Item}
-use Rattle.dk_types.specs.declared.item.Read.{Read}
 use Rattle.dk_types.specs.declared.job.Out.{Out}
 use Rattle.dk_types.specs.declared.fault.AppFault.{AppFault}
-use Rattle.dk_types.specs.declared.mode.Mode.{Mode}
 use Rattle.dk_types.specs.declared.mode.Mode.TheVariants.{Platform}
 use Rattle.dk_types.specs.Keys.{id_cmp}
 use Rattle.dk_model.specs.DurableWorlds.{DurableWorld, Agrees}
@@ -32,12 +29,13 @@ use Rattle.dk_txn.specs.declared.refusal.Refusal.{Refusal}
 use Rattle.dk_txn.specs.declared.refusal.Refusal.TheVariants as refusal
 use Rattle.dk_txn.specs.declared.txn.Txn.{Txn}
 use Rattle.dk_txn.specs.Refusals.{refusal_fault}
-use Rattle.dk_txn.specs.Does.{Keeps, Does, SameChanges, KnownObject, KnownName, CanChange, RefusesChange, Stands, failure}
+use Rattle.dk_txn.specs.Does.{Keeps, Does, SameChanges, KnownName, CanChange, RefusesChange, Stands, failure}
 use Rattle.dk_txn.specs.Sights.{Sights}
+use Rattle.dk_txn.proofs.Asking.{asks_changed}
 use Rattle.dk_txn.proofs.Layers.{get-layered}
 use Rattle.dk_txn.proofs.Sound.{sound_object, sound_name, sound_as}
 use Rattle.dk_txn.proofs.Kit.{keeps_all, keeps_then, agreed}
-use Rattle.dk_txn.proofs.Reading.{same_current, keeps_changed}
+use Rattle.dk_txn.proofs.Reading.{same_current}
 use Rattle.dk_txn.proofs.ObjectCalls.{done_at, current_changed, le_false, forgotten}
 use Rattle.dk_txn.proofs.NameCalls.{current_named, there_found}
 
@@ -137,6 +135,7 @@ keeps_so {sights = sights} {b = b} k t reads run at tasks sound = record {
   same_view = k.same_view;
   reads_stay = (k.reads_stay.0, reads ∙ k.reads_stay.1);
   becomes = k.becomes;
+  asks = asks_changed t k.asks reads;
   given = λ h. record { given = subst (λ rs. AllByRecursion (λ r. sights.gave b.view.now r.0 r.1) rs) (sym reads) (k.given h).given };
   same_run = run ∙ k.same_run;
   same_at = at ∙ k.same_at;

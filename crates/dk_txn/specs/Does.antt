@@ -23,6 +23,7 @@ use Rattle.dk_txn.specs.declared.txn.Txn.{Txn}
 use Rattle.dk_txn.specs.declared.refusal.Refusal.{Refusal}
 use Rattle.dk_txn.specs.Refusals.{refusal_fault}
 use Rattle.dk_txn.specs.Sights.{Sights}
+use Rattle.dk_txn.specs.Asks.{AsksAny}
 
 -- only reads were added
 abbrev pub SameChanges : Logged → Logged → Type 0
@@ -32,12 +33,13 @@ SameChanges a b = b ≡ record a { reads = b.reads }
 pub record AllGiven {S : Type 0} (sights : Sights S) (t : Txn S Logged) : Type 0 where
   pub given : AllByRecursion (λ r. sights.gave t.view.now r.0 r.1) t.log.reads
 
--- what a call keeps, however it ends: the view is the same, or what it becomes, and reads were only added, each of them given by the view; the
--- changes know what was there before, and no task was moved but those for which P holds, of its key and its due moment
+-- what a call keeps, however it ends: the view is the same, or what it becomes as it is asked, for no item that was read by then; reads were only
+-- added, each of them given by the view; the changes know what was there before, and no task was moved but those for which P holds, of its key and its due moment
 pub record KeepsFor (P : TaskKey → ℕ → Type 0) {S : Type 0} (sights : Sights S) (a b : Txn S Logged) : Type 0 where
   pub same_view : b.view.ghost_name ≡ a.view.ghost_name
   pub reads_stay : (more : List (Item × Read)) × (b.log.reads ≡ a.log.reads ++ more)
   pub becomes : sights.becomes a.view.now b.view.now
+  pub asks : AsksAny sights a b
   pub given : AllGiven sights a → AllGiven sights b
   pub same_run : b.log.run ≡ a.log.run
   pub same_at : b.log.at ≡ a.log.at

@@ -1,4 +1,5 @@
 pub mod Sights
+pub mod Asks
 pub mod Layers
 pub mod Current
 pub mod Knowing

@@ -1,6 +1,7 @@
 //! The calls on names.
 ghost use Rattle.std.specs.Prelude.{◌≡◌, OnErr, IfOk};
 ghost use Rattle.std.specs.Option.{option_copied};
+ghost use Rattle.dk_types.specs.declared.item.Item.TheVariants as ask;
 ghost use Rattle.dk_types.specs.Names.{bytes_cmp};
 ghost use Rattle.dk_model.specs.DurableWorlds.{is_above as above};
 ghost use Rattle.dk_model.specs.Runs as act;
@@ -46,11 +47,13 @@ fn copy_after(after: Option<&Name>) -> Result<Option<Name>, NoMemory>
 }
 
 impl<'a, V: View> Txn<'a, V> {
+    ghost use Rattle.dk_txn.specs.Asks.{Asks, AsksOf, IsNext};
     ghost use Rattle.dk_txn.specs.Does.{Keeps, Does, SameChanges, KnownName, NextStanding};
 
     /// What a name was bound to before the run, and what it is bound to now.
     pub(crate) fn known_name(&mut self, name: &Name) -> Result<Change<ObjectId>, NoMemory>
         ensures keeps { Keeps V.sights self.old self.new }
+        ensures asks { Asks (ask.Bound name.now) V.sights self.old self.new }
         ensures same_changes { SameChanges self.old.log self.new.log }
         ensures known { IfOk result (KnownName self.new.log name.now) }
     {
@@ -71,6 +74,7 @@ impl<'a, V: View> Txn<'a, V> {
     /// The object that the name is bound to (`DataManager.getBinding`). Refuses 1.
     pub fn bound(&mut self, name: &Name) -> Result<ObjectId, Refusal>
         ensures does { Does V.sights refusal_fault self.old self.new (act.bound name.now) result }
+        ensures asks { Asks (ask.Bound name.now) V.sights self.old self.new }
         ensures refused { OnErr result (SameChanges self.old.log self.new.log) }
     {
         let known = self.known_name(name)?;
@@ -80,6 +84,7 @@ impl<'a, V: View> Txn<'a, V> {
     /// What the name is bound to, where it is bound: `bound` for a caller to whom both are right. Refuses 7 alone.
     pub fn binding(&mut self, name: &Name) -> Result<Option<ObjectId>, Refusal>
         ensures does { Does V.sights refusal_fault self.old self.new (bindings.binding name.now) result }
+        ensures asks { Asks (ask.Bound name.now) V.sights self.old self.new }
         ensures same_changes { SameChanges self.old.log self.new.log }
     {
         let known = self.known_name(name)?;
@@ -90,6 +95,7 @@ impl<'a, V: View> Txn<'a, V> {
     /// Refuses 6.
     pub fn bind(&mut self, name: &Name, id: ObjectId) -> Result<(), Refusal>
         ensures does { Does V.sights refusal_fault self.old self.new (act.bind name.now id) result }
+        ensures asks { Asks (ask.Bound name.now) V.sights self.old self.new }
         ensures refused { OnErr result (SameChanges self.old.log self.new.log) }
     {
         if is_reserved_name(self.log.mode(), name) {
@@ -107,6 +113,7 @@ impl<'a, V: View> Txn<'a, V> {
     /// Takes the name's binding away (`DataManager.removeBinding`). Refuses 6, 1.
     pub fn unbind(&mut self, name: &Name) -> Result<(), Refusal>
         ensures does { Does V.sights refusal_fault self.old self.new (act.unbind name.now) result }
+        ensures asks { Asks (ask.Bound name.now) V.sights self.old self.new }
         ensures refused { OnErr result (SameChanges self.old.log self.new.log) }
     {
         if is_reserved_name(self.log.mode(), name) {
@@ -127,6 +134,7 @@ impl<'a, V: View> Txn<'a, V> {
     /// The least name above the given one that was bound before the run and that the run has not touched.
     fn next_standing(&mut self, after: Option<&Name>) -> Result<Option<Name>, NoMemory>
         ensures keeps { Keeps V.sights self.old self.new }
+        ensures asks { AsksOf (IsNext self.old.log (option_copied after.entry)) V.sights self.old self.new }
         ensures same_changes { SameChanges self.old.log self.new.log }
         ensures next { IfOk result (NextStanding self.new.log (option_copied after.entry)) }
     {
@@ -151,6 +159,7 @@ impl<'a, V: View> Txn<'a, V> {
     /// shown. Refuses 7 alone.
     pub fn next_bound(&mut self, after: Option<&Name>) -> Result<Option<Name>, Refusal>
         ensures does { Does V.sights refusal_fault self.old self.new (act.next_bound (option_copied after.entry)) result }
+        ensures asks { AsksOf (IsNext self.old.log (option_copied after.entry)) V.sights self.old self.new }
         ensures refused { OnErr result (SameChanges self.old.log self.new.log) }
     {
         let standing = self.next_standing(after)?;

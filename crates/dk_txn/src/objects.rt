@@ -1,5 +1,6 @@
 //! The calls on objects.
 ghost use Rattle.std.specs.Prelude.{◌≡◌, ℕ, List, OnErr, IfOk, IfErr};
+ghost use Rattle.dk_types.specs.declared.item.Item.TheVariants as ask;
 ghost use Rattle.dk_model.specs.Runs as act;
 ghost use Rattle.dk_txn.specs.Refusals.{refusal_fault, TellsLength};
 
@@ -12,11 +13,13 @@ use dk_overlay::{Change, copy_value, says_object};
 use dk_types::{Blob, Item, NoMemory, Object, ObjectId};
 
 impl<'a, V: View> Txn<'a, V> {
+    ghost use Rattle.dk_txn.specs.Asks.{Asks, AsksNothing};
     ghost use Rattle.dk_txn.specs.Does.{Keeps, Does, SameChanges, KnownObject, CanChange, RefusesChange};
 
     /// What an object was before the run, and what it is now.
     fn known_object(&mut self, id: ObjectId) -> Result<Change<Object>, NoMemory>
         ensures keeps { Keeps V.sights self.old self.new }
+        ensures asks { Asks (ask.Object id) V.sights self.old self.new }
         ensures same_changes { SameChanges self.old.log self.new.log }
         ensures known { IfOk result (KnownObject self.new.log id) }
     {
@@ -33,6 +36,7 @@ impl<'a, V: View> Txn<'a, V> {
     /// The same of an object that stands and that may be touched.
     pub(crate) fn changeable(&mut self, id: ObjectId) -> Result<Change<Object>, Refusal>
         ensures keeps { Keeps V.sights self.old self.new }
+        ensures asks { Asks (ask.Object id) V.sights self.old self.new }
         ensures same_changes { SameChanges self.old.log self.new.log }
         ensures ok { IfOk result (CanChange self.new.log id) }
         ensures err { IfErr result (RefusesChange self.new.log id) }
@@ -52,6 +56,7 @@ impl<'a, V: View> Txn<'a, V> {
     /// The object (`DataManager.getBinding` and `ManagedReference.get` read by it). Refuses 2.
     pub fn get(&mut self, id: ObjectId) -> Result<Object, Refusal>
         ensures does { Does V.sights refusal_fault self.old self.new (act.get id) result }
+        ensures asks { Asks (ask.Object id) V.sights self.old self.new }
         ensures same_changes { SameChanges self.old.log self.new.log }
         ensures length { (bytes : List ℕ) → IfErr result (TellsLength bytes) }
     {
@@ -63,6 +68,7 @@ impl<'a, V: View> Txn<'a, V> {
     /// run made. Refuses 6, 4, 8.
     pub fn create(&mut self, kind: u16, bytes: Blob) -> Result<ObjectId, Refusal>
         ensures does { Does V.sights refusal_fault self.old self.new (act.create kind bytes) result }
+        ensures asks { AsksNothing self.old self.new }
         ensures refused { OnErr result (SameChanges self.old.log self.new.log) }
         ensures length { IfErr result (TellsLength bytes) }
     {
@@ -81,6 +87,7 @@ impl<'a, V: View> Txn<'a, V> {
     /// Gives an object these bytes, under its old kind. Refuses 4, 2, 6.
     pub fn save(&mut self, id: ObjectId, bytes: Blob) -> Result<(), Refusal>
         ensures does { Does V.sights refusal_fault self.old self.new (act.save id bytes) result }
+        ensures asks { Asks (ask.Object id) V.sights self.old self.new }
         ensures refused { OnErr result (SameChanges self.old.log self.new.log) }
         ensures length { IfErr result (TellsLength bytes) }
     {
@@ -103,6 +110,7 @@ impl<'a, V: View> Txn<'a, V> {
     /// Writes an object as it is, so that it gets a new stamp (`DataManager.markForUpdate`). Refuses 2, 6.
     pub fn mark(&mut self, id: ObjectId) -> Result<(), Refusal>
         ensures does { Does V.sights refusal_fault self.old self.new (act.mark id) result }
+        ensures asks { Asks (ask.Object id) V.sights self.old self.new }
         ensures refused { OnErr result (SameChanges self.old.log self.new.log) }
     {
         let known = self.changeable(id)?;
@@ -113,6 +121,7 @@ impl<'a, V: View> Txn<'a, V> {
     /// Takes an object away (`DataManager.removeObject`). Refuses 2, 6.
     pub fn remove(&mut self, id: ObjectId) -> Result<(), Refusal>
         ensures does { Does V.sights refusal_fault self.old self.new (act.remove id) result }
+        ensures asks { Asks (ask.Object id) V.sights self.old self.new }
         ensures refused { OnErr result (SameChanges self.old.log self.new.log) }
     {
         let known = self.changeable(id)?;

@@ -1,5 +1,6 @@
 //! Two changes of the platform's records as one: both are made, or neither.
 ghost use Rattle.std.specs.Prelude.{◌≡◌, false, OnErr, IfErr};
+ghost use Rattle.dk_types.specs.declared.item.Item.TheVariants as ask;
 ghost use Rattle.dk_types.specs.declared.mode.Mode.TheVariants as mode;
 ghost use Rattle.dk_model.specs.Runs as act;
 ghost use Rattle.dk_txn.specs.Pairs.{with_bytes};
@@ -33,12 +34,14 @@ fn rewritten(known: Change<Object>, bytes: Blob) -> Change<Object>
 }
 
 impl<'a, V: View> Txn<'a, V> {
+    ghost use Rattle.dk_txn.specs.Asks.{Asks, AsksOf, EitherOf};
     ghost use Rattle.dk_txn.specs.Does.{Does, SameChanges, Stands};
 
     /// A new object, and the name bound to it. Refuses 4, 8.
     pub fn create_bound(&mut self, name: &Name, kind: u16, bytes: Blob) -> Result<(), Refusal>
         requires { self.old.log.mode ≡ mode.Platform }
         ensures does { Does V.sights refusal_fault self.old self.new (act.and_then (act.create kind bytes) (λ id. act.bind name.now id)) result }
+        ensures asks { Asks (ask.Bound name.now) V.sights self.old self.new }
         ensures refused { OnErr result (SameChanges self.old.log self.new.log) }
         ensures length { IfErr result (TellsLength bytes) }
     {
@@ -59,6 +62,7 @@ impl<'a, V: View> Txn<'a, V> {
         requires platform { self.old.log.mode ≡ mode.Platform }
         requires stands { Stands self.old.log id }
         ensures does { Does V.sights refusal_fault self.old self.new (act.and_then (act.unbind name.now) (λ _. act.remove id)) result }
+        ensures asks { AsksOf (EitherOf (ask.Bound name.now) (ask.Object id)) V.sights self.old self.new }
         ensures refused { OnErr result (SameChanges self.old.log self.new.log) }
     {
         let known = self.known_name(name)?;
@@ -90,6 +94,7 @@ impl<'a, V: View> Txn<'a, V> {
         requires short { (act.is_too_long payload ≡ false) × (act.is_too_long behind ≡ false) }
         requires stand { Stands self.old.log first × Stands self.old.log second }
         ensures does { Does V.sights refusal_fault self.old self.new (act.and_then (act.save first payload) (λ _. act.save second behind)) result }
+        ensures asks { AsksOf (EitherOf (ask.Object first) (ask.Object second)) V.sights self.old self.new }
         ensures refused { OnErr result (SameChanges self.old.log self.new.log) }
     {
         let known = self.changeable(first)?;

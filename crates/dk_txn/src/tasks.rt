@@ -20,11 +20,13 @@ use dk_overlay::{Scheduled, says_pending};
 use dk_types::{Blob, ConnNo, Item, NoMemory, Out, TaskKey};
 
 impl<'a, V: View> Txn<'a, V> {
+    ghost use Rattle.dk_txn.specs.Asks.{Asks, AsksNothing};
     ghost use Rattle.dk_txn.specs.Does.{Keeps, Does, DoesFor, Only, SameChanges, KnownTask};
 
     /// Whether a task is pending.
     fn is_pending(&mut self, key: TaskKey) -> Result<bool, NoMemory>
         ensures keeps { Keeps V.sights self.old self.new }
+        ensures asks { Asks (ask.Task key) V.sights self.old self.new }
         ensures same_changes { SameChanges self.old.log self.new.log }
         ensures known { IfOk result (KnownTask self.new.log key) }
         ensures asked { IfOk result (λ _. map.get self.old.log.tasks key ≡ None → IsAsked self.new.log.reads (ask.Task key)) }
@@ -48,6 +50,7 @@ impl<'a, V: View> Txn<'a, V> {
     ) -> Result<TaskKey, Refusal>
         requires { delay ≤ DELAY_MOST_MS }
         ensures does { Does V.sights refusal_fault self.old self.new (act.scheduled kind arg delay period) result }
+        ensures asks { AsksNothing self.old self.new }
         ensures refused { OnErr result (SameChanges self.old.log self.new.log) }
         ensures length { IfErr result (TellsLength arg) }
     {
@@ -67,6 +70,7 @@ impl<'a, V: View> Txn<'a, V> {
     /// A once-task that is due at the run's moment and the delay, in ms (`TaskManager.scheduleTask`). Refuses 4, 5, 8.
     pub fn schedule(&mut self, kind: u16, arg: Blob, delay: u64) -> Result<TaskKey, Refusal>
         ensures does { Does V.sights refusal_fault self.old self.new (act.schedule kind arg delay) result }
+        ensures asks { AsksNothing self.old self.new }
         ensures refused { OnErr result (SameChanges self.old.log self.new.log) }
         ensures length { IfErr result (TellsLength arg) }
     {
@@ -89,6 +93,7 @@ impl<'a, V: View> Txn<'a, V> {
         period: u64,
     ) -> Result<TaskKey, Refusal>
         ensures does { Does V.sights refusal_fault self.old self.new (act.schedule_periodic kind arg delay period) result }
+        ensures asks { AsksNothing self.old self.new }
         ensures refused { OnErr result (SameChanges self.old.log self.new.log) }
         ensures length { IfErr result (TellsLength arg) }
     {
@@ -104,6 +109,7 @@ impl<'a, V: View> Txn<'a, V> {
     /// Takes a pending task away (`PeriodicTaskHandle.cancel`). Refuses 2.
     pub fn cancel(&mut self, key: TaskKey) -> Result<(), Refusal>
         ensures does { Does V.sights refusal_fault self.old self.new (act.cancel key) result }
+        ensures asks { Asks (ask.Task key) V.sights self.old self.new }
         ensures refused { OnErr result (SameChanges self.old.log self.new.log) }
     {
         if !self.is_pending(key)? {
@@ -116,7 +122,9 @@ impl<'a, V: View> Txn<'a, V> {
     /// A message to a connection, of which nothing else is looked at (`ClientSession.send`). Refuses 4, by its body, and 8.
     pub fn send(&mut self, to: ConnNo, out: Out) -> Result<(), Refusal>
         ensures does { Does V.sights refusal_fault self.old self.new (act.send to out) result }
+        ensures asks { AsksNothing self.old self.new }
         ensures refused { OnErr result (SameChanges self.old.log self.new.log) }
+        ensures same_mode { self.new.log.mode ≡ self.old.log.mode }
         ensures length { IfErr result (TellsLength (act.body_of out)) }
     {
         let len = body_len(&out);
@@ -136,7 +144,9 @@ impl<'a, V: View> Txn<'a, V> {
         requires short { AllByRecursion (λ m. act.is_too_long (act.body_of m.1) ≡ false) messages.items }
         requires room { nat_lt MESSAGES_MOST_COUNT (length self.old.log.outs + length messages.items) ≡ false }
         ensures does { Does V.sights refusal_fault self.old self.new (sent_all messages.items) result }
+        ensures asks { AsksNothing self.old self.new }
         ensures refused { OnErr result (SameChanges self.old.log self.new.log) }
+        ensures same_mode { self.new.log.mode ≡ self.old.log.mode }
     {
         self.log.add_outs(messages)?;
         Ok(())
@@ -156,7 +166,9 @@ impl<'a, V: View> Txn<'a, V> {
         requires due { due ≤ MOMENT_MOST_MS + DELAY_MOST_MS }
         requires period { period ≤ PERIOD_MOST_MS }
         ensures does { DoesFor (Only key due) V.sights refusal_fault self.old self.new (own_act key due period) result }
+        ensures asks { Asks (ask.Task key) V.sights self.old self.new }
         ensures refused { OnErr result (SameChanges self.old.log self.new.log) }
+        ensures same_mode { self.new.log.mode ≡ self.old.log.mode }
         ensures asked { IfOk result (λ _. map.get self.old.log.tasks key ≡ None → IsAsked self.new.log.reads (ask.Task key)) }
     {
         if !self.is_pending(key)? {

@@ -33,6 +33,7 @@ impl<V: View, L: Drop> Drop for Txn<'_, V, L> {
 }
 
 impl<'a, V: View> Txn<'a, V> {
+    ghost use Rattle.dk_txn.specs.Asks.{Asks};
     ghost use Rattle.dk_txn.specs.Does.{Keeps, SameChanges};
 
     /// The transaction of a run at its moment, in ms. Its mode is `Platform`. It takes no memory.
@@ -63,6 +64,7 @@ impl<'a, V: View> Txn<'a, V> {
     /// Asks the view for an item once, and then answers as it did.
     pub(crate) fn ask(&mut self, item: Item) -> Result<Answer, NoMemory>
         ensures keeps { Keeps V.sights self.old self.new }
+        ensures asks { Asks item V.sights self.old self.new }
         ensures same_changes { SameChanges self.old.log self.new.log }
         ensures answers { IfOk result (λ said. (d : DurableWorld) → Agrees d self.new.log.reads → answer d item ≡ said) }
         ensures asked { IfOk result (λ _. IsAsked self.new.log.reads item) }

@@ -11,8 +11,8 @@ pub trait View {
     ghost sights: { Sights Self };
 
     /// The answer to an item, and what was seen of it. It is one of those that the view may have given; and the view
-    /// is what calls make of it, so that what was one of them stays one.
+    /// is what asking for this item makes of it, so that what was one of them stays one.
     fn read(&mut self, item: &Item) -> Result<Read, NoMemory>
         ensures gives { IfOk result (λ read. sights.gave self.new item.now read) }
-        ensures becomes { sights.becomes self.old self.new };
+        ensures becomes { sights.asked self.old item.now self.new };
 }

@@ -42,6 +42,9 @@ pub const INPUTS_MOST_COUNT: u64 = 1_024;
 /// The most messages that wait at one connection.
 pub const OUTS_MOST_COUNT: u64 = 4_096;
 
+/// The most passes of a host.
+pub const PASSES_MOST_COUNT: u32 = 1_024;
+
 /// The most bytes of a journal.
 pub const JOURNAL_MOST_BYTES: u64 = 1_099_511_627_776;
 

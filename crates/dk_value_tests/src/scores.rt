@@ -39,18 +39,18 @@ impl Form<(Name, u64)> for RowForm {
     }
 
     #[tactic(auto, unfolding(crate::specs::Scores::row_at))]
-    fn take(
+    fn take<'a>(
         alloc: Global,
-        reader: &mut Reader<'_>,
+        mut reader: Reader<'a>,
         before: Option<&(Name, u64)>,
-    ) -> Result<(Name, u64), PayloadRefused> {
+    ) -> Result<((Name, u64), Reader<'a>), PayloadRefused> {
         let at = reader.at();
         let name = reader.next_name(alloc)?;
         if !is_name_behind(before, &name) {
             return Err(PayloadRefused::NotInGrammar { at });
         }
         let score = reader.next_u64()?;
-        Ok((name, score))
+        Ok(((name, score), reader))
     }
 }
 
@@ -76,18 +76,18 @@ impl Form<Scores> for ScoresForm {
     }
 
     #[tactic(auto, unfolding(crate::specs::Scores::scores_at))]
-    fn take(
+    fn take<'a>(
         alloc: Global,
-        reader: &mut Reader<'_>,
+        mut reader: Reader<'a>,
         _: Option<&Scores>,
-    ) -> Result<Scores, PayloadRefused> {
+    ) -> Result<(Scores, Reader<'a>), PayloadRefused> {
         let at = reader.at();
         let best = reader.next_u64()?;
         if best > BEST_MOST {
             return Err(PayloadRefused::NotInGrammar { at });
         }
-        let rows = take_list::<(Name, u64), RowForm>(alloc, reader)?;
-        Ok(Scores { best, rows })
+        let rows = take_list::<(Name, u64), RowForm>(alloc, &mut reader)?;
+        Ok((Scores { best, rows }, reader))
     }
 }
 

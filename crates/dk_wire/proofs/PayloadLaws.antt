@@ -16,11 +16,11 @@ told_gives {A} reading old at taken new result same is reads = rw (is, same) (by
   where
     by : (taken : Result A WireRefused) → Reads reading old taken new → Gives (λ r. placed r.at (reading r)) old (told_of old.at taken) new
     by (Ok x) reads = ap (placed old.at) reads
-    by (Err NoMemory) reads = tt
-    by (Err (Short need have)) reads = ap (placed old.at) reads.1
-    by (Err (Extra at)) reads = ap (placed old.at) reads.1
-    by (Err (BadTag at tag)) reads = ap (placed old.at) reads.1
-    by (Err TooLong) reads = ap (placed old.at) reads.1
+    by (Err NoMemory) reads = (reads.0, tt)
+    by (Err (Short need have)) reads = (reads.0, ap (placed old.at) reads.1)
+    by (Err (Extra at)) reads = (reads.0, ap (placed old.at) reads.1)
+    by (Err (BadTag at tag)) reads = (reads.0, ap (placed old.at) reads.1)
+    by (Err TooLong) reads = (reads.0, ap (placed old.at) reads.1)
 
 -- where taking took no memory, telling takes none
 pub told_memory : {A : Type 0} (at : ℕ) (taken : Result A WireRefused) (result : Result A PayloadRefused) → result ≡ told_of at taken → IfErr taken (λ e. e ≢ NoMemory) → IfErr result (λ e. e ≢ payload.NoMemory)

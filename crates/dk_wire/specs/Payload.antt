@@ -21,15 +21,15 @@ abbrev pub Misses : {Y : Type 0} → PayloadRefused → Result Y ℕ → Type 0
 Misses NoMemory read = Unit {0}
 Misses (NotInGrammar at) read = read ≡ Err at
 
--- what a call answered, seen by `view`, and where it left the reader, is what reading gives, unless memory ran out
-abbrev pub GivesBy : {X A : Type 0} → (X → A) → (Rest → Result (A × Rest) ℕ) → Rest → Result X PayloadRefused → Rest → Type 0
-GivesBy view reading old (Ok x) new = reading old ≡ Ok (view x, new)
-GivesBy view reading old (Err e) new = Misses e (reading old)
-
--- the same for a value that contracts see as it is
+-- What a call answered, and where it left the reader, is what reading gives, unless memory ran out. A refusal leaves the reader where it stood.
 abbrev pub Gives : {A : Type 0} → (Rest → Result (A × Rest) ℕ) → Rest → Result A PayloadRefused → Rest → Type 0
 Gives reading old (Ok x) new = reading old ≡ Ok (x, new)
-Gives reading old (Err e) new = Misses e (reading old)
+Gives reading old (Err e) new = (new ≡ old) × Misses e (reading old)
+
+-- The same of a call that is given a reader and hands back another behind the value, so that a refusal leaves none.
+abbrev pub GivesBack : {A : Type 0} → (Rest → Result (A × Rest) ℕ) → Rest → Result (A × Rest) PayloadRefused → Type 0
+GivesBack reading old (Ok x) = reading old ≡ Ok x
+GivesBack reading old (Err e) = Misses e (reading old)
 
 -- What a whole payload was decoded to, where reading is exact. Ok: a value that fits, and the payload is its spelling. Refused for another cause than memory: the payload spells no value that fits, and the place is that of the first fault.
 abbrev pub Decodes : {A : Type 0} → (A → Type 0) → (A → List ℕ) → (Rest → Result (A × Rest) ℕ) → List ℕ → Result A PayloadRefused → Type 0

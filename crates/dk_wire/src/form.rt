@@ -9,7 +9,7 @@ ghost use Rattle.std.specs.Option.{option_copied};
 ghost use Rattle.dk_types.specs.Rest.{Rest};
 ghost use Rattle.dk_types.specs.Exact.{IsExact};
 ghost use Rattle.dk_types.specs.Payload.{whole};
-ghost use Rattle.dk_wire.specs.Payload.{Gives, Misses, Decodes};
+ghost use Rattle.dk_wire.specs.Payload.{Gives, GivesBack, Misses, Decodes};
 ghost use Rattle.dk_types.specs.Lists.{IsList, list_spelling, items_at, list_at};
 
 use crate::payload::PayloadRefused;
@@ -34,9 +34,14 @@ pub trait Form<T> {
     fn put(writer: &mut Writer, item: &T) -> Result<(), NoMemory>
         ensures { OnOk result (writer.new ≡ writer.old ++ spelling item.now) };
 
-    /// Takes an item that stands behind `before`.
-    fn take(alloc: Global, reader: &mut Reader<'_>, before: Option<&T>) -> Result<T, PayloadRefused>
-        ensures { Gives (reading (option_copied before.entry)) reader.old result reader.new };
+    /// Takes an item that stands behind `before`, and hands back the reader behind it. After a refusal there is no
+    /// reader: who wants to go on from where it stood keeps one of its own, as `take_list` does.
+    fn take<'a>(
+        alloc: Global,
+        reader: Reader<'a>,
+        before: Option<&T>,
+    ) -> Result<(T, Reader<'a>), PayloadRefused>
+        ensures { GivesBack (reading (option_copied before.entry)) reader.entry result };
 
     // what is put is taken again, and nothing else is taken
     ghost exact: { (before : Option T) → IsExact (fits before) spelling (reading before) };
@@ -61,10 +66,9 @@ pub fn decode<T: Drop, F: Form<T>>(alloc: Global, payload: &[u8]) -> Result<T, P
 fn decode_any<T: Drop, F: Form<T>>(alloc: Global, payload: &[u8]) -> Result<T, PayloadRefused>
     ensures { MatchResult result (λ x. whole (F.reading None) payload.now ≡ Ok x) (λ e. Misses e (whole (F.reading None) payload.now)) }
 {
-    let mut reader = Reader::new(payload);
     let before: Option<T> = None;
-    let value = F::take(alloc, &mut reader, before.as_ref())?;
-    reader.next_end()?;
+    let (value, behind) = F::take(alloc, Reader::new(payload), before.as_ref())?;
+    behind.next_end()?;
     Ok(value)
 }
 
@@ -88,21 +92,25 @@ pub fn take_list<T: Drop, F: Form<T>>(
 ) -> Result<Listed<T>, PayloadRefused>
     ensures { Gives (list_at F.reading) reader.old result reader.new }
 {
-    let count = reader.next_u32()?;
-    take_items::<T, F>(alloc, reader, count)
+    let mut ahead = reader.copy();
+    let count = ahead.next_u32()?;
+    let (items, behind) = take_items::<T, F>(alloc, ahead, count)?;
+    *reader = behind;
+    Ok(items)
 }
 
-fn take_items<T: Drop, F: Form<T>>(
+fn take_items<'a, T: Drop, F: Form<T>>(
     alloc: Global,
-    reader: &mut Reader<'_>,
+    mut reader: Reader<'a>,
     count: u32,
-) -> Result<Listed<T>, PayloadRefused>
-    ensures { Gives (items_at F.reading None count) reader.old result reader.new }
+) -> Result<(Listed<T>, Reader<'a>), PayloadRefused>
+    ensures { GivesBack (items_at F.reading None count) reader.entry result }
 {
     let mut items: Vec<T> = Vec::new(alloc);
     for _ in 0..count {
-        let item = F::take(alloc, reader, items.last())?;
+        let (item, behind) = F::take(alloc, reader, items.last())?;
         items.push(item)?;
+        reader = behind;
     }
-    Ok(Listed::from_vec(items))
+    Ok((Listed::from_vec(items), reader))
 }

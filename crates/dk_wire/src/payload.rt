@@ -44,7 +44,7 @@ impl<T: Drop> From<AllocFailed<T>> for PayloadRefused {
     }
 }
 
-/// Each call is the `take` of its name, and its refusal tells where the field stands.
+/// Each call is the `take` of its name, and its refusal tells where the field stands, which is where the reader still is.
 impl<'a> Reader<'a> {
     /// The next byte.
     pub fn next_u8(&mut self) -> Result<u8, PayloadRefused>

@@ -109,8 +109,8 @@ impl<'a> Reader<'a> {
         Ok(ObjectId { run: RunNo(run), k })
     }
 
-    // Another reader that stands where this one stands.
-    fn copy(&self) -> Reader<'a>
+    /// Another reader that stands where this one stands.
+    pub fn copy(&self) -> Reader<'a>
         ensures { result ≡ self.now }
     {
         Reader {

@@ -32,14 +32,14 @@ impl Form<Room> for RoomForm {
     }
 
     #[tactic(auto, unfolding(crate::specs::Things::next_room))]
-    fn take(
+    fn take<'a>(
         alloc: Global,
-        reader: &mut Reader<'_>,
+        mut reader: Reader<'a>,
         _: Option<&Room>,
-    ) -> Result<Room, PayloadRefused> {
-        let players = take_list::<ObjectId, IdForm>(alloc, reader)?;
-        let items = take_list::<ObjectId, IdForm>(alloc, reader)?;
-        Ok(Room { players, items })
+    ) -> Result<(Room, Reader<'a>), PayloadRefused> {
+        let players = take_list::<ObjectId, IdForm>(alloc, &mut reader)?;
+        let items = take_list::<ObjectId, IdForm>(alloc, &mut reader)?;
+        Ok((Room { players, items }, reader))
     }
 }
 
@@ -63,13 +63,13 @@ impl Form<Thing> for ThingForm {
     }
 
     #[tactic(auto, unfolding(crate::specs::Things::next_thing))]
-    fn take(
+    fn take<'a>(
         alloc: Global,
-        reader: &mut Reader<'_>,
+        mut reader: Reader<'a>,
         _: Option<&Thing>,
-    ) -> Result<Thing, PayloadRefused> {
+    ) -> Result<(Thing, Reader<'a>), PayloadRefused> {
         let description = reader.next_name(alloc)?;
-        Ok(Thing { description })
+        Ok((Thing { description }, reader))
     }
 }
 
@@ -94,14 +94,14 @@ impl Form<Player> for PlayerForm {
     }
 
     #[tactic(auto, unfolding(crate::specs::Things::next_player))]
-    fn take(
+    fn take<'a>(
         alloc: Global,
-        reader: &mut Reader<'_>,
+        mut reader: Reader<'a>,
         _: Option<&Player>,
-    ) -> Result<Player, PayloadRefused> {
+    ) -> Result<(Player, Reader<'a>), PayloadRefused> {
         let name = reader.next_name(alloc)?;
-        let carried = take_carried(reader)?;
-        Ok(Player { name, carried })
+        let carried = take_carried(&mut reader)?;
+        Ok((Player { name, carried }, reader))
     }
 }
 
@@ -122,12 +122,14 @@ fn put_carried(writer: &mut Writer, carried: Option<ObjectId>) -> Result<(), NoM
 fn take_carried(reader: &mut Reader<'_>) -> Result<Option<ObjectId>, PayloadRefused>
     ensures { Gives next_carried reader.old result reader.new }
 {
-    let at = reader.at();
-    let flag = reader.next_u8()?;
+    let mut ahead = reader.copy();
+    let flag = ahead.next_u8()?;
     if flag >= 2 {
-        return Err(PayloadRefused::NotInGrammar { at });
+        return Err(PayloadRefused::NotInGrammar { at: reader.at() });
     }
-    take_item(flag, reader)
+    let item = take_item(flag, &mut ahead)?;
+    *reader = ahead;
+    Ok(item)
 }
 
 /// What follows the first byte.

@@ -2,7 +2,8 @@
 ghost use Rattle.std.specs.Prelude.{◌≡◌, ℕ, ◌+◌, ◌≤◌, [], None, IfOk};
 ghost use Rattle.dk_types.specs.declared.limits.TheConstants.{NUMBERS_END};
 ghost use Rattle.dk_model.specs.Events.{Meaning};
-ghost use Rattle.dk_model.specs.Worlds.{fresh_world};
+ghost use Rattle.dk_model.specs.DurableWorlds.{empty_world};
+ghost use Rattle.dk_model.specs.Openings.{opening};
 ghost use Rattle.dk_model.specs.Transcripts.{playing};
 ghost use Rattle.darkstar.specs.Plays.{IsGoing, playing_of};
 
@@ -36,7 +37,7 @@ fn empty_durable(alloc: Global) -> Durable
 impl Play {
     /// A play of the empty world, in which nothing has happened.
     pub(crate) fn open(alloc: Global) -> Result<Play, NoMemory>
-        ensures fresh { IfOk result (λ play. playing_of play ≡ playing (fresh_world None)) }
+        ensures fresh { IfOk result (λ play. playing_of play ≡ playing (opening empty_world None)) }
         ensures going { IfOk result (λ play. (rules : Meaning) (more : ℕ) → 1 + more ≤ NUMBERS_END → IsGoing rules play more) }
         ensures untold { IfOk result (λ play. play.events.items ≡ []) }
     {

@@ -111,14 +111,13 @@ impl<'a> NotingAll<Told<'a, Hand, Result<Handed, NoMemory>>, Event> for Hand {
 }
 
 impl<W: Hosting> Step<WorldBook<W>> for Hand {
-    ghost use Rattle.dk_host.specs.Calls.{hand_events};
-    ghost use Rattle.dk_host.specs.Steps.{Adds};
+    ghost use Rattle.dk_host.specs.Steps.{Hands};
 
     type Reply = Result<Handed, NoMemory>;
 
     ghost may = { λ _ _ _. Unit {0} };
 
-    ghost gives = { λ s pass before reply added. Adds W.opened (hand_events pass s.conn s.most reply) before added };
+    ghost gives = { λ s pass before reply added. Hands W.opened pass s.conn s.most before reply added };
 
     fn apply(self, pass: u32, book: &mut WorldBook<W>) -> Result<Handed, NoMemory> {
         let reply = book.core.hand(self.conn, self.most);

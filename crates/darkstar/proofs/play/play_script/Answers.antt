@@ -2,7 +2,8 @@ use Rattle.std.proofs.Common.{◌≡◌, ◌∷◌, ◌++◌, ◌+◌, ◌*◌, 
 use Rattle.std.proofs.lemmas.List.{drop_more, take_more, take_all}
 use Rattle.dk_types.specs.declared.event.Event.{Event}
 use Rattle.dk_model.specs.declared.script.Line.{Line}
-use Rattle.dk_model.specs.Worlds.{fresh_world}
+use Rattle.dk_model.specs.DurableWorlds.{empty_world}
+use Rattle.dk_model.specs.Openings.{opening}
 use Rattle.dk_model.specs.Phases.{phases_of}
 use Rattle.dk_model.specs.Transcripts.{IsPlayed}
 use Rattle.darkstar.specs.Plays.{IsGoing, MayStandAll, PlaysLines}
@@ -77,4 +78,4 @@ returns-clause-played g c =
     let marks = c.loop-lines.marks.items in
     let to = subst (λ (ls : List (List Line)). IsPlayedTo rules ([] ∷ ls) (drop i script) p marks) (take_all i script c.loop-lines-test.false) c.loop-lines.invariant in
     let whole = whole_played rules script (drop i script) p marks c.commits-commits.result c.pending_len-tasks.result to c.commits-commits.ensures c.pending_len-tasks.ensures in
-    subst (λ (es : Vec Event Global). IsPlayed rules (fresh_world None) script (phases_of es.items marks) c.commits-commits.result c.pending_len-tasks.result) (sym c.into_events.ensures) whole
+    subst (λ (es : Vec Event Global). IsPlayed rules (opening empty_world None) script (phases_of es.items marks) c.commits-commits.result c.pending_len-tasks.result) (sym c.into_events.ensures) whole

@@ -2,7 +2,8 @@ use Rattle.std.proofs.Common.{◌≡◌, ◌∙◌, ap, None, List, ℕ, IfOk, O
 use Rattle.dk_types.specs.declared.event.Event.{Event}
 use Rattle.dk_types.specs.declared.fault.NoMemory.{NoMemory}
 use Rattle.dk_model.specs.declared.script.Line.{Line}
-use Rattle.dk_model.specs.Worlds.{fresh_world}
+use Rattle.dk_model.specs.DurableWorlds.{empty_world}
+use Rattle.dk_model.specs.Openings.{opening}
 use Rattle.dk_model.specs.Phases.{phases_of}
 use Rattle.dk_model.specs.Transcripts.{IsPlayed, transcript_text}
 use Rattle.sword_world.specs.Rules.{sword_rules}
@@ -12,12 +13,12 @@ use Rattle.darkstar.proofs.PlayOrder.{IsTranscript-IsPlayed, turns-IsPlayed}
 use Rattle.darkstar.proofs.session.transcript.Goals as goal
 
 -- the transcript of the play's events and marks, lent as slices, is that of the play
-told : (result : Result (List ℕ) NoMemory) (script : List (List Line)) (events items : List Event) (marks places : List ℕ) (commits tasks : ℕ) → events ≡ items → marks ≡ places → IsPlayed sword_rules (fresh_world None) script (phases_of items places) commits tasks → IfOk result (λ text. text ≡ transcript_text (phases_of events marks) commits tasks) → IfOk result (IsToldPlay script)
+told : (result : Result (List ℕ) NoMemory) (script : List (List Line)) (events items : List Event) (marks places : List ℕ) (commits tasks : ℕ) → events ≡ items → marks ≡ places → IsPlayed sword_rules (opening empty_world None) script (phases_of items places) commits tasks → IfOk result (λ text. text ≡ transcript_text (phases_of events marks) commits tasks) → IfOk result (IsToldPlay script)
 told (Ok text) script events items marks places commits tasks same_events same_marks played is =
     let whole = is ∙ ap (λ (es : List Event). transcript_text (phases_of es marks) commits tasks) same_events ∙ ap (λ (ms : List ℕ). transcript_text (phases_of items ms) commits tasks) same_marks in
     record {
-      transcript = IsTranscript-IsPlayed sword_rules (fresh_world None) script (phases_of items places) commits tasks text played whole;
-      turns = turns-IsPlayed sword_rules (fresh_world None) script (phases_of items places) commits tasks text played whole;
+      transcript = IsTranscript-IsPlayed sword_rules (opening empty_world None) script (phases_of items places) commits tasks text played whole;
+      turns = turns-IsPlayed sword_rules (opening empty_world None) script (phases_of items places) commits tasks text played whole;
     }
 told (Err e) script events items marks places commits tasks same_events same_marks played is = tt
 

@@ -1,3 +1,5 @@
+use Rattle.dk_refs.proofs.RecordAsks.{asks_name}
+use Rattle.dk_channels.proofs.Asking.{asks_channel}
 use Rattle.dk_channels.proofs.Lookups.{under_stops, under_none, under_halts, under_finds}
 use Rattle.dk_model.specs.Records.{channel_name}
 use Rattle.dk_refs.specs.Telling.{kind_under}
@@ -26,3 +28,15 @@ pub returns-in_err-record-in-Some-clause-kind : goal.returns-in_err-record-in-So
 returns-in_err-record-in-Some-clause-kind g c =
     record_kind _ c.args.name.now (rw c.in-Some.is at c.in_ok-recorded.ensures.does) (rw c.of-reference.ensures at c.in_err-record-in-Some.ensures.does) c.in_err-record-in-Some.ensures.same_changes
     (rw c.of-reference.ensures at c.in_err-record-in-Some.ensures.kind) c.from_residual-in_err-record-in-Some.ensures.1
+
+pub returns-in_err-recorded-clause-asks : goal.returns-in_err-recorded-clause-asks
+returns-in_err-recorded-clause-asks g c = asks_name _ c.in_err-recorded.ensures.asks
+
+pub returns-in-None-clause-asks : goal.returns-in-None-clause-asks
+returns-in-None-clause-asks g c = asks_name _ c.in_ok-recorded.ensures.asks
+
+pub returns-in_err-record-in-Some-clause-asks : goal.returns-in_err-record-in-Some-clause-asks
+returns-in_err-record-in-Some-clause-asks g c = asks_channel c.args.name.now c.in_ok-recorded.ensures.asks (rw c.in-Some.is at c.in_ok-recorded.ensures.does) c.in_err-record-in-Some.ensures.does.keeps (rw c.of-reference.ensures at c.in_err-record-in-Some.ensures.asks)
+
+pub returns-in_ok-record-in-Some-clause-asks : goal.returns-in_ok-record-in-Some-clause-asks
+returns-in_ok-record-in-Some-clause-asks g c = asks_channel c.args.name.now c.in_ok-recorded.ensures.asks (rw c.in-Some.is at c.in_ok-recorded.ensures.does) c.in_ok-record-in-Some.ensures.does.keeps (rw c.of-reference.ensures at c.in_ok-record-in-Some.ensures.asks)

@@ -1,6 +1,7 @@
 use Rattle.std.proofs.Common.{◌≡◌, true, false, sym, ◌∙◌, rules}
 use Rattle.dk_model.specs.Platforms as platform
 use Rattle.dk_txn.proofs.Kit.{then_does, stops, give_does, if_true_does, if_false_does}
+use Rattle.dk_refs.proofs.RecordAsks.{asks_no_more}
 use Rattle.dk_channels.proofs.Sendings.{refuses_long}
 use Rattle.dk_model.specs.Records.{channel_name}
 use Rattle.dk_refs.specs.Telling.{kind_under}
@@ -40,3 +41,6 @@ returns-clause-kind g c = kind_never_last (kind_under (channel_name c.args.chann
 
 pub returns-clause-length : goal.returns-clause-length
 returns-clause-length g c = length_never_last c.args.body.now (each_avoids _ _ 4 (λ e. cc)) c.send_each.ensures.does
+
+pub returns-clause-asks : goal.returns-clause-asks
+returns-clause-asks g c = asks_no_more _ c.in_ok-record.ensures.asks c.send_each.ensures.does.keeps c.send_each.ensures.asks

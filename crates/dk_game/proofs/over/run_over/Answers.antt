@@ -1,5 +1,5 @@
 use Rattle.std.proofs.Common.{rules}
-use Rattle.dk_game.proofs.Lent.{begun_so, law_so, given_back}
+use Rattle.dk_game.proofs.Lent.{begun_so, law_so, given_back, asked_back}
 use Rattle.dk_game.proofs.over.run_over.Goals as goal
 
 pub run_job-requires-clause-begun : goal.run_job-requires-clause-begun
@@ -11,3 +11,6 @@ returns-clause-law g c =
 
 pub returns-clause-given : goal.returns-clause-given
 returns-clause-given g c = given_back g.V.View.sights c.run_job.result (search rules) c.run_job.ensures.given
+
+pub returns-clause-asked : goal.returns-clause-asked
+returns-clause-asked g c = asked_back g.V.View.sights c.run_job.result (search rules) (search rules) c.run_job.ensures.asked

@@ -3,7 +3,7 @@ use Rattle.std.specs.List.{AllByRecursion}
 use Rattle.dk_txn.specs.Does.{failure, outcome_told}
 use Rattle.dk_txn.proofs.Laws.{none_given}
 use Rattle.dk_game.specs.Halted.{halt_fault}
-use Rattle.dk_game.proofs.Running.{job_kept, both_ok, one_ok}
+use Rattle.dk_game.proofs.Running.{job_kept, both_ok, one_ok, asked_once}
 use Rattle.dk_game.proofs.run.run_job.Goals as goal
 use Rattle.dk_game.proofs.run.run_job.Goals.{in-Ok, in-Err-Fault}
 
@@ -25,3 +25,6 @@ returns-clause-given g c =
 
 pub returns-clause-becomes : goal.returns-clause-becomes
 returns-clause-becomes g c = subst (g.V.View.sights.becomes c.args.txn.now.view.now) (sym c.end.ensures.view_stays) c.work_job.ensures.does.keeps.becomes
+
+pub returns-clause-asked : goal.returns-clause-asked
+returns-clause-asked g c = one_ok c.end.result c.end.ensures.reads (λ f reads. asked_once c.requires.begun c.work_job.ensures.does.keeps.asks c.end.ensures.view_stays reads)

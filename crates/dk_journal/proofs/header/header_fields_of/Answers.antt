@@ -23,4 +23,4 @@ returns c =
     ∙ joined _ _ _ _ _ _ _ _ _ _ _ _ _ _ _ _ (c.in_ok-extend_from_slice.ensures.items ∙ ap (λ (l : List ℕ). l ++ letters) c.new-bytes.ensures.items) c.in_ok-extend_from_slice-2.ensures.items c.in_ok-extend_from_slice-3.ensures.items
     c.in_ok-push.ensures.items c.in_ok-extend_from_slice-4.ensures.items c.in_ok-extend_from_slice-5.ensures.items
     f e (ap length g) g none in
-    (all, ap length all ∙ fields_length (store_header c.args.header.now) (omega (arith, c.as_slice-game.ensures.id.most, ap length g)))
+    (all, ap length all ∙ fields_length (store_header c.args.header.now) (omega (arith, c.as_slice-game.ensures.id.most, ap length g)), c.as_slice-game.ensures.id)

@@ -1,6 +1,7 @@
-use Rattle.std.proofs.Common.{◌≡◌, ◌≤◌, ◌∷◌, [], length, take, drop, ap, sym, ◌∙◌, arith}
+use Rattle.std.proofs.Common.{◌≡◌, ◌≤◌, ◌∷◌, [], ℕ, ⊎_elim, length, take, drop, ap, sym, ◌∙◌, arith}
 use Rattle.dk_disk.specs.Disk.{Disk}
 use Rattle.dk_disk.specs.Past.{now}
+use Rattle.dk_model.specs.Entries.{IsFormat}
 use Rattle.dk_model.specs.Stores.{Faulty}
 use Rattle.dk_journal.specs.Headers.{store_header}
 use Rattle.dk_journal.proofs.Lookings.{look_live, look_faulty, scanned_first, first_byte}
@@ -32,3 +33,10 @@ returns-in-Err-clause-fault g c tells at err =
     let bytes : c.read.new.into ≡ take 64 (drop 0 file) = c.in_ok-read.ensures.bytes tells ∙ ap (λ (d : Disk). take 64 (drop 0 d.reads)) (c.byte_at.ensures.files tells side) in
     let same : c.in-Err.at ≡ at = cc in
     look_faulty file _ c.in-Err.at gate long bytes c.in-Err.ensures ∙ ap Faulty same
+
+-- a format that is read
+known_format : (n : ℕ) → IsFormat n → (1 ≤ n) × (n ≤ 2)
+known_format n is = ⊎_elim (λ (one : n ≡ 1). (omega (arith, one), omega (arith, one))) (λ (two : n ≡ 2). (omega (arith, two), omega (arith, two))) is
+
+pub first-scan-requires-clause-known : goal.first-scan-requires-clause-known
+first-scan-requires-clause-known g c = known_format c.in-Ok.header.format c.in-Ok.ensures.fits.format

@@ -1,4 +1,4 @@
-use Rattle.std.proofs.Common.{◌≡◌, ℕ, Ok, Err, subst, ap, sym, ◌∙◌}
+use Rattle.std.proofs.Common.{◌≡◌, inr, ℕ, Ok, Err, subst, ap, sym, ◌∙◌}
 use Rattle.dk_disk.specs.Past.{now}
 use Rattle.dk_model.specs.Recovered.{Takes, IsDamaged}
 use Rattle.dk_model.specs.Stores.{header_spelling}
@@ -38,7 +38,7 @@ returns-clause-step g c tells header done same is world =
     fault_step file header done c.next.new.self.at c.next.new.self.end c.in-Err.refused c.side-side.result c.fault_of.result c.fault_of.ensures c.in-Err.ensures.only
     (λ place e.
     let d = c.in-Err.ensures.damaged tells place (ap Err e) in
-    subst (IsDamaged file header) (sym d.0) (cut_damages file header done c.args.scan.now.at c.args.scan.now.end c.args.world is world (subst (IsCutOff file) d.0 d.1)))
+    subst (IsDamaged file header) (sym d.0) (cut_damages file header done c.args.scan.now.at c.args.scan.now.end is (inr (c.args.world, world)) (subst (IsCutOff file) d.0 d.1)))
 
 pub returns-clause-side : goal.returns-clause-side
 returns-clause-side g c side place e =

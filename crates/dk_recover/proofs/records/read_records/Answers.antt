@@ -22,6 +22,13 @@ returns-then-is_last-clause-read g c tells header done same is world =
     let place : c.next_world.new.scan.at ≡ c.records.scan.at = ap (λ (s : Scan). s.at) (c.in_ok-next.ensures.ended c.if-is_last.true) in
     (so.0, subst (λ (f : List ℕ). Reads f (header_spelling header) so.0) file whole.0, whole.1, omega (arith, c.journal.ensures.length, place, so.1.place))
 
+pub returns-then-is_last-clause-journal : goal.returns-then-is_last-clause-journal
+returns-then-is_last-clause-journal g c =
+    let inv = c.records.invariant in
+    let same = c.in_ok-next.ensures.same in
+    let here = c.journal.ensures.header in
+    (here.0 ∙ same.0 ∙ inv.side, here.1 ∙ same.2 ∙ inv.header.0, here.2 ∙ same.3 ∙ inv.header.1)
+
 pub records-preserved : goal.records-preserved
 records-preserved g c =
     let old = g.M.Home.past c.args.home.now in
@@ -35,6 +42,7 @@ records-preserved g c =
       whole = λ tells. e.same.1 ∙ inv.whole tells ∙ sym (ap (λ (s : Side). length (now new s).reads) e.same.0 ∙ ap (λ (d : Disk). length d.reads) (looks_now here new (e.looks tells) c.records.scan.side));
       valid = e.valid;
       side = e.same.0 ∙ inv.side;
+      header = (e.same.2 ∙ inv.header.0, e.same.3 ∙ inv.header.1);
       looks = λ tells. looks_on old here new (inv.looks tells) (e.looks tells);
       counted = e.steady (λ err. cc) ∙ inv.counted;
       goes = λ tells header done same is world.

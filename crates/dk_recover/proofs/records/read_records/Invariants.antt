@@ -16,6 +16,7 @@ invariant-records g l = record {
   whole : IsTrue g.M.Home.tells → l.scan.end ≡ length (now (g.M.Home.past l.home) l.scan.side).reads;
   valid : IsValid l.world;
   side : l.scan.side ≡ l.fn.scan.side;
+  header : (l.scan.epoch ≡ l.fn.scan.epoch) × (l.scan.format ≡ l.fn.scan.format);
   looks : IsTrue g.M.Home.tells → Looks (g.M.Home.past l.fn.home) (g.M.Home.past l.home);
   counted : g.M.Home.counted l.home ≡ g.M.Home.counted l.fn.home;
   goes : IsTrue g.M.Home.tells → (header : StoreHeader) (done : List (List ℕ)) → header.format ≡ l.format → IsScanned (now (g.M.Home.past l.fn.home) l.fn.scan.side).reads (header_spelling header) done l.fn.scan.at l.fn.scan.end → HasWorld header done l.fn.world

@@ -1,3 +1,4 @@
+use Rattle.dk_refs.proofs.RecordAsks.{asks_name, asks_session}
 use Rattle.dk_refs.proofs.Lookups.{own_stops, own_none, own_halts, own_same, own_other}
 use Rattle.dk_model.specs.Records.{session_name}
 use Rattle.dk_refs.specs.Telling.{kind_under}
@@ -29,3 +30,18 @@ pub returns-in_err-found-in-Some-clause-kind : goal.returns-in_err-found-in-Some
 returns-in_err-found-in-Some-clause-kind g c =
     record_kind _ c.args.session.now.name (rw c.in-Some.is at c.in_ok-recorded.ensures.does) (rw c.of-reference.ensures at c.in_err-found-in-Some.ensures.does) c.in_err-found-in-Some.ensures.same_changes
     (rw c.of-reference.ensures at c.in_err-found-in-Some.ensures.kind) c.from_residual-in_err-found-in-Some.ensures.1
+
+pub returns-in_err-recorded-clause-asks : goal.returns-in_err-recorded-clause-asks
+returns-in_err-recorded-clause-asks g c = asks_name _ c.in_err-recorded.ensures.asks
+
+pub returns-in-None-clause-asks : goal.returns-in-None-clause-asks
+returns-in-None-clause-asks g c = asks_name _ c.in_ok-recorded.ensures.asks
+
+pub returns-in_err-found-in-Some-clause-asks : goal.returns-in_err-found-in-Some-clause-asks
+returns-in_err-found-in-Some-clause-asks g c = asks_session c.args.session.now.name (c.in_ok-recorded.ensures.asks) (rw c.in-Some.is at c.in_ok-recorded.ensures.does) c.in_err-found-in-Some.ensures.does.keeps (rw c.of-reference.ensures at c.in_err-found-in-Some.ensures.asks)
+
+pub returns-then-found-session-clause-asks : goal.returns-then-found-session-clause-asks
+returns-then-found-session-clause-asks g c = asks_session c.args.session.now.name (c.in_ok-recorded.ensures.asks) (rw c.in-Some.is at c.in_ok-recorded.ensures.does) c.in_ok-found-in-Some.ensures.does.keeps (rw c.of-reference.ensures at c.in_ok-found-in-Some.ensures.asks)
+
+pub returns-else-found-session-clause-asks : goal.returns-else-found-session-clause-asks
+returns-else-found-session-clause-asks g c = asks_session c.args.session.now.name (c.in_ok-recorded.ensures.asks) (rw c.in-Some.is at c.in_ok-recorded.ensures.does) c.in_ok-found-in-Some.ensures.does.keeps (rw c.of-reference.ensures at c.in_ok-found-in-Some.ensures.asks)

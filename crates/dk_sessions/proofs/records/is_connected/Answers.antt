@@ -1,4 +1,5 @@
 use Rattle.std.proofs.Common.{refl}
+use Rattle.dk_refs.proofs.RecordAsks.{asks_name, asks_session}
 use Rattle.dk_refs.proofs.Lookups.{connected_stops, connected_none, connected_halts, connected_tells}
 use Rattle.dk_model.specs.Records.{session_name}
 use Rattle.dk_refs.specs.Telling.{kind_under}
@@ -27,3 +28,15 @@ pub returns-in_err-found-in-Some-clause-kind : goal.returns-in_err-found-in-Some
 returns-in_err-found-in-Some-clause-kind g c =
     record_kind _ c.args.session.now.name (rw c.in-Some.is at c.in_ok-recorded.ensures.does) (rw c.of.ensures at c.in_err-found-in-Some.ensures.does) c.in_err-found-in-Some.ensures.same_changes
     (rw c.of.ensures at c.in_err-found-in-Some.ensures.kind) c.from_residual-in_err-found-in-Some.ensures.1
+
+pub returns-in_err-recorded-clause-asks : goal.returns-in_err-recorded-clause-asks
+returns-in_err-recorded-clause-asks g c = asks_name _ c.in_err-recorded.ensures.asks
+
+pub returns-in-None-clause-asks : goal.returns-in-None-clause-asks
+returns-in-None-clause-asks g c = asks_name _ c.in_ok-recorded.ensures.asks
+
+pub returns-in_err-found-in-Some-clause-asks : goal.returns-in_err-found-in-Some-clause-asks
+returns-in_err-found-in-Some-clause-asks g c = asks_session c.args.session.now.name c.in_ok-recorded.ensures.asks (rw c.in-Some.is at c.in_ok-recorded.ensures.does) c.in_err-found-in-Some.ensures.does.keeps (rw c.of.ensures at c.in_err-found-in-Some.ensures.asks)
+
+pub returns-in_ok-found-in-Some-clause-asks : goal.returns-in_ok-found-in-Some-clause-asks
+returns-in_ok-found-in-Some-clause-asks g c = asks_session c.args.session.now.name c.in_ok-recorded.ensures.asks (rw c.in-Some.is at c.in_ok-recorded.ensures.does) c.in_ok-found-in-Some.ensures.does.keeps (rw c.of.ensures at c.in_ok-found-in-Some.ensures.asks)

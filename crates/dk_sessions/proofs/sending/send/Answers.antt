@@ -1,4 +1,5 @@
 use Rattle.std.proofs.Common.{◌≡◌, true, false, rules}
+use Rattle.dk_refs.proofs.RecordAsks.{asks_no_more}
 use Rattle.dk_refs.proofs.Lookups.{send_stops, send_refused, send_does}
 use Rattle.dk_types.specs.declared.job.Out.TheVariants as out
 use Rattle.dk_model.specs.Records.{session_name}
@@ -26,3 +27,6 @@ returns-in_err-connected-clause-length g c =
 
 pub returns-clause-kind : goal.returns-clause-kind
 returns-clause-kind g c = kind_never_last (kind_under (session_name c.args.session.now.name)) (send_avoids c.args.session.now.conn (out.Message c.in_ok-copy.copy)) c.send.ensures.does
+
+pub returns-clause-asks : goal.returns-clause-asks
+returns-clause-asks g c = asks_no_more _ c.in_ok-connected.ensures.asks c.send.ensures.does.keeps c.send.ensures.asks

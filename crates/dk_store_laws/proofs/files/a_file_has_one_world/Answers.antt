@@ -1,5 +1,5 @@
 use Rattle.dk_image.proofs.Worlds.{one_world}
-use Rattle.dk_store_laws.proofs.Worlds.{one_held}
+use Rattle.dk_checkpoint.proofs.Held.{one_held}
 use Rattle.dk_store_laws.proofs.files.a_file_has_one_world.Goals as goal
 
 pub returns-clause-payloads : goal.returns-clause-payloads

@@ -1,7 +1,8 @@
-use Rattle.std.proofs.Common.{◌+◌, ap, subst, ◌∙◌}
+use Rattle.std.proofs.Common.{◌+◌, refl, ap, subst, ◌∙◌}
 use Rattle.std.proofs.lemmas.List.{append-nil}
 use Rattle.dk_core.specs.Cores.{StandsFor}
 use Rattle.dk_core.proofs.Committed.{stood_with}
+use Rattle.dk_core.proofs.Stales.{told_back}
 use Rattle.dk_core.proofs.world.Core.commit.Goals as goal
 
 pub returns-in-Ok : goal.returns-in-Ok
@@ -12,3 +13,8 @@ returns-in-Ok c =
       λ rules d budget events lawful honest s.
           c.enter.ensures.commits rules d budget events lawful honest (subst (λ es. StandsFor rules d budget es c.make_ready.new.self) (append-nil events) (c.make_ready.ensures.stays rules d budget events s)),
     )
+
+pub returns-in-Err : goal.returns-in-Err
+returns-in-Err c =
+    told_back c.args.self.now c.make_ready.new.self c.args.claimed c.args.claimed c.args.finished c.in-Err.refused refl c.make_ready.ensures.same c.requires.granted c.in-Err.ensures.ready
+    c.make_ready.ensures.stays

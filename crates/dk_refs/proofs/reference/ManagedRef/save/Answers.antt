@@ -1,4 +1,5 @@
 use Rattle.std.proofs.Common.{sym, ◌∙◌}
+use Rattle.dk_txn.proofs.Asking.{asks_then}
 use Rattle.dk_txn.specs.Refusals.{TellsLength}
 use Rattle.dk_refs.specs.Telling.{TellsKind}
 use Rattle.dk_refs.proofs.Calls.{save_stops, save_wrong, save_right, save_tells, found_kind, get_tells, passed}
@@ -30,3 +31,6 @@ returns-clause-does g c =
 
 pub returns-clause-kind : goal.returns-clause-kind
 returns-clause-kind g c = save_tells c.args.self.now _ (rw c.self.view_is at c.save.ensures.does)
+
+pub returns-clause-asks : goal.returns-clause-asks
+returns-clause-asks g c = asks_then (rw c.self.view_is at c.in_ok-before.ensures.asks) (rw c.self.view_is at c.save.ensures.asks)

@@ -1,5 +1,6 @@
-use Rattle.std.proofs.Common.{sym, ap, ◌∙◌}
+use Rattle.std.proofs.Common.{inl, inr, ap, ◌∙◌}
 use Rattle.dk_overlay.specs.Logged.{Logged}
+use Rattle.dk_txn.proofs.Asking.{asks_then, asks_weaker, asks_changed}
 use Rattle.dk_txn.proofs.Kit.{keeps_then, same_error}
 use Rattle.dk_txn.proofs.Together.{stands_later, never_refused, never_comes, starves, both_saved}
 use Rattle.dk_txn.proofs.pairs.Txn+V.save_both.Goals as goal
@@ -26,3 +27,15 @@ returns-clause-does g c =
 
 pub returns-in_err-change_two-clause-does : goal.returns-in_err-change_two-clause-does
 returns-in_err-change_two-clause-does g c = starves (keeps_then c.changeable.ensures.keeps c.changeable-2.ensures.keeps) c.in_err-change_two.ensures.err c.from_residual-in_err-change_two.ensures.1
+
+pub returns-in_err-known-clause-asks : goal.returns-in_err-known-clause-asks
+returns-in_err-known-clause-asks g c = asks_weaker (λ q is. inl is) c.changeable.ensures.asks
+
+pub returns-in_err-next-clause-asks : goal.returns-in_err-next-clause-asks
+returns-in_err-next-clause-asks g c = asks_then (asks_weaker (λ q is. inl is) c.changeable.ensures.asks) (asks_weaker (λ q is. inr is) c.changeable-2.ensures.asks)
+
+pub returns-in_err-change_two-clause-asks : goal.returns-in_err-change_two-clause-asks
+returns-in_err-change_two-clause-asks g c = asks_changed c.change_two.new.self (asks_then (asks_weaker (λ q is. inl is) c.changeable.ensures.asks) (asks_weaker (λ q is. inr is) c.changeable-2.ensures.asks)) (ap (λ (t : Logged). t.reads) c.in_err-change_two.ensures.err)
+
+pub returns-clause-asks : goal.returns-clause-asks
+returns-clause-asks g c = asks_changed c.change_two.new.self (asks_then (asks_weaker (λ q is. inl is) c.changeable.ensures.asks) (asks_weaker (λ q is. inr is) c.changeable-2.ensures.asks)) (ap (λ (t : Logged). t.reads) c.in_ok-change_two.ensures.ok)

@@ -1,6 +1,7 @@
-use Rattle.std.proofs.Common.{◌≡◌, true, false, is_some, refl, sym, ap, ◌∙◌, rules}
+use Rattle.std.proofs.Common.{◌≡◌, true, false, is_some, inl, inr, refl, ap, ◌∙◌, rules}
 use Rattle.dk_model.specs.Runs as act
 use Rattle.dk_overlay.specs.Logged.{Logged}
+use Rattle.dk_txn.proofs.Asking.{asks_then, asks_weaker, asks_changed}
 use Rattle.dk_txn.proofs.Kit.{stop_does, keeps_then, same_error}
 use Rattle.dk_txn.proofs.NameCalls.{unbind_refused}
 use Rattle.dk_txn.proofs.Together.{stands_later, never_refused, never_comes, starves, both_gone}
@@ -27,3 +28,18 @@ returns-clause-does g c =
 
 pub returns-in_err-change_named-clause-does : goal.returns-in_err-change_named-clause-does
 returns-in_err-change_named-clause-does g c = starves (keeps_then c.known_name.ensures.keeps c.changeable.ensures.keeps) c.in_err-change_named.ensures.err c.from_residual-in_err-change_named.ensures.1
+
+pub returns-in_err-known-clause-asks : goal.returns-in_err-known-clause-asks
+returns-in_err-known-clause-asks g c = asks_weaker (λ q is. inl is) c.known_name.ensures.asks
+
+pub returns-then-is_none-clause-asks : goal.returns-then-is_none-clause-asks
+returns-then-is_none-clause-asks g c = asks_weaker (λ q is. inl is) c.known_name.ensures.asks
+
+pub returns-in_err-object-clause-asks : goal.returns-in_err-object-clause-asks
+returns-in_err-object-clause-asks g c = asks_then (asks_weaker (λ q is. inl is) c.known_name.ensures.asks) (asks_weaker (λ q is. inr is) c.changeable.ensures.asks)
+
+pub returns-in_err-change_named-clause-asks : goal.returns-in_err-change_named-clause-asks
+returns-in_err-change_named-clause-asks g c = asks_changed c.change_named.new.self (asks_then (asks_weaker (λ q is. inl is) c.known_name.ensures.asks) (asks_weaker (λ q is. inr is) c.changeable.ensures.asks)) (ap (λ (t : Logged). t.reads) c.in_err-change_named.ensures.err)
+
+pub returns-clause-asks : goal.returns-clause-asks
+returns-clause-asks g c = asks_changed c.change_named.new.self (asks_then (asks_weaker (λ q is. inl is) c.known_name.ensures.asks) (asks_weaker (λ q is. inr is) c.changeable.ensures.asks)) (ap (λ (t : Logged). t.reads) c.in_ok-change_named.ensures.ok)

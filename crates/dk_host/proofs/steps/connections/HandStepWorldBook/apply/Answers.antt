@@ -17,5 +17,8 @@ returns g c =
       hand_events c.args.pass c.args.self.conn c.args.self.most c.hand-reply.result,
       (c.note_all.ensures) ∙ ap (λ es. es ++ (hand_events c.args.pass c.args.self.conn c.args.self.most c.hand-reply.result)) c.book.view_is,
       (hand_of c.args.pass c.args.self.conn c.args.self.most c.hand-reply.result).by,
-      adds o c.args.book.now c.book.inside.core c.hand-reply.new.self c.book.inside.commits.total k (hand_events c.args.pass c.args.self.conn c.args.self.most c.hand-reply.result) (hand_at o c.args.book.now c.book.inside.core c.hand-reply.new.self c.book.inside.commits.total k c.args.pass c.args.self.conn c.args.self.most c.hand-reply.result c.hand-reply.ensures.hands),
+      record {
+        adds = adds o c.args.book.now c.book.inside.core c.hand-reply.new.self c.book.inside.commits.total k (hand_events c.args.pass c.args.self.conn c.args.self.most c.hand-reply.result) (hand_at o c.args.book.now c.book.inside.core c.hand-reply.new.self c.book.inside.commits.total k c.args.pass c.args.self.conn c.args.self.most c.hand-reply.result c.hand-reply.ensures.hands);
+        short = c.hand-reply.ensures.bodies (record { rules = o.rules; opened = o.durable; budget = o.budget; events = c.args.book.now; lawful = k.0; stands = k.1 });
+      },
     )

@@ -1,0 +1,4 @@
+pub mod Replaced
+pub mod Fresh
+pub mod Held
+pub mod Given

@@ -1,0 +1,9 @@
+mod Entering
+mod PostedFrames
+mod Streams
+mod OnePiece
+mod ReadOn
+mod Connected
+mod WrittenOn
+mod Disconnecting
+mod Ended

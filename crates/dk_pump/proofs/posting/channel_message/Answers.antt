@@ -1,0 +1,5 @@
+use Rattle.std.proofs.Common.{◌<◌, All, subst}
+use Rattle.dk_pump.proofs.posting.channel_message.Goals as goal
+
+pub returns-clause-within : goal.returns-clause-within
+returns-clause-within c = (c.requires.name, record { short = c.requires.short; bytes = subst (All (λ b. b < 256)) c.as_slice.ensures c.are_bytes.ensures })

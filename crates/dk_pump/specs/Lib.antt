@@ -1,0 +1,4 @@
+pub mod Ends
+pub mod Passes
+pub mod Reading
+pub mod Writing

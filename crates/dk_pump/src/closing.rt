@@ -1,0 +1,23 @@
+//! The Disconnect that ends a session.
+ghost use Rattle.std.specs.Prelude.{◌≡◌};
+ghost use Rattle.dk_pump.specs.Passes.{Enters};
+ghost use Rattle.dk_pump.specs.Reading.{Disconnects};
+
+use dk_host::{Host, Hosting, WorldBook};
+use dk_turn::{Naming, Pass};
+use dk_types::{ConnNo, Input};
+use std::sync::Wait;
+
+/// Posts a Disconnect, which has always a place. It takes no memory.
+pub(crate) fn disconnect<W: Hosting, J: Naming, R: Wait>(
+    rt: &R,
+    host: &Host<W, J>,
+    pass: &mut Pass<WorldBook<W>, J>,
+    conn: ConnNo,
+    graceful: bool,
+)
+    ensures number { pass.new.number ≡ pass.old.number }
+    ensures posted { Disconnects W.opened J.name.passes pass.old.number conn graceful pass.old.front pass.new.front }
+{
+    let _ = host.post(rt, pass, conn, Input::Disconnect { graceful });
+}
