@@ -1,6 +1,7 @@
 -- What the grammars of the subcommands want, by computation.
 use Rattle.std.proofs.Common.{◌≡◌, true, refl, codes}
 use Rattle.clap.proofs.OnLiterals.{clap_on_literals}
+use Rattle.dk_command.specs.Commands.{has_game}
 use Rattle.dk_command.specs.Found.{is_plain, takes_flag, takes_number, wants_value}
 use Rattle.dk_command.specs.Grammar.{check_app, inspect_app, play_app, serve_app, stress_app}
 
@@ -79,3 +80,23 @@ stress_tasks = refl
 pub stress_workers : takes_number (codes "workers") 1 64 stress_app ≡ true
 unfolding stress_app takes_number
 stress_workers = refl
+
+pub play_has_game : has_game play_app ≡ true
+unfolding play_app
+play_has_game = refl
+
+pub serve_has_game : has_game serve_app ≡ true
+unfolding serve_app
+serve_has_game = refl
+
+pub check_has_game : has_game check_app ≡ true
+unfolding check_app
+check_has_game = refl
+
+pub inspect_has_game : has_game inspect_app ≡ true
+unfolding inspect_app
+inspect_has_game = refl
+
+pub stress_has_no_game : has_game stress_app ≡ true → ⊥
+unfolding stress_app
+stress_has_no_game h = cc

@@ -12,9 +12,7 @@ pub(crate) fn dir<'a>(alloc: Global) -> Arg<'a>
     ensures rule { rule_of result ≡ dir_rule }
     ensures local { result.global ≡ false }
 {
-    Arg::new(alloc, "DIR")
-        .required(true)
-        .action(ArgAction::Set)
+    Arg::new(alloc, "DIR").required(true).action(ArgAction::Set)
 }
 
 /// `--NAME` with any text.
@@ -22,9 +20,7 @@ pub(crate) fn text<'a>(alloc: Global, name: &'a str) -> Arg<'a>
     ensures rule { rule_of result ≡ text_rule name.entry.now }
     ensures local { result.global ≡ false }
 {
-    Arg::new(alloc, name)
-        .long(name)
-        .action(ArgAction::Set)
+    Arg::new(alloc, name).long(name).action(ArgAction::Set)
 }
 
 /// `--NAME` with a number in these bounds.
@@ -36,12 +32,7 @@ pub(crate) fn number<'a>(alloc: Global, name: &'a str, least: u64, most: u64) ->
 }
 
 /// The same, which is required.
-pub(crate) fn required_number<'a>(
-    alloc: Global,
-    name: &'a str,
-    least: u64,
-    most: u64,
-) -> Arg<'a>
+pub(crate) fn required_number<'a>(alloc: Global, name: &'a str, least: u64, most: u64) -> Arg<'a>
     ensures rule { rule_of result ≡ required_number_rule name.entry.now least most }
     ensures local { result.global ≡ false }
 {

@@ -60,9 +60,19 @@ pub enum Command {
         sessions: Option<u64>,
     },
     /// Tells whether the store is whole.
-    Check { dir: String, game: GameName },
+    Check {
+        dir: String,
+        game: GameName,
+    },
     /// Tells the store's world as text.
-    Inspect { dir: String, game: GameName },
+    Inspect {
+        dir: String,
+        game: GameName,
+    },
     /// Runs tasks on a world that the seed decides.
-    Stress { seed: u32, tasks: u32, workers: u8 },
+    Stress {
+        seed: u32,
+        tasks: u32,
+        workers: u8,
+    },
 }
