@@ -32,6 +32,7 @@ pub record IsFront (xs : List ℕ) (left' : Option (List ℕ)) (bytes : List ℕ
   pub left : left' ≡ Some rest
   pub whole : length bytes ≤ SCRIPT_MOST_BYTES → rest ≡ []
 
+-- of a source that tells its bytes, so many were read
 abbrev pub ReadsFront : Option (List ℕ) → Option (List ℕ) → List ℕ → Type 0
 ReadsFront None left' bytes = Unit {0}
 ReadsFront (Some xs) left' bytes = IsFront xs left' bytes
@@ -44,6 +45,7 @@ pub record IsWithinScript (xs : List ℕ) (left' : Option (List ℕ)) : Type 0 w
   pub left : left' ≡ Some rest
   pub few : length bytes ≤ SCRIPT_MOST_BYTES
 
+-- of a source that tells its bytes, no more were read than a script may have
 abbrev pub ReadsFew : Option (List ℕ) → Option (List ℕ) → Type 0
 ReadsFew None left' = Unit {0}
 ReadsFew (Some xs) left' = IsWithinScript xs left'

@@ -96,6 +96,7 @@ pub record IsEntered (rules : Meaning) (old : Play) (l : Line) (more : ℕ) (new
   pub enters : Enters rules (playing_of old) l event (playing_of new)
   pub going : IsGoing rules new more
 
+-- a line is entered by its event
 abbrev pub EntersLine : Play → Line → Play → Type 0
 EntersLine old l new = (rules : Meaning) (more : ℕ) → AreLawful rules → IsGoing rules old (4 + more) → IsEntered rules old l more new
 
@@ -107,6 +108,7 @@ pub record AreEntered (rules : Meaning) (old : Play) (lines : List Line) (more :
   pub enters : EntersAll rules (playing_of old) lines events (playing_of new)
   pub going : IsGoing rules new more
 
+-- the lines of a phase are entered in order
 abbrev pub EntersLines : Play → List Line → Play → Type 0
 EntersLines old lines new = (rules : Meaning) (more : ℕ) → AreLawful rules → IsGoing rules old (4 * length lines + more) → AreEntered rules old lines more new
 
@@ -144,6 +146,7 @@ pub record AreHanded (rules : Meaning) (old : Play) (conns : List ConnNo) (more 
   pub same_opened : new.opened.items ≡ old.opened.items
   pub going : IsGoing rules new more
 
+-- each of these connections is handed its messages
 abbrev pub HandsAll : Play → List ConnNo → Play → Type 0
 HandsAll old conns new = (rules : Meaning) (more : ℕ) → AreLawful rules → IsGoing rules old more → AreHanded rules old conns more new
 
@@ -157,5 +160,6 @@ pub record IsPhase (rules : Meaning) (old : Play) (lines : List Line) (more : �
   pub turns : AreInTurn items
   pub going : IsGoing rules new more
 
+-- a phase is played: its lines, the runs, and what is handed
 abbrev pub PlaysLines : Meaning → Play → List Line → Play → Type 0
 PlaysLines rules old lines new = (more : ℕ) → IsGoing rules old (4 * length lines + more) → IsPhase rules old lines more new

@@ -67,6 +67,7 @@ IfBadScript status.ReadFault P = Unit {0}
 IfBadScript status.WriteFault P = Unit {0}
 IfBadScript (status.BadScript line) P = P line
 
+-- done, or without memory
 abbrev pub IsOkOrNoMemory : Status → Type 0
 IsOkOrNoMemory status.Ok = Unit {0}
 IsOkOrNoMemory status.NoMemory = Unit {0}

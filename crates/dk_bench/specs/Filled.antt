@@ -33,5 +33,6 @@ lawful_job objects (job.Message conn name body) = lawful_done tt
 lawful_job objects (job.Channel conn name channel body) = lawful_done tt
 lawful_job objects (job.Disconnect conn name graceful) = lawful_done tt
 
+-- the rules are lawful
 pub filler_lawful : (objects : ℕ) → AreLawful (filler_rules objects)
 filler_lawful objects = lawful_rules (lawful_job objects)

@@ -24,6 +24,7 @@ fill (suc n) = and_then (create 2 []) (λ _. fill n)
 abbrev pub put_off : Act (Unit {0})
 put_off = and_then (schedule 1 [] DELAY_MOST_MS) (λ _. give (Ok tt))
 
+-- the first run: so many objects are made
 abbrev pub enter : ℕ → Act (Unit {0})
 enter objects = and_then (fill objects) (λ _. put_off)
 

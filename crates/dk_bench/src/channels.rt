@@ -26,6 +26,7 @@ pub enum Doing {
     Leave,
 }
 
+/// The work of this word.
 pub fn named(word: &str) -> Option<Doing> {
     match word {
         "channel-sends" => Some(Doing::Sends),

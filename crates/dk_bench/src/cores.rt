@@ -26,6 +26,7 @@ pub enum CoreWork {
     Sessions,
 }
 
+/// The work of this word.
 pub fn named(word: &str) -> Option<CoreWork> {
     match word {
         "core-tasks" => Some(CoreWork::TasksOverWorld),

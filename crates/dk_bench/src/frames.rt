@@ -16,6 +16,7 @@ pub enum Feeding {
     ByByte,
 }
 
+/// The way of feeding of this word.
 pub fn named(word: &str) -> Option<Feeding> {
     match word {
         "frames-in-pieces" => Some(Feeding::InPieces),

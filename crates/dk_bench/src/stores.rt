@@ -36,6 +36,7 @@ pub enum Timed {
     HandOfAll,
 }
 
+/// A call of a store that is timed.
 #[derive(Clone, Copy, PartialEq, Eq)]
 pub enum Call {
     Get,
@@ -44,6 +45,7 @@ pub enum Call {
     Remove,
 }
 
+/// The call of this word.
 pub fn named(word: &str) -> Option<Timed> {
     match word {
         "names-get" => Some(Timed::Names(Call::Get)),

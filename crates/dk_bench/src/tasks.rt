@@ -18,6 +18,7 @@ pub enum TaskCall {
     Cancel,
 }
 
+/// The call of this word.
 pub fn named(word: &str) -> Option<TaskCall> {
     match word {
         "tasks-put" => Some(TaskCall::Put),

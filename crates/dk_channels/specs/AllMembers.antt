@@ -59,6 +59,7 @@ long_without name conn (Some r) = if nat_eq r.conn.0 conn.0 then length_if_long 
 abbrev pub long_record_of : List ℕ → Session → DurableWorld → Option ℕ
 long_record_of name m world = long_without name m.conn (session_at (bound_to (session_name m.name) world) world)
 
+-- the members of the channel that was found
 abbrev pub members_of : Option ChannelRecord → List Session
 members_of None = []
 members_of (Some c) = c.members

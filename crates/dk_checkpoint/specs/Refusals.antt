@@ -5,6 +5,7 @@ use Rattle.dk_image.specs.declared.refused.ImageRefused.TheVariants as image
 use Rattle.dk_checkpoint.specs.declared.refused.CheckpointRefused.{CheckpointRefused}
 use Rattle.dk_checkpoint.specs.declared.refused.CheckpointRefused.TheVariants.{DiskFault, TooLarge, EpochEnd, NoMemory}
 
+-- what an image's refusal is to a checkpoint
 abbrev pub refusal_of : ImageRefused → CheckpointRefused
 refusal_of (image.TooLarge length) = TooLarge length
 refusal_of image.NoMemory = NoMemory

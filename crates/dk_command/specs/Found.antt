@@ -28,6 +28,7 @@ is_own name = not (is_empty name)
 abbrev pub all_named : Text → (Rule → Bool) → App → Bool
 all_named name test app = list_all (λ r. not (bytes_eq r.id name) || test r) app.top.rules
 
+-- whether the parser takes the numbers of this range
 abbrev pub is_between : ℕ → ℕ → Option ValueParser → Bool
 is_between least most (Some (vp.Unsigned a b)) = a == least && b == most
 is_between least most _ = false
@@ -37,6 +38,7 @@ unfoldable pub takes_number : Text → ℕ → ℕ → App → Bool
 takes_number name least most app =
     is_own name && all_named name (λ r. is_between least most r.parser) app
 
+-- whether the parser takes a flag
 abbrev pub is_bool : Option ValueParser → Bool
 is_bool (Some vp.Bool) = true
 is_bool _ = false
@@ -45,6 +47,7 @@ is_bool _ = false
 unfoldable pub takes_flag : Text → App → Bool
 takes_flag name app = is_own name && all_named name (λ r. is_bool r.parser) app
 
+-- whether the argument takes one value
 abbrev pub is_set_action : Option ArgAction → Bool
 is_set_action (Some Set) = true
 is_set_action _ = false

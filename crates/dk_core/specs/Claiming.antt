@@ -9,6 +9,7 @@ use Rattle.dk_types.specs.Keys.{run_cmp}
 use Rattle.dk_model.specs.Worlds.{Claim, Budget}
 use Rattle.dk_model.specs.Events.{lowered, raised}
 
+-- the claims that stand, the next number, and the budget
 pub record Claiming : Type 0 where
   pub claims : FinMap run_cmp Claim
   pub next : ℕ
@@ -22,9 +23,11 @@ run_code = code_by ℕ coded_ℕ (λ r. r.0) (λ n. record { 0 = n }) (λ _. ref
 abbrev pub claim_code : Coded Job → Coded Claim
 claim_code job = code_by (ℕ × (Job × ℕ)) (coded× coded_ℕ (coded× job coded_ℕ)) (λ c. (c.pass, (c.job, c.at))) (λ p. record { pass = p.0; job = p.1.0; at = p.1.1 }) (λ _. refl)
 
+-- a budget is stored as the pair of its fields
 abbrev pub budget_code : Coded Budget
 budget_code = code_by (ℕ × ℕ) (coded× coded_ℕ coded_ℕ) (λ b. (b.granted, b.left)) (λ p. record { granted = p.0; left = p.1 }) (λ _. refl)
 
+-- and what is claimed as the pairs of its fields
 abbrev pub claiming_code : Coded Job → Coded Claiming
 claiming_code job =
     code_by (FinMap run_cmp Claim × (ℕ × Option Budget)) (coded× (code run_code (claim_code job)) (coded× coded_ℕ (coded_option budget_code)))

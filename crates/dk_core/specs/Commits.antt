@@ -38,6 +38,7 @@ StampsAfter old new e touched =
     (item : Item) → is_some (stamp_in new item) ≡ true
     → stamp_in new item ≡ (if sets e item || list_any (same_item item) touched then Some (old.commits + 1) else stamp_in old item)
 
+-- whether what was found is a task that a run has
 abbrev pub claimed_at : Option Kept → Bool
 claimed_at None = false
 claimed_at (Some t) = t.claimed

@@ -14,21 +14,25 @@ use Rattle.dk_core.specs.declared.choice.Choice.{Choice}
 use Rattle.dk_core.specs.declared.choice.Choice.TheVariants as choose
 use Rattle.dk_core.specs.declared.world.Core.{Core}
 
+-- whether a task was chosen
 abbrev pub is_task : Choice → Bool
 is_task choose.First = false
 is_task (choose.Task key) = true
 is_task (choose.Input conn) = false
 
+-- the connection whose input was chosen
 abbrev pub conn_in : Choice → Option ConnNo
 conn_in choose.First = None
 conn_in (choose.Task key) = None
 conn_in (choose.Input conn) = Some conn
 
+-- the tasks, with the one that was chosen marked
 abbrev pub tasks_marked : Choice → FinMap key_cmp Kept → FinMap key_cmp Kept
 tasks_marked choose.First tasks = tasks
 tasks_marked (choose.Task key) tasks = changed_at (with_claim true) key tasks
 tasks_marked (choose.Input conn) tasks = tasks
 
+-- the tasks, with the one of this job marked no more
 abbrev pub tasks_freed : Job → FinMap key_cmp Kept → FinMap key_cmp Kept
 tasks_freed (job.Task key due period kind arg) tasks = changed_at (with_claim false) key tasks
 tasks_freed job.Initialize tasks = tasks

@@ -36,8 +36,10 @@ IsPick c choice = AreMarks c → pick (world_of c) ≡ job_of c choice
 abbrev pub IsDueTask : Core → Option Choice → Type 0
 IsDueTask c choice = AreMarks c → pick_task (world_of c) ≡ job_of c choice
 
+-- where the marks are right, the choice is the input that the model picks
 abbrev pub IsReadyInput : Core → Option Choice → Type 0
 IsReadyInput c choice = AreMarks c → pick_input (world_of c) ≡ job_of c choice
 
+-- where the marks are right, the choice is the run that the model picks before the first commit
 abbrev pub IsFirstRun : Core → Option Choice → Type 0
 IsFirstRun c choice = c.world.commits ≡ 0 → AreMarks c → first_of_list (first_runs (world_of c)) ≡ job_of c choice

@@ -38,12 +38,14 @@ pub record Stamped : Type 0 where
 abbrev pub room_code : Coded Room
 room_code = code_by (ℕ × (ℕ × ℕ)) (coded× coded_ℕ (coded× coded_ℕ coded_ℕ)) (λ r. (r.objects, (r.names, r.tasks))) (λ p. record { objects = p.0; names = p.1.0; tasks = p.1.1 }) (λ _. refl)
 
+-- the largest committed run is stored as its number
 abbrev pub last_code : Coded (Option RunNo)
 last_code = coded_option (code_by ℕ coded_ℕ (λ r. r.0) (λ n. record { 0 = n }) (λ _. refl))
 
 abbrev StampedParts : Type 0
 StampedParts = (FinMap id_cmp (Object × ℕ) × (StampedNames × FinMap key_cmp Kept)) × ((ℕ × Option RunNo) × Room)
 
+-- and the stamped world as the pairs of its fields
 abbrev pub stamped_code : Coded Stamped
 stamped_code =
     code_by StampedParts

@@ -52,5 +52,6 @@ lawful_job (job.Login conn name) = lawful_done tt
 lawful_job (job.Channel conn name channel body) = lawful_done tt
 lawful_job (job.Disconnect conn name graceful) = lawful_done tt
 
+-- the rules are lawful
 pub twins_lawful : AreLawful twins_rules
 twins_lawful = lawful_rules lawful_job

@@ -104,5 +104,6 @@ lawful_job (job.Channel conn name channel body) = lawful_hear channel body
 lawful_job (job.Disconnect conn name graceful) = lawful_done tt
 lawful_job (job.Task key due period kind arg) = lawful_done tt
 
+-- the rules are lawful
 pub channels_lawful : AreLawful channels_rules
 channels_lawful = lawful_rules lawful_job

@@ -26,6 +26,7 @@ lawful_make : {Needs : Type 0} (number : ℕ) → number < 16 → IsLawful Needs
 unfolding make
 lawful_make number h = lawful_make_under (counter_name number) (λ _. name_of_counter number h)
 
+-- making the counters is lawful
 pub lawful_make_from : {Needs : Type 0} (first n : ℕ) → first + n ≤ 16 → IsLawful Needs Anything (make_from first n)
 lawful_make_from first zero h = lawful_done tt
 lawful_make_from first (suc n) h = lawful_then (lawful_make first (omega (arith, h))) (λ _. lawful_make_from (first + 1) n (omega (arith, h)))
@@ -43,6 +44,7 @@ lawful_raise_at : {Needs : Type 0} (number : ℕ) → IsLawful Needs Anything (r
 unfolding raise_at
 lawful_raise_at number = lawful_then (lawful_raise_under (counter_name number)) (λ _. lawful_done tt)
 
+-- raising a counter is lawful
 pub lawful_raise : {Needs : Type 0} (arg : List ℕ) → IsLawful Needs Anything (raise arg)
 lawful_raise [] = lawful_done tt
 lawful_raise (number ∷ bytes) = lawful_if (nat_lt number 16) (lawful_raise_at number) (lawful_done tt)
@@ -55,5 +57,6 @@ lawful_job seed tasks (job.Message conn name body) = lawful_done tt
 lawful_job seed tasks (job.Channel conn name channel body) = lawful_done tt
 lawful_job seed tasks (job.Disconnect conn name graceful) = lawful_done tt
 
+-- the rules are lawful
 pub counters_lawful : (seed tasks : ℕ) → AreLawful (counters_rules seed tasks)
 counters_lawful seed tasks = lawful_rules (lawful_job seed tasks)

@@ -15,9 +15,11 @@ COUNTER = 1
 pub record IsCounter (c : Counter) : Type 0 where
   pub count : IsU64 c.count
 
+-- the bytes of a counter
 abbrev pub counter_bytes : Counter → List ℕ
 counter_bytes c = u64_spelling c.count
 
+-- reading a counter
 unfoldable pub next_counter : Rest → Result (Counter × Rest) ℕ
 next_counter r = do
   count ← next_u64 r

@@ -53,5 +53,6 @@ lawful_job (job.Channel conn name channel body) = lawful_done tt
 lawful_job (job.Disconnect conn name graceful) = lawful_done tt
 lawful_job (job.Task key due period kind arg) = lawful_done tt
 
+-- the rules are lawful
 pub greeter_lawful : AreLawful greeter_rules
 greeter_lawful = lawful_rules lawful_job

@@ -15,9 +15,11 @@ GUEST = 1
 pub record IsGuest (g : Guest) : Type 0 where
   pub visits : IsU64 g.visits
 
+-- the bytes of a guest
 abbrev pub guest_bytes : Guest → List ℕ
 guest_bytes g = u64_spelling g.visits
 
+-- reading a guest
 unfoldable pub next_guest : Rest → Result (Guest × Rest) ℕ
 next_guest r = do
   visits ← next_u64 r

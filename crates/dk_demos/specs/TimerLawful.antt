@@ -28,5 +28,6 @@ lawful_job (job.Message conn name body) = lawful_done tt
 lawful_job (job.Channel conn name channel body) = lawful_done tt
 lawful_job (job.Disconnect conn name graceful) = lawful_done tt
 
+-- the rules are lawful
 pub timer_lawful : AreLawful timer_rules
 timer_lawful = lawful_rules lawful_job

@@ -22,6 +22,7 @@ pub fn push_letters(text: &mut String, bytes: &[u8]) -> Result<(), AllocError> {
     Ok(())
 }
 
+/// A copy of a text, if there is memory.
 pub fn text(alloc: Global, text: &str) -> Option<String> {
     String::from_str(alloc, text).ok()
 }

@@ -13,6 +13,7 @@ use Rattle.dk_model.specs.Entries.{AreEffects, effects_spelling, effects_at, is_
 use Rattle.dk_entry.specs.ItemLaws.{object_exact, id_item_exact, binding_exact, name_item_exact}
 use Rattle.dk_entry.specs.TaskLaws.{pending_exact, key_item_exact, moved_exact}
 
+-- reading effects takes back what their bytes say, and nothing else
 pub effects_exact : (format : ℕ) → IsExact (AreEffects format) effects_spelling (effects_at format)
 unfolding effects_at
 effects_exact format =
@@ -29,6 +30,7 @@ effects_exact format =
 run_small : (run : ℕ) → is_run run ≡ true → IsU64 run
 run_small run is = omega (arith, ltb-true run NUMBERS_END is)
 
+-- the same of an entry
 pub entry_exact : (format : ℕ) → IsExact (IsEntry format) entry_spelling (entry_at format)
 unfolding entry_at
 entry_exact format =
@@ -38,9 +40,11 @@ entry_exact format =
     (λ effects are. ((record { seq = fits.0; counted = fits.1; run = small.1; effects = are }, refl), refl)) (λ effects. refl)
     (λ e is i. record { seq = is.0.1 i; run = record { 0 = is.1 i }; effects = e.effects })))
 
+-- the same of an entry in a list
 pub each_entry_exact : (format : ℕ) (before : Option Entry) → IsExact (IsEntry format) entry_spelling (entry_at format)
 each_entry_exact format before = entry_exact format
 
+-- the same of a payload of entries
 pub entries_exact : (format : ℕ) → IsExact (AreEntries format) entries_spelling (entries_at format)
 unfolding entries_at
 entries_exact format = checked_exact is_some_entry (list_exact (each_entry_exact format))

@@ -18,6 +18,7 @@ due_small due is = omega (arith, leb-true due (MOMENT_MOST_MS + DELAY_MOST_MS) i
 period_small : (period : ℕ) → is_period period ≡ true → IsU64 period
 period_small period is = omega (arith, leb-true period PERIOD_MOST_MS is)
 
+-- reading a pending task takes back what its bytes say, and nothing else
 pub pending_exact : (format : ℕ) (before : Option Pending) → IsExact (IsPendingItem format before) pending_spelling (pending_at format before)
 unfolding pending_at
 pending_exact format before =
@@ -29,10 +30,12 @@ pending_exact format before =
     (λ arg fit. ((((record { key = fits.0; above = fits.1; due = due_fits.1; period = period_fits.1; kind = small; arg = fit }, refl), refl), refl), refl)) (λ arg. refl)
     (λ p is i. record { key = is.0.0.0.1 i; due = is.0.0.1 i; period = is.0.1 i; kind = is.1 i; arg = p.arg })))))
 
+-- the same of a task's key
 pub key_item_exact : (before : Option TaskKey) → IsExact (IsKeyItem before) key_spelling (key_item_at before)
 unfolding key_item_at
 key_item_exact before = checked_exact (is_above_last key_cmp (λ (e : TaskKey). e) before) next_key_exact
 
+-- the same of a task's new due moment
 pub moved_exact : (before : Option (TaskKey × ℕ)) → IsExact (IsMovedItem before) moved_spelling (moved_at_place before)
 unfolding moved_at_place
 moved_exact before =

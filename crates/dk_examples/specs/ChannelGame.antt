@@ -7,9 +7,11 @@ use Rattle.dk_model.specs.Runs.{Act, give, and_then}
 use Rattle.dk_model.specs.Platforms.{create_channel, join, channel_send}
 use Rattle.dk_model.specs.Steps.{of_session}
 
+-- a channel's name
 abbrev pub foo : List ℕ
 foo = codes "Foo"
 
+-- a channel's name
 abbrev pub bar : List ℕ
 bar = codes "Bar"
 

@@ -11,15 +11,19 @@ use Rattle.dk_examples.specs.Worked.{run, conn, id, object, in_eight, in_four, L
 use Rattle.dk_examples.specs.ChannelGame.{channel_rules, foo, bar}
 use Rattle.dk_examples.specs.SessionRows.{alice, alice_record}
 
+-- a login name
 abbrev pub bob : List ℕ
 bob = codes "bob"
 
+-- the name of a session's record
 abbrev pub bob_record : List ℕ
 bob_record = codes "$s.bob"
 
+-- the name of a channel's record
 abbrev pub foo_record : List ℕ
 foo_record = codes "$c.Foo"
 
+-- the name of a channel's record
 abbrev pub bar_record : List ℕ
 bar_record = codes "$c.Bar"
 
@@ -27,9 +31,11 @@ bar_record = codes "$c.Bar"
 abbrev pub channel_object : ℕ → ℕ → List ℕ → Object
 channel_object listener count members = object 0xFF02 (listener ∷ 0 ∷ in_four count ++ members)
 
+-- a member as bytes
 abbrev pub alice_member : List ℕ
 alice_member = 5 ∷ alice ++ in_eight 1
 
+-- a member as bytes
 abbrev pub bob_member : List ℕ
 bob_member = 3 ∷ bob ++ in_eight 2
 
@@ -37,6 +43,7 @@ bob_member = 3 ∷ bob ++ in_eight 2
 abbrev pub joined_object : ℕ → Object
 joined_object number = object 0xFF01 (in_eight number ++ in_four 2 ++ (3 ∷ foo ++ 3 ∷ bar))
 
+-- the channels' records by name
 abbrev pub channel_names : List (List ℕ × ObjectId)
 channel_names = (bar_record, id 0 1) ∷ (foo_record, id 0 0) ∷ []
 

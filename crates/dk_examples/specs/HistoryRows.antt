@@ -42,6 +42,7 @@ of_alice queue outbox turn = record { name = alice; queue = queue; outbox = outb
 abbrev pub claim : ℕ → ℕ → Job → Event
 claim number at job = event.Claim 0 (claimed.Granted (run number) at job)
 
+-- a claim that gets nothing
 abbrev pub idle : Event
 idle = event.Claim 0 claimed.Nothing
 
@@ -49,6 +50,7 @@ idle = event.Claim 0 claimed.Nothing
 abbrev pub commit : ℕ → ℕ → Event
 commit number seq = event.Commit 0 (run number) seq outcome.Ok
 
+-- a Connect that gets this number
 abbrev pub connect : ℕ → Event
 connect number = event.Connect 0 alice (connected.Number (conn number))
 
@@ -60,6 +62,7 @@ timer_events =
     ∷ event.Tick 0 400 ∷ claim 2 400 (occurrence 400) ∷ commit 2 3 ∷ idle
     ∷ event.Tick 0 500 ∷ claim 3 500 (occurrence 500) ∷ commit 3 4 ∷ idle ∷ []
 
+-- the timer's three occurrences, from the empty world to the counted one
 abbrev pub TimerHistory : Type 0
 TimerHistory = Leads timer_rules (opening empty_world None) timer_events (world (listed counted 4 (Some (run 3))) 500 4 true [] [])
 
@@ -72,6 +75,7 @@ second_login_events =
     ∷ event.Hand 0 (conn 1) 1 (out.Accepted ∷ []) false ∷ event.Hand 0 (conn 1) 1 (out.Close ∷ []) true
     ∷ event.Hand 0 (conn 3) 1 (out.Accepted ∷ []) false ∷ []
 
+-- two logins of one name, the second of which displaces the first
 abbrev pub SecondLoginHistory : Type 0
 SecondLoginHistory = Leads accepting (opening empty_world None) second_login_events (world (listed with_alice_again 3 (Some (run 4))) 0 5 false [] ((conn 3, of_alice [] [] 4) ∷ []))
 
@@ -79,5 +83,6 @@ SecondLoginHistory = Leads accepting (opening empty_world None) second_login_eve
 abbrev pub restart_events : List Event
 restart_events = claim 3 0 (job.Disconnect (conn 1) alice false) ∷ commit 3 3 ∷ idle ∷ []
 
+-- a restart with one session recorded, whose Disconnect is run
 abbrev pub RestartHistory : Type 0
 RestartHistory = Leads accepting (opening (listed with_alice 2 (Some (run 2))) None) restart_events (world (listed nothing 3 (Some (run 3))) 0 4 false [] [])

@@ -18,6 +18,7 @@ use Rattle.dk_model.specs.Events.{Meaning, Happens, swept, with_input}
 use Rattle.dk_examples.specs.Worked.{run, conn, id, key, Lists, listed}
 use Rattle.dk_examples.specs.HistoryRows.{world, of_alice}
 
+-- a task that is due at this moment, and run once
 abbrev pub due_at : ℕ → Task
 due_at moment = record { due = moment; period = 0; kind = 1; arg = [] }
 
@@ -25,6 +26,7 @@ due_at moment = record { due = moment; period = 0; kind = 1; arg = [] }
 abbrev pub three_tasks : Lists
 three_tasks = record { objects = []; names = []; tasks = (key 1 0, due_at 50) ∷ (key 1 1, due_at 20) ∷ (key 2 0, due_at 50) ∷ [] }
 
+-- that task as a job
 abbrev pub once : ℕ → ℕ → ℕ → Job
 once number k moment = job.Task (key number k) moment 0 1 []
 
@@ -48,6 +50,7 @@ PicksInTurn =
 abbrev pub two_due : Lists
 two_due = record { objects = []; names = []; tasks = (key 1 0, due_at 50) ∷ (key 2 0, due_at 50) ∷ [] }
 
+-- of two tasks that are due at one moment the one with the lesser key is picked
 abbrev pub TiesGoByKey : Type 0
 TiesGoByKey = pick (world (listed two_due 2 (Some (run 2))) 50 10 false [] []) ≡ Some (once 1 0 50)
 
@@ -57,6 +60,7 @@ claims_of =
     (run 10, record { pass = 0; job = once 1 1 20; at = 60 }) ∷ (run 11, record { pass = 1; job = job.Login (conn 5) (codes "alice"); at = 60 })
     ∷ (run 12, record { pass = 2; job = once 1 0 50; at = 60 }) ∷ []
 
+-- what is claimed can not be run a second time
 abbrev pub ClaimedIsNotRunnable : Type 0
 ClaimedIsNotRunnable = runnable (world (listed three_tasks 2 (Some (run 2))) 60 13 true claims_of two_logins) ≡ once 2 0 50 ∷ job.Login (conn 3) (codes "alice") ∷ []
 
@@ -84,6 +88,7 @@ ClosedTakesNothing =
     (rules : Meaning) (w : World) (conn : ConnNo) (c : Connection) (given : Input) → get w.connections conn ≡ Some c → c.closed ≡ true
     → Happens rules w (event.Post 0 conn given posted.Closed) w
 
+-- the next of three names behind this one
 abbrev pub after : Option (List ℕ) → Option (List ℕ)
 after name = next_name (from_entries {R = bytes_cmp} ((codes "a", id 0 0) ∷ (codes "ab", id 0 1) ∷ (codes "b", id 0 2) ∷ [])) name
 

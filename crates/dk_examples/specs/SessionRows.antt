@@ -12,6 +12,7 @@ use Rattle.dk_model.specs.Events.{Meaning}
 use Rattle.dk_model.specs.Finishes.{Told}
 use Rattle.dk_examples.specs.Worked.{run, conn, id, key, object, in_eight, in_four, accepting, giving_up, turning_away, making, made_task, Lists, listed, nothing, no_effects, does_nothing, Runs}
 
+-- a login name
 abbrev pub alice : List ℕ
 alice = codes "alice"
 

@@ -13,6 +13,7 @@ use Rattle.dk_examples.specs.Worked.{run, id, object, Lists, listed, no_effects,
 abbrev pub digit : ℕ → ℕ
 digit c = if nat_le 97 c then c - 87 else c - 48
 
+-- the bytes of so many pairs of digits
 abbrev pub hex : List ℕ → List ℕ
 hex [] = []
 hex (a ∷ []) = []
@@ -26,11 +27,13 @@ sword epoch format = record { game = codes "sword-world"; epoch = epoch; format 
 abbrev pub header_bytes : ℕ → ℕ → List ℕ
 header_bytes epoch format = hex (codes "014441524b53544152") ++ (0 ∷ format ∷ (in_eight epoch ++ (hex (codes "0b73776f72642d776f726c64") ++ replicate 33 0)))
 
+-- headers of both formats and of two epochs are spelled so
 abbrev pub HeadersAreSpelled : Type 0
 HeadersAreSpelled = (header_spelling (sword 0 1) ≡ header_bytes 0 1) × (header_spelling (sword 0 2) ≡ header_bytes 0 2) × (header_spelling (sword 1 2) ≡ header_bytes 1 2) × (length (header_bytes 0 1) ≡ 64)
 
 -- ---- a first commit: the sword lies in the room, which is bound under `Room`
 
+-- what the first commit leaves
 abbrev pub first_lists : Lists
 first_lists = record {
   objects = (id 0 0, object 2 (13 ∷ codes "a shiny sword")) ∷ (id 0 1, object 1 (in_four 0 ++ (in_four 1 ++ (in_eight 0 ++ in_four 0)))) ∷ [];
@@ -38,9 +41,11 @@ first_lists = record {
   tasks = [];
 }
 
+-- the same as a durable world
 abbrev pub first_world : DurableWorld
 first_world = listed first_lists 1 (Some (run 0))
 
+-- the same as an entry
 abbrev pub first_entry : Entry
 first_entry = record { seq = 1; run = run 0; effects = record no_effects { written = first_lists.objects; bound = first_lists.names } }
 
@@ -48,12 +53,15 @@ first_entry = record { seq = 1; run = run 0; effects = record no_effects { writt
 abbrev pub sword_bytes : List ℕ
 sword_bytes = hex (codes "00020000000e0d61207368696e792073776f7264")
 
+-- the room's kind and its bytes behind their length
 abbrev pub room_bytes : List ℕ
 room_bytes = hex (codes "0001000000140000000000000001000000000000000000000000")
 
+-- the sword's id as bytes
 abbrev pub sword_id : List ℕ
 sword_id = hex (codes "000000000000000000000000")
 
+-- the room's id as bytes
 abbrev pub room_id : List ℕ
 room_id = hex (codes "000000000000000000000001")
 
@@ -75,6 +83,7 @@ bare_entry seq number = record { seq = seq; run = run number; effects = no_effec
 abbrev pub bare_payload : List ℕ
 bare_payload = hex (codes "0000000100000000000000030000000000000003") ++ hex (codes "00000000000000000000000000000000000000000000000000000000")
 
+-- a commit without effects is spelled so
 abbrev pub BareCommitIsSpelled : Type 0
 BareCommitIsSpelled = SpellsEntries 2 (bare_entry 3 3 ∷ []) bare_payload × (length bare_payload ≡ 48)
 
@@ -88,6 +97,7 @@ login_lists = record {
   tasks = [];
 }
 
+-- the entry of a login
 abbrev pub login_entry : Entry
 login_entry = record {
   seq = 2;
@@ -95,9 +105,11 @@ login_entry = record {
   effects = record no_effects { written = drop 1 login_lists.objects; bound = take 2 login_lists.names };
 }
 
+-- the id of the session's record as bytes
 abbrev pub record_id : List ℕ
 record_id = hex (codes "000000000000000200000000")
 
+-- the player's id as bytes
 abbrev pub player_id : List ℕ
 player_id = hex (codes "000000000000000200000001")
 
@@ -117,6 +129,7 @@ end_lists = record {
   tasks = [];
 }
 
+-- the entry of a session's end
 abbrev pub end_entry : Entry
 end_entry = record {
   seq = 4;
@@ -130,6 +143,7 @@ end_payload =
     hex (codes "0000000100000000000000040000000000000004") ++ (hex (codes "00000001") ++ (room_id ++ (room_bytes ++ (hex (codes "00000001") ++ (record_id
     ++ (hex (codes "00000000") ++ (hex (codes "000000010824732e616c696365") ++ hex (codes "000000000000000000000000"))))))))
 
+-- both are spelled so
 abbrev pub LaterCommitsAreSpelled : Type 0
 LaterCommitsAreSpelled =
     SpellsEntries 2 (login_entry ∷ []) login_payload × (length login_payload ≡ 199) × SpellsEntries 2 (end_entry ∷ []) end_payload × (length end_payload ≡ 107)
@@ -140,6 +154,7 @@ first_image =
     hex (codes "00000000000000010000000000000001") ++ (hex (codes "00000002") ++ (sword_id ++ (sword_bytes ++ (room_id ++ (room_bytes
     ++ (hex (codes "0000000104526f6f6d") ++ (room_id ++ hex (codes "00000000"))))))))
 
+-- the image of the first world is spelled so, in both formats
 abbrev pub ImageIsSpelled : Type 0
 ImageIsSpelled = SpellsImage 1 first_world first_image × SpellsImage 2 first_world first_image × (length first_image ≡ 115)
 
@@ -165,12 +180,15 @@ TornHeadersAreNoStore =
 abbrev pub header_of : List ℕ → List ℕ → List ℕ → List ℕ → List ℕ → List ℕ
 header_of letters format epoch game padding = 1 ∷ (letters ++ (format ++ (epoch ++ (game ++ (padding ++ 0 ∷ [])))))
 
+-- the letters of a header
 abbrev pub letters : List ℕ
 letters = hex (codes "4441524b53544152")
 
+-- the format of a header
 abbrev pub second_format : List ℕ
 second_format = 0 ∷ 2 ∷ []
 
+-- the id of a header, behind its length
 abbrev pub game : List ℕ
 game = hex (codes "0b73776f72642d776f726c64")
 
@@ -207,9 +225,11 @@ abbrev pub whole_journal : List ℕ
 whole_journal =
     with_first 2 (1 ∷ (hex (codes "000000c7") ++ (login_payload ++ (1 ∷ (hex (codes "00000030") ++ (bare_payload ++ (1 ∷ (hex (codes "0000006b") ++ (end_payload ++ 0 ∷ [])))))))))
 
+-- the durable world of that journal
 abbrev pub end_world : DurableWorld
 end_world = listed end_lists 4 (Some (run 4))
 
+-- the journal holds that world, and has so many bytes
 abbrev pub JournalsHoldTheirWorld : Type 0
 JournalsHoldTheirWorld = Recovers whole_journal [] (Holding end_world) × (length whole_journal ≡ 574)
 
@@ -221,6 +241,7 @@ TornRecordsAreNotLookedAt = Recovers (with_first 2 (0 ∷ (hex (codes "00000030"
 abbrev pub with_image : List ℕ
 with_image = header_bytes 1 2 ++ (1 ∷ (hex (codes "00000073") ++ (first_image ++ 0 ∷ [])))
 
+-- beside the journal of the epoch before it, the file of a checkpoint stands and holds its image
 abbrev pub ImagesStand : Type 0
 ImagesStand = Recovers (with_first 2 (0 ∷ [])) with_image (Holding first_world) × (length with_image ≡ 185)
 

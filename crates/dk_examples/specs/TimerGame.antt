@@ -14,6 +14,7 @@ use Rattle.dk_model.specs.References.{get_as}
 abbrev pub COUNTER : ℕ
 COUNTER = 1
 
+-- the name of the counter
 abbrev pub count_name : List ℕ
 count_name = codes "Count"
 
@@ -26,9 +27,11 @@ begin_counting =
 abbrev pub counted : TaskKey → ObjectId → ℕ → Act (Unit {0})
 counted key id count = and_then (save id (u64_spelling count)) (λ _. if count == 3 then cancel key else give (Ok tt))
 
+-- one occurrence: the counter is raised, and the third time the task is cancelled
 abbrev pub count : TaskKey → Act (Unit {0})
 count key = and_then (bound count_name) (λ id. and_then (get_as COUNTER (value_of next_u64) id) (λ so_far. counted key id (so_far + 1)))
 
+-- the game
 abbrev pub timer_rules : Job → Act (Unit {0})
 timer_rules job.Initialize = begin_counting
 timer_rules (job.Task key due period kind arg) = count key

@@ -54,6 +54,7 @@ TimerGoesOn = Runs timer_rules (occurrence 400) (run 2) 400 (listed (counting 1 
 abbrev pub counted : Lists
 counted = record { objects = (id 0 0, object 1 (in_eight 3)) ∷ []; names = (count_name, id 0 0) ∷ []; tasks = [] }
 
+-- the third occurrence cancels its task
 abbrev pub TimerEnds : Type 0
 TimerEnds = Runs timer_rules (occurrence 500) (run 3) 500 (listed (counting 2 500) 3 (Some (run 2)))
     (record {

@@ -18,9 +18,11 @@ use Rattle.dk_model.specs.Steps.{step}
 use Rattle.dk_model.specs.Events.{Meaning}
 use Rattle.dk_model.specs.Finishes.{Told, told_step}
 
+-- a run by its number
 abbrev pub run : ℕ → RunNo
 run n = record { 0 = n }
 
+-- a connection by its number
 abbrev pub conn : ℕ → ConnNo
 conn n = record { 0 = n }
 
@@ -32,6 +34,7 @@ id number k = record { run = run number; k = k }
 abbrev pub key : ℕ → ℕ → TaskKey
 key number k = record { run = run number; k = k }
 
+-- an object by its kind and bytes
 abbrev pub object : ℕ → List ℕ → Object
 object kind bytes = record { kind = kind; bytes = bytes }
 
@@ -39,6 +42,7 @@ object kind bytes = record { kind = kind; bytes = bytes }
 abbrev pub in_eight : ℕ → List ℕ
 in_eight n = 0 ∷ 0 ∷ 0 ∷ 0 ∷ 0 ∷ 0 ∷ 0 ∷ n ∷ []
 
+-- a number below 256 in four bytes
 abbrev pub in_four : ℕ → List ℕ
 in_four n = 0 ∷ 0 ∷ 0 ∷ n ∷ []
 
@@ -79,9 +83,11 @@ listed l commits last = record {
   last = last;
 }
 
+-- the lists of the empty world
 abbrev pub nothing : Lists
 nothing = record { objects = []; names = []; tasks = [] }
 
+-- the effects of a run that changes nothing
 abbrev pub no_effects : Effects
 no_effects = record { written = []; removed = []; bound = []; unbound = []; added = []; dropped = []; requeued = [] }
 

@@ -46,6 +46,7 @@ connect_events pass name (Ok conn) = event.Connect pass name (connected.Number c
 connect_events pass name (Err (connect_refused.Exhausted next)) = event.Connect pass name (connected.Exhausted next) ∷ []
 connect_events pass name (Err connect_refused.NoMemory) = []
 
+-- the event of a post that was answered; want of memory enters none
 abbrev pub post_events : ℕ → ConnNo → Input → Result (Unit {0}) PostRefused → List Event
 post_events pass conn input (Ok taken) = event.Post pass conn input posted.Taken ∷ []
 post_events pass conn input (Err post_refused.Closed) = event.Post pass conn input posted.Closed ∷ []
@@ -59,6 +60,7 @@ IsSpared input (Err post_refused.Closed) = Unit {0}
 IsSpared input (Err (post_refused.QueueFull waiting)) = Unit {0}
 IsSpared input (Err post_refused.NoMemory) = is_disconnect (waits.Input input) ≡ false
 
+-- the event of a claim that was answered; want of memory enters none
 abbrev pub claim_events : ℕ → Result (Option Claimed) ClaimRefused → List Event
 claim_events pass (Ok (Some c)) = event.Claim pass (claimed.Granted c.run c.at c.job) ∷ []
 claim_events pass (Ok None) = event.Claim pass claimed.Nothing ∷ []
@@ -66,6 +68,7 @@ claim_events pass (Err (claim_refused.Spent granted)) = event.Claim pass (claime
 claim_events pass (Err (claim_refused.Exhausted next)) = event.Claim pass (claimed.Exhausted next) ∷ []
 claim_events pass (Err claim_refused.NoMemory) = []
 
+-- the event of a hand that was answered; want of memory enters none
 abbrev pub hand_events : ℕ → ConnNo → ℕ → Result Handed NoMemory → List Event
 hand_events pass conn most (Ok handed) = event.Hand pass conn most handed.outs handed.end ∷ []
 hand_events pass conn most (Err refused) = []

@@ -16,6 +16,7 @@ pub record Looking : Type 0 where
   pub run : RunNo
   pub pass : Known Event
 
+-- a look for this run, at this pass
 abbrev pub looking : RunNo → Known Event → Looking
 looking run pass = record { run = run; pass = pass }
 
@@ -30,9 +31,11 @@ pub record LooksOn (o : Opened) (a b : Looking) : Type 0 where
 abbrev pub IsGiven : Opened → Looking → Item → Read → Type 0
 IsGiven o l item read = IsHonestRead o.rules (opening_of o) l.pass.front l.run item read
 
+-- a look goes on from itself
 pub looks_still : (o : Opened) (l : Looking) → LooksOn o l l
 looks_still o l = record { run = refl; number = refl; front = front_self l.pass.number l.pass.front; legal = λ h. h }
 
+-- and from one that went on
 pub looks_then : (o : Opened) (a b c : Looking) → LooksOn o a b → LooksOn o b c → LooksOn o a c
 looks_then o a b c g h = record {
   run = h.run ∙ g.run;
@@ -41,6 +44,7 @@ looks_then o a b c g h = record {
   legal = λ l. h.legal (g.legal l);
 }
 
+-- what was given is given still
 pub given_still : (o : Opened) (a b : Looking) → LooksOn o a b → (item : Item) (read : Read) → IsGiven o a item read → IsGiven o b item read
 given_still o a b g item read h =
     subst (λ run. IsHonestRead o.rules (opening_of o) b.pass.front run item read) (sym g.run)

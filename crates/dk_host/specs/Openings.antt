@@ -4,5 +4,6 @@ use Rattle.dk_model.specs.DurableWorlds.{empty_world}
 use Rattle.dk_model.specs.Legal.{Opened}
 use Rattle.dk_model.specs.Runs.{give}
 
+-- a host of nothing: the empty world, and a game that does nothing
 abbrev pub nothing_opened : Opened
 nothing_opened = record { rules = λ _. give (Ok tt); durable = empty_world; budget = None }

@@ -48,6 +48,7 @@ IsLeftBy (why.JournalFull length) old new = (old.faults ≡ None) × (new.faults
 IsLeftBy why.DiskFault old new = (old.faults ≡ None) × (new.faults ≡ Some new.counted) × HasRisen old.counted new.counted
 IsLeftBy why.NoMemory old new = (old.faults ≡ None) × (new.faults ≡ None)
 
+-- what a commit leaves of the store: at Ok it goes on
 abbrev pub Leaves : Stored → Stored → Result ℕ CommitRefused → Type 0
 Leaves old new (Ok seq) = (old.faults ≡ None) × (new.faults ≡ None)
 Leaves old new (Err refused) = IsLeftBy refused.why old new
@@ -61,6 +62,7 @@ abbrev pub IsWhyOfLook : PrepareRefused → Why → Type 0
 IsWhyOfLook (prepare_refused.Retry c) w = w ≡ why.Retry c.item c.found c.now
 IsWhyOfLook prepare_refused.NoMemory w = w ≡ why.NoMemory
 
+-- the cause of an append that was refused
 abbrev pub IsWhyOfAppend : JournalRefused → Why → Type 0
 IsWhyOfAppend journal_refused.DiskFault w = w ≡ why.DiskFault
 IsWhyOfAppend (journal_refused.Full length) w = w ≡ why.JournalFull length

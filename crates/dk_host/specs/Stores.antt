@@ -41,6 +41,7 @@ pub record Stored : Type 0 where
   pub counted : ℕ
   pub journal_length : ℕ
 
+-- a store by its parts
 abbrev pub stored : Known Event → Option Prepared → ℕ → Option ℕ → ℕ → ℕ → Stored
 stored pass waiting room faults counted journal_length = record { pass = pass; waiting = waiting; room = room; faults = faults; counted = counted; journal_length = journal_length }
 
@@ -133,6 +134,7 @@ waiting_after (Err (journal_refused.NotAStore at)) p = None
 waiting_after (Err (journal_refused.Damaged at)) p = None
 waiting_after (Err journal_refused.NoMemory) p = None
 
+-- the home's count of faults, where the append stopped the store
 abbrev pub faults_after : Result (Unit {0}) JournalRefused → ℕ → Option ℕ
 faults_after (Ok done) n = None
 faults_after (Err journal_refused.DiskFault) n = Some n

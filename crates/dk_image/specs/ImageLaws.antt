@@ -33,6 +33,7 @@ last_again (Some run) =
     let some : (run.0 + 1 == 0) ≡ false = ne_eqb (run.0 + 1) 0 (λ (e : run.0 + 1 ≡ 0). omega (arith, e)) in
     rw some (ap (λ (n : ℕ). Some (record { 0 = n })) (omega arith))
 
+-- reading an image takes back what its bytes say, and nothing else
 pub image_exact : (format : ℕ) → IsExact (IsImageValue format) image_spelling (image_at format)
 unfolding image_at
 image_exact format =

@@ -3,6 +3,7 @@ use Rattle.std.specs.Prelude.{◌≡◌, None, List, ℕ, slice_index}
 use Rattle.dk_model.specs.Stores.{StoreHeader, IsHeader, header_spelling, header_in, header_fault}
 use Rattle.dk_journal.specs.declared.header.Header.{Header}
 
+-- a header that was read, as the model has it
 abbrev pub store_header : Header → StoreHeader
 store_header header = record { game = header.game; epoch = header.epoch; format = header.format }
 

@@ -24,6 +24,7 @@ use Rattle.dk_model.specs.Sights.{grants}
 use Rattle.dk_model.specs.Lawful.{AreLawful, IsJob, IsWithinLimits}
 use Rattle.dk_model.specs.Finishes.{IsNew, HasOwnTask}
 
+-- an event leads from a world to one world
 abbrev pub EventsLeadToOneWorld : Type 0
 EventsLeadToOneWorld = (rules : Meaning) (w : World) (e : Event) (after : World) → Happens rules w e after → after ≡ after_event rules w e
 
@@ -71,6 +72,7 @@ NumbersAreNew =
     → AreLawful rules → IsValid d → AllByRecursion IsWithinLimits (before ++ later)
     → Leads rules (opening d budget) before at → Leads rules at later w → Happens rules w e after → Knows at.durable n → Draws e n → ⊥
 
+-- whether an event is the Commit of this run
 abbrev pub commits_run : RunNo → Event → Bool
 commits_run run (event.Commit pass r seq outcome) = nat_eq r.0 run.0
 commits_run run (event.Connect pass name reply) = false

@@ -21,6 +21,7 @@ IsLawfulAct act = AlwaysGoesOn act × KeepsFit act
 abbrev pub IsLawfulWhere : {A : Type 0} → Type 0 → Act A → Type 0
 IsLawfulWhere Needs act = AlwaysGoesOn act × (Needs → KeepsFit act)
 
+-- each number is a byte
 abbrev pub AreBytes : List ℕ → Type 0
 AreBytes bytes = All (λ b. b < 256) bytes
 

@@ -18,6 +18,7 @@ use Rattle.dk_model.specs.Worlds.{Connection}
 abbrev pub Connections : Type 0
 Connections = FinMap conn_cmp Connection
 
+-- the change made at a number where a connection was found, and nothing elsewhere
 abbrev pub changed_at : Option Connection → ConnNo → (Connection → Connection) → Connections → Connections
 changed_at None conn change all = all
 changed_at (Some c) conn change all = insert all conn (change c)
@@ -35,6 +36,7 @@ conn_of (job.Disconnect conn name graceful) = Some conn
 conn_of job.Initialize = None
 conn_of (job.Task key due period kind arg) = None
 
+-- the change made at a connection, if one is named
 abbrev pub for_conn : Option ConnNo → (Connection → Connection) → Connections → Connections
 for_conn None change all = all
 for_conn (Some conn) change all = change_connection conn change all
@@ -43,6 +45,7 @@ for_conn (Some conn) change all = change_connection conn change all
 abbrev pub input_left : Connection → Connection
 input_left c = record c { queue = drop 1 c.queue }
 
+-- whether what waits is a disconnect
 abbrev pub is_disconnect : Waiting → Bool
 is_disconnect (waits.Input (input.Disconnect graceful)) = true
 is_disconnect (waits.Input (input.Message body)) = false
@@ -57,6 +60,7 @@ with_disconnect queue = if list_any is_disconnect queue then queue else queue ++
 abbrev pub cut_off : Connection → Connection
 cut_off c = record c { queue = with_disconnect c.queue; closed = true; cut = true }
 
+-- whether as many messages wait as may
 abbrev pub is_full : Connection → Bool
 is_full c = nat_le OUTS_MOST_COUNT (length c.outbox)
 
@@ -88,6 +92,7 @@ sent (o ∷ outs) all =
 abbrev pub with_outs : List (ConnNo × Out) → Connections → Connections
 with_outs outs all = (sent outs all).connections
 
+-- whether a message closes its connection
 abbrev pub is_close : Out → Bool
 is_close out.Close = true
 is_close out.Accepted = false
@@ -103,10 +108,12 @@ closed_by outs all = map (λ o. o.0) (filter (λ o. is_close o.1) (sent outs all
 abbrev pub close_off : Connection → Connection
 close_off c = record c { queue = []; closed = true; over = true }
 
+-- each of these connections closed off
 abbrev pub with_closed : List ConnNo → Connections → Connections
 with_closed [] all = all
 with_closed (conn ∷ conns) all = with_closed conns (change_connection conn close_off all)
 
+-- the connection that a job ends, if it is a disconnect
 abbrev pub ended_by : Job → Option ConnNo
 ended_by (job.Disconnect conn name graceful) = Some conn
 ended_by _ = None
@@ -117,6 +124,7 @@ delivered job outs all =
     let left = for_conn (conn_of job) input_left all in
     for_conn (ended_by job) (λ c. record c { over = true }) (with_closed (closed_by outs left) (with_outs outs left))
 
+-- whether what was found is a connection that is over and has nothing left to hand
 abbrev pub is_done : Option Connection → Bool
 is_done None = false
 is_done (Some c) = c.over && (length c.outbox == 0)

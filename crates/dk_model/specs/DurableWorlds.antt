@@ -41,14 +41,17 @@ with_value m k (Some v) = insert m k v
 unfoldable pub next_name : FinMap bytes_cmp ObjectId → Option (List ℕ) → Option (List ℕ)
 next_name names after = first_key (is_above after) (entries names)
 
+-- what was found under an id, as an answer
 abbrev pub object_answer : Option Object → Answer
 object_answer None = said.NoObject
 object_answer (Some object) = said.Object object
 
+-- what was found under a name, as an answer
 abbrev pub name_answer : Option ObjectId → Answer
 name_answer None = said.NoName
 name_answer (Some id) = said.Named id
 
+-- what was found under a task's key, as an answer
 abbrev pub task_answer : Option Task → Answer
 task_answer None = said.NoTask
 task_answer (Some task) = said.Task

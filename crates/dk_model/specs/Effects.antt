@@ -35,6 +35,7 @@ module _ {K X : Type 0} {R : K → K → Ordering} where
   without_keys [] m = m
   without_keys (k ∷ ks) m = without_keys ks (remove m k)
 
+-- a pending task as its key and the rest of it
 abbrev pub task_of : Pending → TaskKey × Task
 task_of p = (p.key, record { due = p.due; period = p.period; kind = p.kind; arg = p.arg })
 
@@ -48,6 +49,7 @@ is_moved (Some x) (Some y) = not (nat_eq x.due y.due)
 unfoldable pub moved_in : FinMap key_cmp Task → FinMap key_cmp Task → List (TaskKey × ℕ)
 moved_in a b = map (λ e. (e.0, e.1.due)) (entries (retain_keys b (λ k. is_moved (get a k) (get b k))))
 
+-- what leads from the first world to the second, list by list
 abbrev pub effects : DurableWorld → DurableWorld → Effects
 effects a b = record {
   written = set_in same_object a.objects b.objects;
@@ -59,6 +61,7 @@ effects a b = record {
   requeued = moved_in a.tasks b.tasks;
 }
 
+-- the task that was found, with another due moment
 abbrev pub moved_at : Option Task → TaskKey → ℕ → FinMap key_cmp Task → FinMap key_cmp Task
 moved_at None key due tasks = tasks
 moved_at (Some task) key due tasks = insert tasks key (record task { due = due })
@@ -84,15 +87,19 @@ after entry d = record (apply entry.effects d) { commits = entry.seq; last = las
 abbrev pub object_length : ObjectId × Object → ℕ
 object_length e = 12 + (2 + (4 + length e.1.bytes))
 
+-- how many bytes the spelling of a binding has
 abbrev pub binding_length : List ℕ × ObjectId → ℕ
 binding_length e = (1 + length e.0) + 12
 
+-- how many bytes the spelling of a name has
 abbrev pub name_length : List ℕ → ℕ
 name_length name = 1 + length name
 
+-- how many bytes the spelling of a pending task has
 abbrev pub pending_length : Pending → ℕ
 pending_length p = 12 + (8 + (8 + (2 + (4 + length p.arg))))
 
+-- how many bytes the spelling of a list has, by the length of each item's
 abbrev pub list_length : {A : Type 0} → (A → ℕ) → List A → ℕ
 list_length size xs = 4 + sum_by size xs
 

@@ -43,6 +43,7 @@ pub record IsObjectItem (format : ℕ) (before : Option (ObjectId × Object)) (i
 abbrev pub object_spelling : ObjectId × Object → List ℕ
 object_spelling item = id_spelling item.0 ++ (u16_spelling item.1.kind ++ blob_spelling item.1.bytes)
 
+-- reading an object, whose id is above the one before it
 unfoldable pub object_at : ℕ → Option (ObjectId × Object) → Rest → Result ((ObjectId × Object) × Rest) ℕ
 object_at format before r = do
   id ← checked (is_above_last id_cmp (λ (e : ObjectId × Object). e.0) before) next_id r
@@ -54,6 +55,7 @@ object_at format before r = do
 abbrev pub IsIdItem : Option ObjectId → ObjectId → Type 0
 IsIdItem before id = IsId id × (is_above_last id_cmp (λ (e : ObjectId). e) before id ≡ true)
 
+-- reading an id, which is above the one before it
 unfoldable pub id_item_at : Option ObjectId → Rest → Result (ObjectId × Rest) ℕ
 id_item_at before r = checked (is_above_last id_cmp (λ (e : ObjectId). e) before) next_id r
 
@@ -67,6 +69,7 @@ pub record IsBinding (before : Option (List ℕ × ObjectId)) (item : List ℕ �
 abbrev pub binding_spelling : List ℕ × ObjectId → List ℕ
 binding_spelling item = name_spelling item.0 ++ id_spelling item.1
 
+-- reading a binding, whose name is above the one before it
 unfoldable pub binding_at : Option (List ℕ × ObjectId) → Rest → Result ((List ℕ × ObjectId) × Rest) ℕ
 binding_at before r = do
   name ← checked (is_above_last bytes_cmp (λ (e : List ℕ × ObjectId). e.0) before) next_name r
@@ -77,6 +80,7 @@ binding_at before r = do
 abbrev pub IsNameItem : Option (List ℕ) → List ℕ → Type 0
 IsNameItem before name = IsName name × (is_above_last bytes_cmp (λ (e : List ℕ). e) before name ≡ true)
 
+-- reading a name, which is above the one before it
 unfoldable pub name_item_at : Option (List ℕ) → Rest → Result (List ℕ × Rest) ℕ
 name_item_at before r = checked (is_above_last bytes_cmp (λ (e : List ℕ). e) before) next_name r
 
@@ -84,6 +88,7 @@ name_item_at before r = checked (is_above_last bytes_cmp (λ (e : List ℕ). e) 
 abbrev pub is_due : ℕ → Bool
 is_due due = nat_le due (MOMENT_MOST_MS + DELAY_MOST_MS)
 
+-- whether a number is a period, or 0 for none
 abbrev pub is_period : ℕ → Bool
 is_period period = nat_le period PERIOD_MOST_MS
 
@@ -100,6 +105,7 @@ pub record IsPendingItem (format : ℕ) (before : Option Pending) (task : Pendin
 abbrev pub pending_spelling : Pending → List ℕ
 pending_spelling task = key_spelling task.key ++ (u64_spelling task.due ++ (u64_spelling task.period ++ (u16_spelling task.kind ++ blob_spelling task.arg)))
 
+-- reading a pending task, whose key is above the one before it
 unfoldable pub pending_at : ℕ → Option Pending → Rest → Result (Pending × Rest) ℕ
 pending_at format before r = do
   key ← checked (is_above_last key_cmp (λ (e : Pending). e.key) before) next_key r
@@ -113,6 +119,7 @@ pending_at format before r = do
 abbrev pub IsKeyItem : Option TaskKey → TaskKey → Type 0
 IsKeyItem before key = IsKey key × (is_above_last key_cmp (λ (e : TaskKey). e) before key ≡ true)
 
+-- reading a task's key, which is above the one before it
 unfoldable pub key_item_at : Option TaskKey → Rest → Result (TaskKey × Rest) ℕ
 key_item_at before r = checked (is_above_last key_cmp (λ (e : TaskKey). e) before) next_key r
 
@@ -126,6 +133,7 @@ pub record IsMovedItem (before : Option (TaskKey × ℕ)) (item : TaskKey × ℕ
 abbrev pub moved_spelling : TaskKey × ℕ → List ℕ
 moved_spelling item = key_spelling item.0 ++ u64_spelling item.1
 
+-- reading a task's new due moment, whose key is above the one before it
 unfoldable pub moved_at_place : Option (TaskKey × ℕ) → Rest → Result ((TaskKey × ℕ) × Rest) ℕ
 moved_at_place before r = do
   key ← checked (is_above_last key_cmp (λ (e : TaskKey × ℕ). e.0) before) next_key r
@@ -148,6 +156,7 @@ effects_spelling e =
     list_spelling object_spelling e.written ++ (list_spelling id_spelling e.removed ++ (list_spelling binding_spelling e.bound ++ (list_spelling name_spelling e.unbound
     ++ (list_spelling pending_spelling e.added ++ (list_spelling key_spelling e.dropped ++ list_spelling moved_spelling e.requeued)))))
 
+-- reading the seven lists of the effects of a commit
 unfoldable pub effects_at : ℕ → Rest → Result (Effects × Rest) ℕ
 effects_at format r = do
   written ← list_at (object_at format) r
@@ -163,6 +172,7 @@ effects_at format r = do
 abbrev pub is_seq : ℕ → Bool
 is_seq seq = nat_le 1 seq
 
+-- whether a number is that of a run
 abbrev pub is_run : ℕ → Bool
 is_run run = nat_lt run NUMBERS_END
 
@@ -173,9 +183,11 @@ pub record IsEntry (format : ℕ) (entry : Entry) : Type 0 where
   pub run : is_run entry.run.0 ≡ true
   pub effects : AreEffects format entry.effects
 
+-- the bytes of an entry: the commit's number, its run and its effects
 abbrev pub entry_spelling : Entry → List ℕ
 entry_spelling entry = u64_spelling entry.seq ++ (u64_spelling entry.run.0 ++ effects_spelling entry.effects)
 
+-- reading an entry
 unfoldable pub entry_at : ℕ → Rest → Result (Entry × Rest) ℕ
 entry_at format r = do
   seq ← checked is_seq next_u64 r
@@ -191,9 +203,11 @@ is_some_entry entries = not (length entries == 0)
 abbrev pub AreEntries : ℕ → List Entry → Type 0
 AreEntries format entries = IsList (λ (before : Option Entry). IsEntry format) entries × (is_some_entry entries ≡ true)
 
+-- the bytes of a payload of entries
 abbrev pub entries_spelling : List Entry → List ℕ
 entries_spelling entries = list_spelling entry_spelling entries
 
+-- reading a payload of entries, of which there is at least one
 unfoldable pub entries_at : ℕ → Rest → Result (List Entry × Rest) ℕ
 entries_at format r = checked is_some_entry (list_at (λ (before : Option Entry). entry_at format)) r
 

@@ -41,10 +41,12 @@ abbrev pub after_connect : World → List ℕ → ConnectReply → World
 after_connect w name (connected.Number conn) = swept (with_connection w name)
 after_connect w name (connected.Exhausted next) = w
 
+-- what a Connect answers, and the world after it
 abbrev pub Connects : World → List ℕ → ConnectReply → World → Type 0
 Connects w name (connected.Exhausted next) after = (NUMBERS_END ≤ w.next) × (next ≡ w.next) × (after ≡ after_connect w name (connected.Exhausted next))
 Connects w name (connected.Number conn) after = (w.next < NUMBERS_END) × (conn ≡ record { 0 = w.next }) × (after ≡ after_connect w name (connected.Number conn))
 
+-- whether what was found is a connection that takes inputs
 abbrev pub is_open_at : Option Connection → Bool
 is_open_at None = false
 is_open_at (Some c) = not c.closed
@@ -53,6 +55,7 @@ is_open_at (Some c) = not c.closed
 abbrev pub is_open : World → ConnNo → Bool
 is_open w conn = is_open_at (get w.connections conn)
 
+-- how many inputs wait at what was found
 abbrev pub waiting_at : Option Connection → ℕ
 waiting_at None = 0
 waiting_at (Some c) = length c.queue
@@ -65,6 +68,7 @@ waiting w conn = waiting_at (get w.connections conn)
 abbrev pub put_last : Waiting → Connection → Connection
 put_last x c = record c { queue = c.queue ++ x ∷ []; closed = c.closed || is_disconnect x }
 
+-- the world with one more input that waits at a connection
 abbrev pub with_input : World → ConnNo → Input → World
 with_input w conn input = record w { connections = change_connection conn (put_last (waits.Input input)) w.connections }
 
@@ -78,27 +82,33 @@ after_post w conn input posted.Taken = swept (with_input w conn input)
 after_post w conn input posted.Closed = w
 after_post w conn input (posted.QueueFull waiting) = w
 
+-- what a Post answers, and the world after it
 abbrev pub Posts : World → ConnNo → Input → PostReply → World → Type 0
 Posts w conn input posted.Closed after = (is_open w conn ≡ false) × (after ≡ after_post w conn input posted.Closed)
 Posts w conn input (posted.QueueFull n) after = (is_open w conn ≡ true) × (has_no_place w conn input ≡ true) × (n ≡ waiting w conn) × (after ≡ after_post w conn input (posted.QueueFull n))
 Posts w conn input posted.Taken after = (is_open w conn ≡ true) × (has_no_place w conn input ≡ false) × (after ≡ after_post w conn input posted.Taken)
 
+-- whether the budget, if there is one, allows one more claim
 abbrev pub has_left : Option Budget → Bool
 has_left None = true
 has_left (Some b) = nat_lt 0 b.left
 
+-- how many claims were granted under the budget
 abbrev pub granted_of : Option Budget → ℕ
 granted_of None = 0
 granted_of (Some b) = b.granted
 
+-- the budget after one more claim
 abbrev pub lowered : Option Budget → Option Budget
 lowered None = None
 lowered (Some b) = Some (record { granted = b.granted + 1; left = b.left - 1 })
 
+-- the budget after a claim was given back
 abbrev pub raised : Option Budget → Option Budget
 raised None = None
 raised (Some b) = Some (record { granted = b.granted - 1; left = b.left + 1 })
 
+-- whether a job is a task's
 abbrev pub is_task : Job → Bool
 is_task (job.Task key due period kind arg) = true
 is_task _ = false
@@ -140,6 +150,7 @@ committed w run job s = record w {
   connections = delivered job s.outs w.connections;
 }
 
+-- the messages that wait at what was found
 abbrev pub outbox_at : Option Connection → List Out
 outbox_at None = []
 outbox_at (Some c) = c.outbox
@@ -164,12 +175,15 @@ step_of rules w run claim = step rules claim.job run claim.at w.durable
 abbrev pub after_release : World → RunNo → World
 after_release w run = swept (without_claim w run)
 
+-- the world after a Commit, which does its claim's step
 abbrev pub after_step : Meaning → World → RunNo → Claim → World
 after_step rules w run claim = swept (committed w run claim.job (step_of rules w run claim))
 
+-- the world after a Hand
 abbrev pub after_hand : World → ConnNo → ℕ → World
 after_hand w conn most = swept (with_handed w conn most)
 
+-- the world after a Tick
 abbrev pub after_tick : World → ℕ → World
 after_tick w moment = swept (ticked w moment)
 

@@ -28,18 +28,21 @@ pub data Frame : Type 0 where
   Channel : (channel body : List ℕ) → Frame
   Logout : Frame
 
+-- the opcode of a client's frame
 abbrev pub opcode_of : Frame → ℕ
 opcode_of (Login name) = 1
 opcode_of (Message body) = 2
 opcode_of (Channel channel body) = 3
 opcode_of Logout = 4
 
+-- the bytes of a client's frame behind its opcode
 abbrev pub fields_of : Frame → List ℕ
 fields_of (Login name) = name_spelling name
 fields_of (Message body) = body
 fields_of (Channel channel body) = name_spelling channel ++ body
 fields_of Logout = []
 
+-- the bytes of a client's frame
 abbrev pub frame_spelling : Frame → List ℕ
 frame_spelling f = spelled (opcode_of f) (fields_of f)
 
@@ -58,6 +61,7 @@ out_opcode (out.Message body) = 0x83
 out_opcode (out.Channel channel body) = 0x84
 out_opcode out.Close = 0x85
 
+-- the bytes of a server's frame behind its opcode
 abbrev pub out_fields : Out → List ℕ
 out_fields out.Accepted = []
 out_fields out.Refused = []
@@ -65,6 +69,7 @@ out_fields (out.Message body) = body
 out_fields (out.Channel channel body) = name_spelling channel ++ body
 out_fields out.Close = []
 
+-- the bytes of a server's frame
 abbrev pub out_spelling : Out → List ℕ
 out_spelling o = spelled (out_opcode o) (out_fields o)
 
@@ -96,6 +101,7 @@ MayCome AtLogin opcode = opcode ≡ 1
 MayCome InSession opcode = (2 ≤ opcode) × (opcode ≤ 4)
 MayCome LoggedOut opcode = ⊥
 
+-- the stage of a session after this frame
 abbrev pub stage_behind : Frame → Stage
 stage_behind (Login name) = InSession
 stage_behind (Message body) = InSession

@@ -34,6 +34,7 @@ pub record IsImageValue (format : ℕ) (d : Durable) : Type 0 where
 abbrev pub image_spelling : Durable → List ℕ
 image_spelling d = u64_spelling d.commits ++ (u64_spelling (next_of d.last) ++ (list_spelling object_spelling d.objects ++ (list_spelling binding_spelling d.names ++ list_spelling pending_spelling d.tasks)))
 
+-- reading an image: commits, the next run, objects, names and tasks
 unfoldable pub image_at : ℕ → Rest → Result (Durable × Rest) ℕ
 image_at format r = do
   commits ← next_u64 r

@@ -56,6 +56,7 @@ LeavesTasks a b = (key : TaskKey) (before after : Task) → get a.world.tasks ke
 abbrev pub HasShortBody : Out → Type 0
 HasShortBody message = length (body_of message) ≤ BODY_MOST_BYTES
 
+-- each message has a body within its limit
 abbrev pub HaveShortBodies : List (ConnNo × Out) → Type 0
 HaveShortBodies outs = All (λ o. HasShortBody o.1) outs
 

@@ -27,6 +27,7 @@ pass_of (event.Tick pass moment) = pass
 abbrev pub IsPassCount : ℕ → Type 0
 IsPassCount count = (0 < count) × (count ≤ PASSES_MOST_COUNT)
 
+-- whether an event is a Commit
 abbrev pub is_commit : Event → Bool
 is_commit (event.Commit pass run seq outcome) = true
 is_commit (event.Connect pass name reply) = false

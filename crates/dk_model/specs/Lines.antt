@@ -11,6 +11,7 @@ lines_of (b ∷ bytes) = if b == 10 then [] ∷ lines_of bytes else onto_first b
 abbrev pub text_of : List (List ℕ) → List ℕ
 text_of lines = flat_map (λ line. line ++ 10 ∷ []) lines
 
+-- whether a byte is a space
 abbrev pub is_space : ℕ → Bool
 is_space b = b == 32
 
@@ -22,6 +23,7 @@ first_word = before_first is_space
 abbrev pub after_word : List ℕ → List ℕ
 after_word = after_first is_space
 
+-- the letter of a hexadecimal digit
 abbrev pub hex_digit : ℕ → ℕ
 hex_digit n = if nat_lt n 10 then 48 + n else 87 + n
 
@@ -33,5 +35,6 @@ is_plain b = nat_le 32 b && nat_le b 126 && not (b == 92)
 abbrev pub byte_text : ℕ → List ℕ
 byte_text b = if is_plain b then b ∷ [] else 92 ∷ 120 ∷ hex_digit (b / 16) ∷ hex_digit (b % 16) ∷ []
 
+-- bytes as the text of a line has them
 abbrev pub escaped : List ℕ → List ℕ
 escaped bytes = flat_map byte_text bytes

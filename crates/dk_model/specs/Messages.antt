@@ -11,6 +11,7 @@ use Rattle.dk_model.specs.Deliveries.{Connections, sent, conn_of, for_conn, inpu
 use Rattle.dk_model.specs.Events.{Meaning, step_of}
 use Rattle.dk_model.specs.Successors.{after_event}
 
+-- whether two numbers are those of one connection
 abbrev pub same_conn : ConnNo → ConnNo → Bool
 same_conn a b = nat_eq a.0 b.0
 
@@ -18,6 +19,7 @@ same_conn a b = nat_eq a.0 b.0
 abbrev pub appended : ConnNo → List (ConnNo × Out) → Connections → List Out
 appended conn outs all = map (λ o. o.1) (filter (λ o. same_conn o.0 conn) (sent outs all).appended)
 
+-- what a commit appends to a connection's messages, where its claim was found
 abbrev pub appended_at : Meaning → World → ConnNo → RunNo → Option Claim → List Out
 appended_at rules w conn run None = []
 appended_at rules w conn run (Some claim) = appended conn (step_of rules w run claim).outs (for_conn (conn_of claim.job) input_left w.connections)
@@ -37,6 +39,7 @@ abbrev pub messages : Meaning → World → List Event → ConnNo → List Out
 messages rules w [] conn = []
 messages rules w (e ∷ events) conn = appended_by rules w conn e ++ messages rules (after_event rules w e) events conn
 
+-- what an event hands to a connection
 abbrev pub handed_by : ConnNo → Event → List Out
 handed_by conn (event.Hand pass to most outs end) = if same_conn to conn then outs else []
 handed_by conn (event.Connect pass name reply) = []

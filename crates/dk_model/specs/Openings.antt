@@ -30,6 +30,7 @@ abbrev pub counted : DurableWorld → List ℕ → Option SessionRecord → Opti
 counted d name None = None
 counted d name (Some r) = if nat_lt r.conn.0 (next_of d.last) then Some (record { name = name; conn = r.conn }) else None
 
+-- the session that a record under this name stands for, if it counts
 abbrev pub session_at : DurableWorld → Option (List ℕ) → ObjectId → Option Session
 session_at d None id = None
 session_at d (Some name) id = counted d name (record_in (get d.objects id))
@@ -38,6 +39,7 @@ session_at d (Some name) id = counted d name (record_in (get d.objects id))
 abbrev pub recorded : DurableWorld → List Session
 recorded d = filter_map (λ e. session_at d (login_of e.0) e.1) (entries d.names)
 
+-- whether a session has this connection's number
 abbrev pub has_number : ConnNo → Session → Bool
 has_number conn session = nat_eq session.conn.0 conn.0
 
@@ -63,10 +65,12 @@ ended_connection s = record {
   over = false;
 }
 
+-- each of these sessions as a connection that is over but for its Disconnect
 abbrev pub with_sessions : List Session → FinMap conn_cmp Connection → FinMap conn_cmp Connection
 with_sessions [] all = all
 with_sessions (s ∷ sessions) all = with_sessions sessions (insert all s.conn (ended_connection s))
 
+-- a budget of so many claims, none of which is granted yet
 abbrev pub budget_of : Option ℕ → Option Budget
 budget_of None = None
 budget_of (Some most) = Some (record { granted = 0; left = most })

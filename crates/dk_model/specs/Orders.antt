@@ -20,6 +20,7 @@ pub data OrderItem : Type 0 where
   Claimed : (run at : ℕ) (job : List ℕ) → OrderItem
   Committed : (run : ℕ) (outcome : List ℕ) → OrderItem
 
+-- a job as a claim line tells it
 abbrev pub job_text : Job → List ℕ
 job_text job.Initialize = codes "initialize"
 job_text (job.Login conn name) = codes "login " ++ escaped name
@@ -28,6 +29,7 @@ job_text (job.Channel conn name channel body) = codes "channel " ++ escaped name
 job_text (job.Disconnect conn name graceful) = codes "disconnect " ++ escaped name
 job_text (job.Task key due period kind arg) = codes "task " ++ decimal key.run.0 ++ 46 ∷ decimal key.k
 
+-- an outcome as a commit line tells it
 abbrev pub outcome_text : Outcome → List ℕ
 outcome_text outcome.Ok = codes "ok"
 outcome_text (outcome.Fail (fault.Refused n)) = codes "fail r" ++ decimal n
@@ -49,6 +51,7 @@ item_of_line line =
     else if same_name (first_word line) (codes "commit") then Some (commit_of (after_word line))
     else None
 
+-- whether a line begins a phase
 abbrev pub is_phase_line : List ℕ → Bool
 is_phase_line line = same_name (first_word line) (codes "phase")
 
@@ -61,6 +64,7 @@ parted (line ∷ lines) = let p = parted lines in if is_phase_line line then ([]
 unfoldable pub order_of : List ℕ → List (List OrderItem)
 order_of text = map (filter_map item_of_line) ((parted (lines_of text)).1)
 
+-- what a claim adds to the order, where it was granted
 abbrev pub item_of_claim : ClaimReply → Option OrderItem
 item_of_claim (claimed.Granted run at job) = Some (Claimed run.0 at (job_text job))
 item_of_claim claimed.Nothing = None

@@ -14,6 +14,7 @@ use Rattle.dk_model.specs.Keys.{key_cmp}
 use Rattle.dk_model.specs.DurableWorlds.{Task}
 use Rattle.dk_model.specs.Worlds.{World, Connection}
 
+-- whether a job is the one that makes the world
 abbrev pub is_initialize : Job → Bool
 is_initialize job.Initialize = true
 is_initialize _ = false
@@ -43,6 +44,7 @@ job_of conn name (waits.Input (input.Message body)) = job.Message conn name body
 job_of conn name (waits.Input (input.Channel channel body)) = job.Channel conn name channel body
 job_of conn name (waits.Input (input.Disconnect graceful)) = job.Disconnect conn name graceful
 
+-- the job of the first input that waits, if one does
 abbrev pub first_job : ConnNo → List ℕ → List Waiting → Option Job
 first_job conn name [] = None
 first_job conn name (x ∷ queue) = Some (job_of conn name x)
@@ -52,6 +54,7 @@ pub record Turn : Type 0 where
   pub turn : ℕ
   pub job : Job
 
+-- a job with its turn, if there is one
 abbrev pub turn_of : ℕ → Option Job → Option Turn
 turn_of turn None = None
 turn_of turn (Some job) = Some (record { turn = turn; job = job })
@@ -60,9 +63,11 @@ turn_of turn (Some job) = Some (record { turn = turn; job = job })
 abbrev pub input_of : World → ConnNo × Connection → Option Turn
 input_of w e = if is_claimed (is_of e.0) w then None else turn_of e.1.turn (first_job e.0 e.1.name e.1.queue)
 
+-- the first inputs that can be run, in the order of their connections
 abbrev pub inputs : World → List Turn
 inputs w = filter_map (input_of w) (entries w.connections)
 
+-- a pending task as a job
 abbrev pub task_job : TaskKey × Task → Job
 task_job e = job.Task e.0 e.1.due e.1.period e.1.kind e.1.arg
 
@@ -70,6 +75,7 @@ task_job e = job.Task e.0 e.1.due e.1.period e.1.kind e.1.arg
 abbrev pub is_due : World → TaskKey × Task → Bool
 is_due w e = nat_le e.1.due w.moment && not (is_claimed (is_task_of e.0) w)
 
+-- the tasks that are due and not claimed
 abbrev pub due_tasks : World → List (TaskKey × Task)
 due_tasks w = filter (is_due w) (entries w.durable.tasks)
 
@@ -77,9 +83,11 @@ due_tasks w = filter (is_due w) (entries w.durable.tasks)
 abbrev pub first_runs : World → List Job
 first_runs w = if is_claimed is_initialize w then [] else job.Initialize ∷ []
 
+-- all jobs that can be run now
 abbrev pub runnable : World → List Job
 runnable w = if w.durable.commits == 0 then first_runs w else map task_job (due_tasks w) ++ map (λ t. t.job) (inputs w)
 
+-- the one that comes before the other, if both are there
 abbrev pub lesser : {A : Type 0} → (A → A → Bool) → A → Option A → Option A
 lesser before x None = Some x
 lesser before x (Some y) = if before y x then Some y else Some x
@@ -93,23 +101,29 @@ least before (x ∷ xs) = lesser before x (least before xs)
 abbrev pub is_sooner : TaskKey × Task → TaskKey × Task → Bool
 is_sooner a b = is_lt (ordering_then (nat_cmp a.1.due b.1.due) (key_cmp a.0 b.0))
 
+-- whether one turn comes before another
 abbrev pub is_earlier : Turn → Turn → Bool
 is_earlier a b = nat_lt a.turn b.turn
 
+-- what is there, changed
 abbrev pub mapped : {A B : Type 0} → (A → B) → Option A → Option B
 mapped f None = None
 mapped f (Some x) = Some (f x)
 
+-- the first if it is there, else the second
 abbrev pub or_else : {A : Type 0} → Option A → Option A → Option A
 or_else None b = b
 or_else (Some a) b = Some a
 
+-- the task that is to be run first
 abbrev pub pick_task : World → Option Job
 pick_task w = mapped task_job (least is_sooner (due_tasks w))
 
+-- the input that is to be run first
 abbrev pub pick_input : World → Option Job
 pick_input w = mapped (λ t. t.job) (least is_earlier (inputs w))
 
+-- the first of a list, if it has one
 abbrev pub first_of_list : {A : Type 0} → List A → Option A
 first_of_list [] = None
 first_of_list (x ∷ xs) = Some x

@@ -18,9 +18,11 @@ use Rattle.dk_model.specs.declared.records.ChannelRecord.{ChannelRecord}
 use Rattle.dk_model.specs.declared.records.Delivery.{Delivery}
 use Rattle.dk_model.specs.Records.{SESSION_KIND, CHANNEL_KIND, session_bytes, session_of, channel_bytes, channel_of, session_name, channel_name, is_name_too_long}
 
+-- whether two names are equal
 abbrev pub same_name : List ℕ → List ℕ → Bool
 same_name = pointwise nat_eq
 
+-- whether two sessions have the same name and connection
 abbrev pub same_session : Session → Session → Bool
 same_session a b = same_name a.name b.name && nat_eq a.conn.0 b.conn.0
 
@@ -28,6 +30,7 @@ same_session a b = same_name a.name b.name && nat_eq a.conn.0 b.conn.0
 abbrev pub platform_bound : Run → List ℕ → Option ObjectId
 platform_bound s name = if is_name_too_long name then None else maps.get s.world.names name
 
+-- the object of a bound name, read as this kind
 abbrev pub found_as : {A : Type 0} → Option ObjectId → ℕ → (List ℕ → Option A) → Act (ObjectId × A)
 found_as None kind read s = refuse NAME_NOT_BOUND s
 found_as (Some id) kind read s = and_then (get_as kind read id) (λ x. give (Ok (id, x))) s
@@ -36,9 +39,11 @@ found_as (Some id) kind read s = and_then (get_as kind read id) (λ x. give (Ok 
 abbrev pub record_under : {A : Type 0} → List ℕ → ℕ → (List ℕ → Option A) → Act (ObjectId × A)
 record_under name kind read s = found_as (platform_bound s name) kind read s
 
+-- the session record under a login name
 abbrev pub session_under : List ℕ → Act (ObjectId × SessionRecord)
 session_under name = record_under (session_name name) SESSION_KIND session_of
 
+-- the channel record under a channel's name
 abbrev pub channel_under : List ℕ → Act (ObjectId × ChannelRecord)
 channel_under name = record_under (channel_name name) CHANNEL_KIND channel_of
 
@@ -46,6 +51,7 @@ channel_under name = record_under (channel_name name) CHANNEL_KIND channel_of
 abbrev pub own_record : Session → Act (ObjectId × SessionRecord)
 own_record session = and_then (session_under session.name) (λ r. if nat_eq r.1.conn.0 session.conn.0 then give (Ok r) else refuse NAME_NOT_BOUND)
 
+-- whether the session record that was found is this connection's
 abbrev pub numbered : Option ObjectId → ConnNo → Act Bool
 numbered None conn s = (Ok false, s)
 numbered (Some id) conn s = and_then (get_as SESSION_KIND session_of id) (λ r. give (Ok (nat_eq r.conn.0 conn.0))) s
@@ -96,12 +102,15 @@ get_channel name s =
     if is_name_too_long (channel_name name) then refuse TOO_LONG s
     else and_then (bound (channel_name name)) (λ _. give (Ok tt)) s
 
+-- whether a session is among the members
 abbrev pub is_member : Session → List Session → Bool
 is_member session members = list_any (same_session session) members
 
+-- the members but for this session
 abbrev pub without_member : Session → List Session → List Session
 without_member session members = filter (λ m. not (same_session session m)) members
 
+-- the channels' names but for this one
 abbrev pub without_channel : List ℕ → List (List ℕ) → List (List ℕ)
 without_channel name channels = filter (λ c. not (same_name name c)) channels
 
@@ -109,6 +118,7 @@ without_channel name channels = filter (λ c. not (same_name name c)) channels
 abbrev pub save_both : ObjectId → List ℕ → ObjectId → List ℕ → Act (Unit {0})
 save_both a x b y = if is_too_long x || is_too_long y then refuse TOO_LONG else and_then (save a x) (λ _. save b y)
 
+-- a session joins a channel, given both records: both are saved, unless it is a member
 abbrev pub join_records : List ℕ → Session → ObjectId × ChannelRecord → ObjectId × SessionRecord → Act (Unit {0})
 join_records name session c r =
     if is_member session c.1.members then give (Ok tt)
@@ -118,6 +128,7 @@ join_records name session c r =
 unfoldable pub join : List ℕ → Session → Act (Unit {0})
 join name session = within Platform (and_then (channel_under name) (λ c. and_then (own_record session) (λ r. join_records name session c r)))
 
+-- a session leaves a channel, given both records: both are saved, if it is a member
 abbrev pub leave_records : List ℕ → Session → ObjectId × ChannelRecord → ObjectId × SessionRecord → Act (Unit {0})
 leave_records name session c r =
     if is_member session c.1.members
@@ -128,6 +139,7 @@ leave_records name session c r =
 unfoldable pub leave : List ℕ → Session → Act (Unit {0})
 leave name session = within Platform (and_then (channel_under name) (λ c. and_then (own_record session) (λ r. leave_records name session c r)))
 
+-- the session record that was found, if it is this connection's
 abbrev pub recorded_as : Option ObjectId → ConnNo → Act (Option (ObjectId × SessionRecord))
 recorded_as None conn s = (Ok None, s)
 recorded_as (Some id) conn s = and_then (get_as SESSION_KIND session_of id) (λ r. give (Ok (if nat_eq r.conn.0 conn.0 then Some (id, r) else None))) s
@@ -136,6 +148,7 @@ recorded_as (Some id) conn s = and_then (get_as SESSION_KIND session_of id) (λ 
 abbrev pub record_if_connected : Session → Act (Option (ObjectId × SessionRecord))
 record_if_connected session s = recorded_as (platform_bound s (session_name session.name)) session.conn s
 
+-- a channel's name taken out of a session's record, if there is one
 abbrev pub drop_recorded : List ℕ → Option (ObjectId × SessionRecord) → Act (Unit {0})
 drop_recorded name None = give (Ok tt)
 drop_recorded name (Some r) = save r.0 (session_bytes (record (r.1) { channels = without_channel name r.1.channels }))
@@ -144,10 +157,12 @@ drop_recorded name (Some r) = save r.0 (session_bytes (record (r.1) { channels =
 unfoldable pub drop_channel : List ℕ → Session → Act (Unit {0})
 drop_channel name session = and_then (record_if_connected session) (drop_recorded name)
 
+-- the channel taken out of each member's record
 abbrev pub drop_each : List ℕ → List Session → Act (Unit {0})
 drop_each name [] = give (Ok tt)
 drop_each name (m ∷ members) = and_then (drop_channel name m) (λ _. drop_each name members)
 
+-- all members leave a channel, if it has any
 abbrev pub leave_members : List ℕ → ObjectId × ChannelRecord → List Session → Act (Unit {0})
 leave_members name c [] = give (Ok tt)
 leave_members name c (m ∷ members) = and_then (save c.0 (channel_bytes (record (c.1) { members = [] }))) (λ _. drop_each name (m ∷ members))
@@ -160,6 +175,7 @@ leave_all name = within Platform (and_then (channel_under name) (λ c. leave_mem
 unfoldable pub members : List ℕ → Act (List Session)
 members name = and_then (channel_under name) (λ c. give (Ok c.1.members))
 
+-- whether one may send: nobody in particular, or a member
 abbrev pub is_sender : Option Session → List Session → Bool
 is_sender None members = true
 is_sender (Some session) members = is_member session members

@@ -17,12 +17,15 @@ use Rattle.dk_types.specs.Lists.{list_spelling, list_at}
 abbrev pub value_of : {A : Type 0} → (Rest → Result (A × Rest) ℕ) → List ℕ → Option A
 value_of next bytes = result_ok (whole next bytes)
 
+-- the kind of a session's record
 abbrev pub SESSION_KIND : ℕ
 SESSION_KIND = 65281
 
+-- the bytes of a session's record: its connection and the names of its channels
 abbrev pub session_bytes : SessionRecord → List ℕ
 session_bytes r = u64_spelling r.conn.0 ++ list_spelling name_spelling r.channels
 
+-- reading a session's record
 unfoldable pub next_session : Rest → Result (SessionRecord × Rest) ℕ
 next_session r = do
   conn ← next_u64 r
@@ -41,6 +44,7 @@ session_name name = 36 ∷ 115 ∷ 46 ∷ name
 abbrev pub is_name_too_long : List ℕ → Bool
 is_name_too_long name = nat_lt 255 (length name)
 
+-- the kind of a channel's record
 abbrev pub CHANNEL_KIND : ℕ
 CHANNEL_KIND = 65282
 
@@ -51,6 +55,7 @@ delivery_number UnorderedReliable = 1
 delivery_number OrderedUnreliable = 2
 delivery_number Unreliable = 3
 
+-- the delivery of a number from 0 to 3
 abbrev pub delivery_of : ℕ → Delivery
 delivery_of n = if n == 0 then Reliable else if n == 1 then UnorderedReliable else if n == 2 then OrderedUnreliable else Unreliable
 
@@ -59,18 +64,22 @@ abbrev pub flag : Bool → ℕ
 flag false = 0
 flag true = 1
 
+-- the bytes of a member: name and connection
 abbrev pub member_bytes : Session → List ℕ
 member_bytes m = name_spelling m.name ++ u64_spelling m.conn.0
 
+-- the bytes of a channel's record: whether the game listens, the delivery, and the members
 abbrev pub channel_bytes : ChannelRecord → List ℕ
 channel_bytes r = u8_spelling (flag r.listener) ++ (u8_spelling (delivery_number r.delivery) ++ list_spelling member_bytes r.members)
 
+-- reading a member
 unfoldable pub next_member : Rest → Result (Session × Rest) ℕ
 next_member r = do
   name ← next_name r
   conn ← next_u64 name.1
   Ok (record { name = name.0; conn = record { 0 = conn.0 } }, conn.1)
 
+-- reading a channel's record
 unfoldable pub next_channel : Rest → Result (ChannelRecord × Rest) ℕ
 next_channel r = do
   listener ← checked (λ b. nat_lt b 2) next_u8 r

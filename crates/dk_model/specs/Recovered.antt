@@ -75,6 +75,7 @@ pub data Recovered : Type 0 where
   NotAStore : (side : Side) (at : ℕ) → Recovered
   Damaged : (side : Side) (at : ℕ) → Recovered
 
+-- the file on this side
 abbrev pub file_on : Side → List ℕ → List ℕ → List ℕ
 file_on Zero zero one = zero
 file_on One zero one = one

@@ -45,9 +45,11 @@ begun run at d = record {
 abbrev pub Act : Type 0 → Type 0
 Act A = Run → Result A AppFault × Run
 
+-- a step that answers this and changes nothing
 unfoldable pub give : {A : Type 0} → Result A AppFault → Act A
 give r s = (r, s)
 
+-- the next step, unless the one before it failed
 abbrev pub carry_on : {A B : Type 0} → Result A AppFault → (A → Act B) → Act B
 carry_on (Ok x) f = f x
 carry_on (Err e) f = λ s. (Err e, s)
@@ -64,33 +66,43 @@ within mode m s = let p = m (record s { mode = mode }) in (p.0, record (p.1) { m
 abbrev pub NAME_NOT_BOUND : ℕ
 NAME_NOT_BOUND = 1
 
+-- there is no such object or task
 abbrev pub OBJECT_NOT_FOUND : ℕ
 OBJECT_NOT_FOUND = 2
 
+-- the object is of another kind
 abbrev pub WRONG_KIND : ℕ
 WRONG_KIND = 3
 
+-- an object, an argument or a body has too many bytes
 abbrev pub TOO_LONG : ℕ
 TOO_LONG = 4
 
+-- a delay or a period is out of its limits
 abbrev pub BAD_DELAY : ℕ
 BAD_DELAY = 5
 
+-- the name or the kind is the platform's
 abbrev pub RESERVED : ℕ
 RESERVED = 6
 
+-- the run has made, scheduled or sent as many as it may
 abbrev pub TOO_MANY : ℕ
 TOO_MANY = 8
 
+-- the name is bound already
 abbrev pub NAME_EXISTS : ℕ
 NAME_EXISTS = 9
 
+-- the bytes are none of a value of this type
 abbrev pub BAD_BYTES : ℕ
 BAD_BYTES = 10
 
+-- a step that is refused by this number and changes nothing
 abbrev pub refuse : {A : Type 0} → ℕ → Run → Result A AppFault × Run
 refuse n s = (Err (Refused n), s)
 
+-- whether the game's own code runs
 abbrev pub is_game : Mode → Bool
 is_game Game = true
 is_game Platform = false
@@ -99,6 +111,7 @@ is_game Platform = false
 abbrev pub is_reserved_kind : Mode → ℕ → Bool
 is_reserved_kind mode kind = is_game mode && nat_le 65280 kind
 
+-- whether a name is one of the platform's
 abbrev pub begins_with_dollar : List ℕ → Bool
 begins_with_dollar [] = false
 begins_with_dollar (b ∷ bs) = b == 36
@@ -107,6 +120,7 @@ begins_with_dollar (b ∷ bs) = b == 36
 abbrev pub is_reserved_name : Mode → List ℕ → Bool
 is_reserved_name mode name = is_game mode && begins_with_dollar name
 
+-- whether these are more bytes than an object, an argument or a body has
 abbrev pub is_too_long : List ℕ → Bool
 is_too_long bytes = nat_lt BODY_MOST_BYTES (length bytes)
 
@@ -122,6 +136,7 @@ with_name s name id = record s { world = record (s.world) { names = with_value s
 abbrev pub with_task : Run → TaskKey → Option Task → Run
 with_task s key task = record s { world = record (s.world) { tasks = with_value s.world.tasks key task }; touched = s.touched ++ ask.Task key ∷ [] }
 
+-- what was found, or a refusal by this number
 abbrev pub found : {A : Type 0} → ℕ → Option A → Result A AppFault
 found n None = Err (Refused n)
 found n (Some x) = Ok x
@@ -134,6 +149,7 @@ get id s = (found OBJECT_NOT_FOUND (map.get s.world.objects id), s)
 abbrev pub next_id : Run → ObjectId
 next_id s = record { run = s.number; k = s.objects_made }
 
+-- makes an object
 unfoldable pub create : ℕ → List ℕ → Act ObjectId
 create kind bytes s =
     if is_reserved_kind s.mode kind then refuse RESERVED s
@@ -146,6 +162,7 @@ abbrev pub change_found : Option Object → ObjectId → (Object → Option Obje
 change_found None id change s = refuse OBJECT_NOT_FOUND s
 change_found (Some object) id change s = if is_reserved_kind s.mode object.kind then refuse RESERVED s else (Ok tt, with_object s id (change object))
 
+-- changes the object under an id
 abbrev pub change_object : ObjectId → (Object → Option Object) → Act (Unit {0})
 change_object id change s = change_found (map.get s.world.objects id) id change s
 
@@ -169,10 +186,12 @@ bound name s = (found NAME_NOT_BOUND (map.get s.world.names name), s)
 unfoldable pub bind : List ℕ → ObjectId → Act (Unit {0})
 bind name id s = if is_reserved_name s.mode name then refuse RESERVED s else (Ok tt, with_name s name (Some id))
 
+-- takes a name away where it was found bound
 abbrev pub unbind_found : Option ObjectId → List ℕ → Act (Unit {0})
 unbind_found None name s = refuse NAME_NOT_BOUND s
 unbind_found (Some id) name s = (Ok tt, with_name s name None)
 
+-- takes a name away
 unfoldable pub unbind : List ℕ → Act (Unit {0})
 unbind name s = if is_reserved_name s.mode name then refuse RESERVED s else unbind_found (map.get s.world.names name) name s
 
@@ -190,18 +209,21 @@ scheduled kind arg delay period s =
     if nat_le TASKS_MOST_COUNT s.tasks_made then refuse TOO_MANY s
     else (Ok (next_key s), with_task (record s { tasks_made = s.tasks_made + 1 }) (next_key s) (Some (record { due = s.at + delay; period = period; kind = kind; arg = arg })))
 
+-- schedules a task that is run once
 unfoldable pub schedule : ℕ → List ℕ → ℕ → Act TaskKey
 schedule kind arg delay s =
     if is_too_long arg then refuse TOO_LONG s
     else if nat_lt DELAY_MOST_MS delay then refuse BAD_DELAY s
     else scheduled kind arg delay 0 s
 
+-- schedules a task that is run again after each period
 unfoldable pub schedule_periodic : ℕ → List ℕ → ℕ → ℕ → Act TaskKey
 schedule_periodic kind arg delay period s =
     if is_too_long arg then refuse TOO_LONG s
     else if nat_lt DELAY_MOST_MS delay || nat_lt PERIOD_MOST_MS period || period == 0 then refuse BAD_DELAY s
     else scheduled kind arg delay period s
 
+-- takes a task away where it was found
 abbrev pub cancel_found : Option Task → TaskKey → Act (Unit {0})
 cancel_found None key s = refuse OBJECT_NOT_FOUND s
 cancel_found (Some task) key s = (Ok tt, with_task s key None)

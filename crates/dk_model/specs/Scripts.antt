@@ -30,6 +30,7 @@ line_text (line.Tick moment) = codes "tick " ++ decimal moment
 abbrev pub sync_text : List ℕ
 sync_text = codes "sync"
 
+-- a text of a line, within its limit and of its bytes
 abbrev pub IsText : List ℕ → Type 0
 IsText text = (length text ≤ TEXT_MOST_BYTES) × (list_all is_text_byte text ≡ true)
 
@@ -65,6 +66,7 @@ Says text PassedOver = is_passed_over text ≡ true
 Says text (Does l) = (text ≡ line_text l) × IsLine l
 Says text Sync = text ≡ sync_text
 
+-- the names that mean connections
 abbrev pub LineNames : Type 0
 LineNames = sets.FinSet bytes_cmp
 
@@ -128,6 +130,7 @@ pub record IsScript (bytes : List ℕ) (phases : List (List Line)) : Type 0 wher
 abbrev pub IsOutside : LineNames → List ℕ → Type 0
 IsOutside names text = (s : Spoken) → Says text s → MaySay names s → ⊥
 
+-- whether a byte ends a line
 abbrev pub is_end : ℕ → Bool
 is_end b = b == 10
 
@@ -158,6 +161,7 @@ abbrev pub AllMayStand : LineNames → List Line → Type 0
 AllMayStand names [] = Unit {0}
 AllMayStand names (l ∷ lines) = IsLine l × MayStand names l × AllMayStand (names_after names l) lines
 
+-- the names that mean connections after these lines
 abbrev pub names_through : LineNames → List Line → LineNames
 names_through names [] = names
 names_through names (l ∷ lines) = names_through (names_after names l) lines

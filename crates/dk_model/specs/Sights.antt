@@ -21,6 +21,7 @@ use Rattle.dk_model.specs.Steps.{Stepped}
 use Rattle.dk_model.specs.Events.{Meaning}
 use Rattle.dk_model.specs.Successors.{after_event, after_events, step_by}
 
+-- whether two keys are those of one task
 abbrev pub same_key : TaskKey → TaskKey → Bool
 same_key a b = nat_eq a.run.0 b.run.0 && nat_eq a.k b.k
 
@@ -36,6 +37,7 @@ abbrev pub stamped_by : Item → ℕ → Option Stepped → ℕ
 stamped_by item stamp None = stamp
 stamped_by item stamp (Some s) = if list_any (same_item item) s.touched then s.world.commits else stamp
 
+-- the number of the last commit of these events that wrote the item, or the stamp from before them
 abbrev pub stamp_from : Meaning → World → ℕ → List Event → Item → ℕ
 stamp_from rules w stamp [] item = stamp
 stamp_from rules w stamp (e ∷ events) item = stamp_from rules (after_event rules w e) (stamped_by item stamp (step_by rules w e)) events item
@@ -44,6 +46,7 @@ stamp_from rules w stamp (e ∷ events) item = stamp_from rules (after_event rul
 abbrev pub stamp : Meaning → World → List Event → Item → ℕ
 stamp rules w events item = stamp_from rules w w.durable.commits events item
 
+-- what is seen where something stands, with its stamp, or of nothing
 abbrev pub seen_at : Bool → ℕ → Seen
 seen_at true stamp = sight.At stamp
 seen_at false stamp = sight.Absent
@@ -64,6 +67,7 @@ pub record IsReadAt (rules : Meaning) (w : World) (events : List Event) (item : 
   pub answered : read.answer ≡ answer (after_events rules w events).durable item
   pub saw : read.seen ≡ seen rules w events item
 
+-- whether a claim was granted to this run
 abbrev pub is_claim_of : RunNo → ClaimReply → Bool
 is_claim_of run (claimed.Granted r at job) = nat_eq r.0 run.0
 is_claim_of run claimed.Nothing = false

@@ -29,6 +29,7 @@ use Rattle.dk_model.specs.Platforms.{platform_bound, is_connected, find_session,
 abbrev pub next_due : ℕ → ℕ → ℕ → ℕ
 next_due due period at = due + period * ((at - due) / period + 1)
 
+-- whether a task is pending still; where it was found, it is taken out or given its next due moment
 abbrev pub own_found : Option Task → TaskKey → ℕ → ℕ → Act Bool
 own_found None key due period s = (Ok false, s)
 own_found (Some task) key due period s =
@@ -43,6 +44,7 @@ own_task key due period s = own_found (maps.get s.world.tasks key) key due perio
 abbrev pub of_session : ConnNo → List ℕ → Session
 of_session conn name = record { name = name; conn = conn }
 
+-- a session leaves each of these channels
 abbrev pub leave_channels : Session → List (List ℕ) → Act (Unit {0})
 leave_channels session [] = give (Ok tt)
 leave_channels session (c ∷ channels) = and_then (leave c session) (λ _. leave_channels session channels)
@@ -60,6 +62,7 @@ lost session = job.Disconnect session.conn session.name false
 abbrev pub displace : Session → (Job → Act (Unit {0})) → Act (Unit {0})
 displace old game = and_then (end_session old (game (lost old))) (λ _. send old.conn out.Close)
 
+-- the old session of a name is displaced where its record was found
 abbrev pub displace_found : Option ObjectId → List ℕ → (Job → Act (Unit {0})) → Act (Unit {0})
 displace_found None name game = give (Ok tt)
 displace_found (Some id) name game = and_then (find_session name) (λ old. displace old game)
@@ -76,10 +79,12 @@ admit session game = and_then (open_record session) (λ _. and_then (send sessio
 abbrev pub for_session : Session → Act (Unit {0}) → Act (Unit {0})
 for_session session act = and_then (is_connected session) (λ connected. if connected then act else give (Ok tt))
 
+-- what a channel's message does where its record was found: a member's goes to the game, or on to the members
 abbrev pub heard : Session → List ℕ → List ℕ → Act (Unit {0}) → ChannelRecord → Act (Unit {0})
 heard session channel body game r =
     if is_member session r.members then (if r.listener then game else channel_send channel None body) else give (Ok tt)
 
+-- what a channel's message does, by whether there is such a channel
 abbrev pub channel_found : Option ObjectId → Session → List ℕ → List ℕ → Act (Unit {0}) → Act (Unit {0})
 channel_found None session channel body game = give (Ok tt)
 channel_found (Some id) session channel body game = and_then (get_as CHANNEL_KIND channel_of id) (heard session channel body game)

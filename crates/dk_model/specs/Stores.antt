@@ -16,6 +16,7 @@ pub record StoreHeader : Type 0 where
   pub epoch : ℕ
   pub format : ℕ
 
+-- a header within its limits
 pub record IsHeader (header : StoreHeader) : Type 0 where
   pub game : IsGameId header.game
   pub epoch : header.epoch < NUMBERS_END
@@ -64,15 +65,19 @@ is_blank file = nat_le (length file) 1 || not (slice_index file 0 == 1)
 abbrev pub format_in : List ℕ → ℕ
 format_in bytes = from_be_bytes w16 (take 2 (drop 9 bytes))
 
+-- the number of times that the store was written anew
 abbrev pub epoch_in : List ℕ → ℕ
 epoch_in bytes = from_be_bytes w64 (take 8 (drop 11 bytes))
 
+-- how many bytes the game's id has
 abbrev pub game_length_in : List ℕ → ℕ
 game_length_in bytes = slice_index bytes 19
 
+-- the game's id
 abbrev pub game_in : List ℕ → List ℕ
 game_in bytes = take (game_length_in bytes) (drop 20 bytes)
 
+-- what 64 bytes say as a header
 abbrev pub header_in : List ℕ → StoreHeader
 header_in bytes = record { game = game_in bytes; epoch = epoch_in bytes; format = format_in bytes }
 
@@ -97,6 +102,7 @@ pub data Look : Type 0 where
   Live : (header : StoreHeader) → Look
   Faulty : (at : ℕ) → Look
 
+-- a file's look by its header and the place of the header's first fault
 abbrev pub look_of_header : List ℕ → Option ℕ → Look
 look_of_header bytes None = Live (header_in bytes)
 look_of_header bytes (Some at) = Faulty at
@@ -121,5 +127,6 @@ standing_of length_ Blank (Live k) = StandsOn One k
 standing_of length_ (Live h) (Live k) = if nat_lt k.epoch h.epoch then StandsOn Zero h else if nat_lt h.epoch k.epoch then StandsOn One k else NoneStands One 11
 standing_of length_ Blank Blank = if nat_le length_ 65 then NoStore else NoneStands Zero 0
 
+-- which of two files stands
 abbrev pub standing : List ℕ → List ℕ → Standing
 standing zero one = standing_of (length zero) (look zero) (look one)

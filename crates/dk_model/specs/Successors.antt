@@ -14,6 +14,7 @@ abbrev pub stepped_at : Meaning → World → RunNo → Option Claim → Option 
 stepped_at rules w run None = None
 stepped_at rules w run (Some claim) = Some (step_of rules w run claim)
 
+-- the world after a Commit, where its claim was found
 abbrev pub after_commit : Meaning → World → RunNo → Option Claim → World
 after_commit rules w run None = w
 after_commit rules w run (Some claim) = after_step rules w run claim

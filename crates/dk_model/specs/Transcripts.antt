@@ -33,9 +33,11 @@ pub record Known : Type 0 where
   pub names : maps.FinMap conn_cmp (List ℕ)
   pub moment : ℕ
 
+-- what is known before the first event
 abbrev pub nothing_known : Known
 nothing_known = record { names = maps.empty; moment = 0 }
 
+-- a name that was found, or the empty one
 abbrev pub name_or_none : Option (List ℕ) → List ℕ
 name_or_none None = []
 name_or_none (Some name) = name
@@ -48,6 +50,7 @@ name_at known conn = name_or_none (maps.get known.names conn)
 abbrev pub conn_line : List ℕ → ConnNo → List ℕ → List ℕ
 conn_line word conn name = word ++ 32 ∷ decimal conn.0 ++ 32 ∷ escaped name
 
+-- a message as its line tells it
 abbrev pub out_text : Out → List ℕ
 out_text out.Accepted = codes "accepted"
 out_text out.Refused = codes "refused"
@@ -59,15 +62,18 @@ out_text out.Close = codes "close"
 abbrev pub to_line : ConnNo → List ℕ → Out → List ℕ
 to_line conn name message = conn_line (codes "to") conn name ++ 32 ∷ out_text message
 
+-- the line of a Connect
 abbrev pub connect_lines : List ℕ → ConnectReply → List (List ℕ)
 connect_lines name (connected.Number conn) = conn_line (codes "open") conn name ∷ []
 connect_lines name (connected.Exhausted next) = []
 
+-- the line of a Post that was not taken
 abbrev pub post_lines : List ℕ → ConnNo → PostReply → List (List ℕ)
 post_lines name conn posted.Taken = []
 post_lines name conn posted.Closed = conn_line (codes "closed") conn name ∷ []
 post_lines name conn (posted.QueueFull waiting) = conn_line (codes "full") conn name ∷ []
 
+-- the line of a Claim that was granted
 abbrev pub claim_lines : ClaimReply → List (List ℕ)
 claim_lines (claimed.Granted run at job) = (codes "claim " ++ decimal run.0 ++ codes " at " ++ decimal at ++ 32 ∷ job_text job) ∷ []
 claim_lines claimed.Nothing = []
@@ -84,6 +90,7 @@ event_lines known (event.Commit pass run seq outcome) = (codes "commit " ++ deci
 event_lines known (event.Hand pass conn most outs end) = map (to_line conn (name_at known conn)) outs
 event_lines known (event.Tick pass moment) = (codes "tick " ++ decimal (max known.moment (min moment MOMENT_MOST_MS))) ∷ []
 
+-- what is known after a Connect
 abbrev pub named : Known → List ℕ → ConnectReply → Known
 named known name (connected.Number conn) = record known { names = maps.insert known.names conn name }
 named known name (connected.Exhausted next) = known
@@ -98,10 +105,12 @@ knowing known (event.Release pass run) = known
 knowing known (event.Commit pass run seq outcome) = known
 knowing known (event.Hand pass conn most outs end) = known
 
+-- the lines of these events, in order
 abbrev pub lines_of_events : Known → List Event → List (List ℕ)
 lines_of_events known [] = []
 lines_of_events known (e ∷ events) = event_lines known e ++ lines_of_events (knowing known e) events
 
+-- what is known after these events
 abbrev pub known_after : Known → List Event → Known
 known_after known [] = known
 known_after known (e ∷ events) = known_after (knowing known e) events
@@ -112,6 +121,7 @@ lines_of_phases number known [] = []
 lines_of_phases number known (events ∷ phases) =
     ((codes "phase " ++ decimal number) ∷ lines_of_events known events) ++ lines_of_phases (number + 1) (known_after known events) phases
 
+-- the last line
 abbrev pub done_line : ℕ → ℕ → List ℕ
 done_line commits tasks = codes "done commits " ++ decimal commits ++ codes " tasks " ++ decimal tasks
 
@@ -142,6 +152,7 @@ Enters rules p (line.Logout name) e after = PostsTo rules p name (input.Disconne
 Enters rules p (line.Drop name) e after = PostsTo rules p name (input.Disconnect false) e after (maps.remove p.means name)
 Enters rules p (line.Tick moment) e after = (pass : ℕ) × (e ≡ event.Tick pass moment) × Happens rules p.world e after.world × (after.means ≡ p.means) × (after.opened ≡ p.opened)
 
+-- each line of a phase is entered by one event, in order
 abbrev pub EntersAll : Meaning → Playing → List Line → List Event → Playing → Type 0
 EntersAll rules p [] [] after = after ≡ p
 EntersAll rules p (l ∷ lines) (e ∷ events) after = (mid : Playing) × Enters rules p l e mid × EntersAll rules mid lines events after
@@ -189,6 +200,7 @@ Plays rules p [] [] [] after = after ≡ p
 Plays rules p (lines ∷ script) (items ∷ order) (events ∷ phases) after = (mid : Playing) × PlaysPhase rules p lines items events mid × Plays rules mid script order phases after
 Plays rules p _ _ _ after = ⊥
 
+-- a play that begins in this world
 abbrev pub playing : World → Playing
 playing w = record { world = w; means = maps.empty; opened = [] }
 

@@ -20,10 +20,12 @@ pub record IsNumbered (run : RunNo) (k : ℕ) : Type 0 where
   pub number : run.0 < NUMBERS_END
   pub place : k < 2 ^ 32
 
+-- an object within its limits
 pub record IsObject (object : Object) : Type 0 where
   pub kind : object.kind < 2 ^ 16
   pub body : IsBody object.bytes
 
+-- a task within its limits
 pub record IsTask (task : Task) : Type 0 where
   pub due : task.due ≤ MOMENT_MOST_MS + DELAY_MOST_MS
   pub period : task.period ≤ PERIOD_MOST_MS
@@ -40,6 +42,7 @@ abbrev pub next_of : Option RunNo → ℕ
 next_of None = 0
 next_of (Some last) = last.0 + 1
 
+-- every key and value within its limits, and made by a committed run
 pub record IsValid (d : DurableWorld) : Type 0 where
   pub objects : (id : ObjectId) (object : Object) → get d.objects id ≡ Some object → IsNumbered id.run id.k × IsCommitted d.last id.run × IsObject object
   pub names : (name : List ℕ) (id : ObjectId) → get d.names name ≡ Some id → IsName name × IsNumbered id.run id.k

@@ -29,6 +29,7 @@ pub record Budget : Type 0 where
   pub granted : ℕ
   pub left : ℕ
 
+-- a durable world, and what a server has in memory beside it
 pub record World : Type 0 where
   pub durable : DurableWorld
   pub moment : ℕ

@@ -39,6 +39,7 @@ pub record Places : Type 0 where
   pub nexts : List (List ℕ × ℕ)
   pub tasks : List (TaskKey × ℕ)
 
+-- the places before the first read
 abbrev pub no_places : Places
 no_places = record { objects = []; names = []; first = None; nexts = []; tasks = [] }
 

@@ -12,6 +12,7 @@ use Rattle.dk_overlay.specs.declared.change.TaskChange.TheVariants.{Added, Withd
 abbrev pub value_now : {X : Type 0} → Change X → Option X → Option X
 value_now c x = c.after
 
+-- a scheduled task but for its key
 abbrev pub task_made : Scheduled → Task
 task_made s = record { due = s.due; period = s.period; kind = s.kind; arg = s.arg }
 

@@ -21,24 +21,31 @@ use Rattle.dk_overlay.specs.declared.change.TaskChange.TheVariants.{Added, Withd
 use Rattle.dk_overlay.specs.Asked.{Places}
 use Rattle.dk_overlay.specs.Logged.{Logged}
 
+-- a run is stored as its number
 abbrev pub run_code : Coded RunNo
 run_code = code_by ℕ coded_ℕ (λ r. r.0) (λ n. record { 0 = n }) (λ _. refl)
 
+-- a connection is stored as its number
 abbrev pub conn_code : Coded ConnNo
 conn_code = code_by ℕ coded_ℕ (λ r. r.0) (λ n. record { 0 = n }) (λ _. refl)
 
+-- an id is stored as the pair of its fields
 abbrev pub id_code : Coded ObjectId
 id_code = code_by (RunNo × ℕ) (coded× run_code coded_ℕ) (λ i. (i.run, i.k)) (λ p. record { run = p.0; k = p.1 }) (λ _. refl)
 
+-- a task's key is stored as the pair of its fields
 abbrev pub key_code : Coded TaskKey
 key_code = code_by (RunNo × ℕ) (coded× run_code coded_ℕ) (λ i. (i.run, i.k)) (λ p. record { run = p.0; k = p.1 }) (λ _. refl)
 
+-- an object is stored as its kind and its bytes
 abbrev pub object_code : Coded Object
 object_code = code_by (ℕ × List ℕ) (coded× coded_ℕ (coded_list coded_ℕ)) (λ o. (o.kind, o.bytes)) (λ p. record { kind = p.0; bytes = p.1 }) (λ _. refl)
 
+-- a change is stored as what was there before and what is there now
 abbrev pub change_code : {X : Type 0} → Coded X → Coded (Change X)
 change_code {X} c = code_by (Option X × Option X) (coded× (coded_option c) (coded_option c)) (λ e. (e.before, e.after)) (λ p. record { before = p.0; after = p.1 }) (λ _. refl)
 
+-- a scheduled task is stored as its fields, one pair in another
 abbrev pub scheduled_code : Coded Scheduled
 scheduled_code =
     code_by (ℕ × (ℕ × (ℕ × List ℕ))) (coded× coded_ℕ (coded× coded_ℕ (coded× coded_ℕ (coded_list coded_ℕ))))
@@ -69,6 +76,7 @@ parts_back Withdrawn = refl
 parts_back Dropped = refl
 parts_back (Moved from to) = refl
 
+-- a change of a task is stored as its parts
 abbrev pub task_change_code : Coded TaskChange
 task_change_code =
     code_by TaskChangeParts (coded× (coded× coded_bool coded_bool) (coded× scheduled_code (coded× coded_ℕ coded_ℕ)))
@@ -86,6 +94,7 @@ abbrev mode_back : (m : Mode) → mode_by (is_platform m) ≡ m
 mode_back Platform = refl
 mode_back Game = refl
 
+-- a mode is stored as whether it is the platform's
 abbrev pub mode_code : Coded Mode
 mode_code = code_by Bool coded_bool is_platform mode_by mode_back
 

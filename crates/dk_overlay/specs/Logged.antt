@@ -20,6 +20,7 @@ use Rattle.dk_overlay.specs.declared.change.TaskChange.{TaskChange}
 use Rattle.dk_overlay.specs.declared.change.TaskChange.TheVariants.{Added}
 use Rattle.dk_overlay.specs.Changes.{removing, moving}
 
+-- what a run has read, changed and sent so far
 pub record Logged : Type 0 where
   -- in the order in which they were first made
   pub reads : List (Item × Read)

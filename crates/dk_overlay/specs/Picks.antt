@@ -7,6 +7,7 @@ use Rattle.dk_overlay.specs.declared.change.TaskChange.{TaskChange}
 use Rattle.dk_overlay.specs.declared.change.TaskChange.TheVariants.{Added, Withdrawn, Dropped, Moved}
 use Rattle.dk_overlay.specs.Changes.{task_made}
 
+-- an entry put before others, if it has a value
 abbrev pub picked_one : {K X : Type 0} → K → Option X → List (K × X) → List (K × X)
 picked_one k None rest = rest
 picked_one k (Some x) rest = (k, x) ∷ rest

@@ -106,10 +106,12 @@ impl Log {
         }
     }
 
+    /// Where the run's memory comes from.
     pub fn allocator(&self) -> Global {
         self.alloc
     }
 
+    /// The run's number.
     pub fn run(&self) -> RunNo
         ensures { result ≡ self.now.run }
     {
@@ -124,12 +126,14 @@ impl Log {
         self.at
     }
 
+    /// Whether the platform or the game calls now.
     pub fn mode(&self) -> Mode
         ensures { result ≡ self.now.mode }
     {
         self.mode
     }
 
+    /// Says who calls from now on.
     pub fn set_mode(&mut self, mode: Mode)
         ensures { self.new ≡ record self.old { mode = mode } }
     {
@@ -173,6 +177,7 @@ impl Log {
         self.reads.answer(item)
     }
 
+    /// Keeps what the world answered for an item that was not read before. Refused, it changes nothing.
     pub fn add_read(&mut self, item: Item, read: Read) -> Result<(), NoMemory>
         requires { WasNotRead self.old.reads item }
         ensures ok { OnOk result (self.new ≡ reading self.old item read) }
@@ -188,6 +193,7 @@ impl Log {
         self.objects.copied(id)
     }
 
+    /// The change of a name, if the run changed it.
     pub fn name(&self, name: &Name) -> Option<Change<ObjectId>>
         ensures { result ≡ map.get self.now.names name.now }
     {
@@ -208,6 +214,7 @@ impl Log {
         self.tasks.settled(key)
     }
 
+    /// Changes an object. Refused, it changes nothing.
     pub fn change_object(&mut self, id: ObjectId, change: Change<Object>) -> Result<(), NoMemory>
         ensures ok { OnOk result (self.new ≡ changing_object self.old id change) }
         ensures err { OnErr result (self.new ≡ self.old) }
@@ -222,6 +229,7 @@ impl Log {
         }
     }
 
+    /// Makes an object under the run's next number. Refused, it changes nothing.
     pub fn create_object(&mut self, object: Object) -> Result<ObjectId, NoMemory>
         requires { self.old.objects_made < 65536 }
         ensures ok { IfOk result (λ id. (id ≡ new_id self.old) × (self.new ≡ creating self.old object)) }
@@ -240,6 +248,7 @@ impl Log {
         Ok(id)
     }
 
+    /// Binds a name, or takes it away. Refused, it changes nothing.
     pub fn change_name(&mut self, name: &Name, change: Change<ObjectId>) -> Result<(), NoMemory>
         ensures ok { OnOk result (self.new ≡ changing_name self.old name.now change) }
         ensures err { OnErr result (self.new ≡ self.old) }
@@ -344,6 +353,7 @@ impl Log {
         Ok(())
     }
 
+    /// Schedules a task under the run's next number. Refused, it changes nothing.
     pub fn schedule_task(&mut self, task: Scheduled) -> Result<TaskKey, NoMemory>
         requires { self.old.tasks_made < 65536 }
         ensures ok { IfOk result (λ key. (key ≡ new_key self.old) × (self.new ≡ scheduling self.old task)) }
@@ -366,6 +376,7 @@ impl Log {
         }
     }
 
+    /// Takes a task away. Refused, it changes nothing.
     pub fn remove_task(&mut self, key: TaskKey) -> Result<(), NoMemory>
         ensures ok { OnOk result (self.new ≡ removing_task self.old key) }
         ensures err { OnErr result (self.new ≡ self.old) }
@@ -388,6 +399,7 @@ impl Log {
         self.tasks.move_to(key, from, to)
     }
 
+    /// Puts a message last. Refused, it changes nothing.
     pub fn add_out(&mut self, to: ConnNo, out: Out) -> Result<(), NoMemory>
         ensures ok { OnOk result (self.new ≡ sending self.old to out) }
         ensures err { OnErr result (self.new ≡ self.old) }

@@ -105,6 +105,7 @@ fn note_bound(bound: &mut OrderedMap<Name, ()>, name: Name, is_bound: bool)
 }
 
 impl NameChanges {
+    /// No changes. Takes no memory.
     pub fn new(alloc: Global) -> NameChanges
         ensures { result ≡ map.empty }
     {
@@ -114,6 +115,7 @@ impl NameChanges {
         }
     }
 
+    /// The change of a name, if there is one.
     pub fn get(&self, name: &Name) -> Option<Change<ObjectId>>
         ensures { result ≡ map.get self.now name.now }
     {

@@ -80,6 +80,7 @@ fn removed_id(id: ObjectId, change: &Change<Object>) -> Option<ObjectId>
 }
 
 impl ObjectChanges {
+    /// No changes. Takes no memory.
     pub fn new(alloc: Global) -> ObjectChanges
         ensures { result ≡ map.empty }
     {
@@ -88,6 +89,7 @@ impl ObjectChanges {
         }
     }
 
+    /// The change of an object, if there is one.
     pub fn get(&self, id: ObjectId) -> Option<&Change<Object>>
         ensures { option_copied result ≡ map.get self.now id }
     {

@@ -81,6 +81,7 @@ fn add_place(
 }
 
 impl Reads {
+    /// No reads. Takes no memory.
     pub fn new(alloc: Global) -> Reads
         ensures { result ≡ [] }
     {

@@ -79,6 +79,7 @@ fn moved_task(key: TaskKey, change: &TaskChange) -> Option<(TaskKey, u64)>
 }
 
 impl TaskChanges {
+    /// No changes. Takes no memory.
     pub fn new(alloc: Global) -> TaskChanges
         ensures { result ≡ map.empty }
     {

@@ -12,6 +12,7 @@ use Rattle.dk_model.specs.Events.{outbox}
 abbrev pub left_of : Connection → ℕ
 left_of c = length c.queue + (if c.cut || c.over then 1 else 2)
 
+-- how many runs what was found leaves to be made
 abbrev pub left_at : Option Connection → ℕ
 left_at None = 0
 left_at (Some c) = left_of c
@@ -25,6 +26,7 @@ left_in all (conn ∷ conns) = left_at (get all conn) + left_in all conns
 abbrev pub left : World → List ConnNo → ℕ
 left w conns = (if w.durable.commits == 0 then 1 else 0) + left_in w.connections conns
 
+-- no connection stands here twice
 abbrev pub AreDistinct : List ConnNo → Type 0
 AreDistinct [] = Unit {0}
 AreDistinct (conn ∷ conns) = (Contains conns conn → ⊥) × AreDistinct conns

@@ -21,6 +21,7 @@ use Rattle.dk_model.specs.Lawful.{AreLawful}
 use Rattle.dk_model.specs.Sendings.{IsTerse}
 use Rattle.dk_progress.specs.Fitness.{IsFit, left}
 
+-- the world before the first run is such a world
 abbrev pub FreshIsFit : Type 0
 FreshIsFit = (more : ℕ) → 1 + more ≤ NUMBERS_END → IsFit (opening empty_world None) [] more
 
@@ -29,11 +30,13 @@ abbrev pub Connected : List ConnNo → ℕ → ConnectReply → World → Type 0
 Connected conns more (connected.Number conn) after = IsFit after (conns ++ conn ∷ []) more
 Connected conns more (connected.Exhausted next) after = ⊥
 
+-- a Connect leaves such a world, with its connection
 abbrev pub ConnectsFit : Type 0
 ConnectsFit =
     (rules : Meaning) (w after : World) (conns : List ConnNo) (more pass : ℕ) (name : List ℕ) (reply : ConnectReply)
     → IsFit w conns (4 + more) → Happens rules w (event.Connect pass name reply) after → Connected conns more reply after
 
+-- a Post leaves such a world
 abbrev pub PostsFit : Type 0
 PostsFit =
     (rules : Meaning) (w after : World) (conns : List ConnNo) (more pass : ℕ) (conn : ConnNo) (input : Input) (reply : PostReply)
@@ -52,6 +55,7 @@ pub record IsRun (w : World) (conns : List ConnNo) (more : ℕ) (run : RunNo) (a
   pub number : run.0 < NUMBERS_END
   pub moment : at ≤ MOMENT_MOST_MS
 
+-- a run leaves such a world, with less to run
 abbrev pub RunsLeaveLess : Type 0
 RunsLeaveLess =
     (rules : Meaning) (w mid after : World) (conns : List ConnNo) (more pass : ℕ) (run : RunNo) (at : ℕ) (job : Job) (seq : ℕ) (outcome : Outcome)
@@ -64,9 +68,11 @@ pub record AreGranted (w : World) : Type 0 where
   pub unspent : (rules : Meaning) (pass granted : ℕ) (after : World) → Happens rules w (event.Claim pass (claimed.Spent granted)) after → ⊥
   pub drawn : (rules : Meaning) (pass next : ℕ) (after : World) → Happens rules w (event.Claim pass (claimed.Exhausted next)) after → ⊥
 
+-- a claim is granted there where something can be run
 abbrev pub ClaimsAreGranted : Type 0
 ClaimsAreGranted = (w : World) (conns : List ConnNo) (more : ℕ) → IsFit w conns more → AreGranted w
 
+-- a Hand of as many messages as may wait takes all
 abbrev pub HandsTakeAll : Type 0
 HandsTakeAll =
     (rules : Meaning) (w after : World) (conns : List ConnNo) (more pass : ℕ) (conn : ConnNo) (outs : List Out) (end : Bool)

@@ -26,6 +26,7 @@ frames_of = flat_map out_spelling
 abbrev pub IsHand : ℕ → ConnNo → Event → Type 0
 IsHand pass conn e = (most : ℕ) × (outs : List Out) × (end : Bool) × (e ≡ event.Hand pass conn most outs end)
 
+-- each event is a Hand of this connection by this pass
 abbrev pub AreHands : ℕ → ConnNo → List Event → Type 0
 AreHands pass conn events = AllByRecursion (IsHand pass conn) events
 
@@ -34,6 +35,7 @@ abbrev pub is_hand_to : ConnNo → Event → Bool
 is_hand_to conn (event.Hand pass to most outs end) = same_conn to conn
 is_hand_to conn _ = false
 
+-- whether an event is a Hand of this connection that told its end
 abbrev pub tells_end : ConnNo → Event → Bool
 tells_end conn (event.Hand pass to most outs end) = same_conn to conn && end
 tells_end conn _ = false

@@ -5,5 +5,6 @@ use Rattle.dk_model.specs.Legal.{Opened}
 use Rattle.dk_model.specs.Runs.{give}
 use Rattle.dk_core.specs.Listings.{world_of}
 
+-- a host opened on this world
 abbrev pub opened_on : Durable → Opened
 opened_on d = record { rules = λ _. give (Ok tt); durable = world_of d; budget = None }

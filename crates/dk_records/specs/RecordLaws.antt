@@ -21,6 +21,7 @@ pub record IsSessionRecord (r : SessionRecord) : Type 0 where
   pub conn : IsU64 r.conn.0
   pub channels : IsList (λ _. IsName) r.channels
 
+-- a member within its limits
 pub record IsMember (m : Session) : Type 0 where
   pub name : IsName m.name
   pub conn : IsU64 m.conn.0
@@ -29,6 +30,7 @@ pub record IsMember (m : Session) : Type 0 where
 pub record IsChannelRecord (r : ChannelRecord) : Type 0 where
   pub members : IsList (λ _. IsMember) r.members
 
+-- reading a session's record takes back what its bytes say, and nothing else
 pub each_session_exact : (before : Option SessionRecord) → IsExact IsSessionRecord session_bytes next_session
 unfolding next_session
 each_session_exact before =
@@ -36,6 +38,7 @@ each_session_exact before =
     last_exact (λ (r : SessionRecord). r.channels) (λ channels. record { conn = record { 0 = conn }; channels = channels }) (list_exact each_name_exact) (λ r is. is.0.channels)
     (λ channels are. (record { conn = fits; channels = are }, refl)) (λ channels. refl) (λ r is i. record { conn = record { 0 = is.1 i }; channels = r.channels }))
 
+-- the same of a member
 pub each_member_exact : (before : Option Session) → IsExact IsMember member_bytes next_member
 unfolding next_member
 each_member_exact before =
@@ -76,6 +79,7 @@ number_back (suc (suc zero)) h = refl
 number_back (suc (suc (suc zero))) h = refl
 number_back (suc (suc (suc (suc n)))) h = absurd (omega (arith, ltb-true (suc (suc (suc (suc n)))) 4 h))
 
+-- the same of a channel's record
 pub each_channel_exact : (before : Option ChannelRecord) → IsExact IsChannelRecord channel_bytes next_channel
 unfolding next_channel
 each_channel_exact before =

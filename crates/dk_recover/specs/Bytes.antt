@@ -8,6 +8,7 @@ use Rattle.dk_types.specs.declared.durable.Pending.{Pending}
 use Rattle.dk_types.specs.declared.durable.Effects.{Effects}
 use Rattle.dk_types.specs.declared.durable.Entry.{Entry}
 
+-- each number is a byte
 abbrev pub AreBytes : List ℕ → Type 0
 AreBytes bytes = All (λ b. b < 256) bytes
 
@@ -15,6 +16,7 @@ AreBytes bytes = All (λ b. b < 256) bytes
 abbrev pub HaveObjectBytes : List (ObjectId × Object) → Type 0
 HaveObjectBytes objects = AllByRecursion (λ (o : ObjectId × Object). AreBytes o.1.bytes) objects
 
+-- each task's argument has bytes
 abbrev pub HaveTaskBytes : List Pending → Type 0
 HaveTaskBytes tasks = AllByRecursion (λ (p : Pending). AreBytes p.arg) tasks
 
@@ -22,5 +24,6 @@ HaveTaskBytes tasks = AllByRecursion (λ (p : Pending). AreBytes p.arg) tasks
 abbrev pub HaveBytes : Effects → Type 0
 HaveBytes e = HaveObjectBytes e.written × HaveTaskBytes e.added
 
+-- each entry has bytes
 abbrev pub EachHasBytes : List Entry → Type 0
 EachHasBytes entries = AllByRecursion (λ (e : Entry). HaveBytes e.effects) entries

@@ -20,6 +20,7 @@ abbrev pub IsStepOf : List ℕ → StoreHeader → List (List ℕ) → ℕ → �
 IsStepOf file header done at end d true = Reads file (header_spelling header) done × HasWorld header done d
 IsStepOf file header done at end d false = HasMore file header done at end d
 
+-- what reading one record answers
 abbrev pub IsStep : List ℕ → StoreHeader → List (List ℕ) → ℕ → ℕ → Result (DurableWorld × Bool) OpenFault → Type 0
 IsStep file header done at end (Ok r) = IsStepOf file header done at end r.0 r.1
 IsStep file header done at end (Err (Damaged side place)) = IsDamaged file header place

@@ -45,6 +45,7 @@ pub record IsNoStore (zero one : List ℕ) (past : Past) (found : Recovered) : T
   pub short : length (now past Zero).reads ≤ 65
   pub beside : IsBlankBeside past One
 
+-- a store, or none yet, by whether there is a journal
 abbrev pub IsFound : List ℕ → List ℕ → List ℕ → Past → Recovered → Option Journal → Type 0
 IsFound zero one game past found None = IsNoStore zero one past found
 IsFound zero one game past found (Some journal) = IsStore zero one game past found journal

@@ -13,20 +13,25 @@ use Rattle.dk_types.specs.Values.{Task}
 use Rattle.dk_model.specs.DurableWorlds.{DurableWorld}
 use Rattle.dk_model.specs.Effects.{effects, apply}
 
+-- an id is stored as the pair of its fields
 abbrev pub id_code : Coded ObjectId
 id_code = code_by (ℕ × ℕ) (coded× coded_ℕ coded_ℕ) (λ k. (k.run.0, k.k)) (λ p. record { run = record { 0 = p.0 }; k = p.1 }) (λ _. refl)
 
+-- a task's key is stored as the pair of its fields
 abbrev pub key_code : Coded TaskKey
 key_code = code_by (ℕ × ℕ) (coded× coded_ℕ coded_ℕ) (λ k. (k.run.0, k.k)) (λ p. record { run = record { 0 = p.0 }; k = p.1 }) (λ _. refl)
 
+-- an object is stored as its kind and its bytes
 abbrev pub object_code : Coded Object
 object_code = code_by (ℕ × List ℕ) (coded× coded_ℕ (coded_list coded_ℕ)) (λ o. (o.kind, o.bytes)) (λ p. record { kind = p.0; bytes = p.1 }) (λ _. refl)
 
+-- a task is stored as its fields, one pair in another
 abbrev pub task_code : Coded Task
 task_code =
     code_by (ℕ × (ℕ × (ℕ × List ℕ))) (coded× coded_ℕ (coded× coded_ℕ (coded× coded_ℕ (coded_list coded_ℕ))))
     (λ t. (t.due, (t.period, (t.kind, t.arg)))) (λ p. record { due = p.0; period = p.1.0; kind = p.1.1.0; arg = p.1.1.1 }) (λ _. refl)
 
+-- the largest committed run is stored as its number
 abbrev pub last_code : Coded (Option RunNo)
 last_code = coded_option (code_by ℕ coded_ℕ (λ r. r.0) (λ n. record { 0 = n }) (λ _. refl))
 

@@ -9,6 +9,7 @@ pub struct Words<'a> {
 }
 
 impl<'a> Words<'a> {
+    /// The words of a line.
     pub fn of(text: &'a str) -> Words<'a> {
         Words { rest: text }
     }
@@ -18,6 +19,7 @@ impl<'a> Words<'a> {
         self.rest
     }
 
+    /// The next word, if there is one.
     pub fn word(&mut self) -> Option<&'a str> {
         match self.rest.split_once(" ") {
             Some((word, rest)) => {

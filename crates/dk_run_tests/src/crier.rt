@@ -6,6 +6,7 @@ use dk_txn::{Txn, View};
 use dk_types::{AppFault, Blob, ConnNo, GameId, Job, Out};
 use std::alloc::Global;
 
+/// The game: whether it gives up, and whom it tells.
 #[derive(Drop)]
 pub struct Crier {
     pub gives_up: bool,

@@ -85,6 +85,7 @@ pub fn told(
     }
 }
 
+/// The outcome of a run, as rows have it.
 pub fn outcome(alloc: Global, finished: &Finished) -> Option<String> {
     let outcome = finished.outcome();
     format!(in alloc; "{outcome:?}").ok()

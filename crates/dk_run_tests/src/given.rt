@@ -19,6 +19,7 @@ pub struct Given {
 }
 
 impl Given {
+    /// An empty world at moment 100.
     pub fn new(alloc: Global) -> Given {
         Given {
             reads: Vec::new(alloc),

@@ -6,6 +6,7 @@ use dk_rows::Words;
 use dk_txn::Txn;
 use std::alloc::Global;
 
+/// What a call on objects answers, as rows have it.
 pub fn answer(
     alloc: Global,
     txn: &mut Txn<'_, Counting>,

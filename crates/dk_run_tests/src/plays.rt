@@ -23,6 +23,7 @@ pub struct Plays<'a> {
 }
 
 impl<'a> Plays<'a> {
+    /// A game's jobs over this view, at this moment in ms.
     pub fn new(view: &'a mut Counting, at: u64) -> Plays<'a> {
         Plays {
             view,

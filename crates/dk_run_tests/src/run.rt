@@ -16,6 +16,7 @@ pub struct Run<'a> {
 }
 
 impl<'a> Run<'a> {
+    /// The run over this view, at this moment in ms.
     pub fn new(alloc: Global, view: &'a mut Counting, at: u64) -> Run<'a> {
         Run {
             txn: Txn::begin(alloc, view, RunNo(9), at.min(1_000_000)),

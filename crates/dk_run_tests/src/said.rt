@@ -20,6 +20,7 @@ pub fn key(call: &mut Words<'_>) -> Option<TaskKey> {
     Some(TaskKey { run, k })
 }
 
+/// The name that comes next in a row.
 pub fn name(alloc: Global, call: &mut Words<'_>) -> Option<Name> {
     let text = call.text(alloc)?;
     Name::new(alloc, text.as_bytes()).ok()
@@ -53,14 +54,17 @@ pub fn digits(alloc: Global, call: &mut Words<'_>) -> Option<Blob> {
     Some(Blob::from_vec(bytes))
 }
 
+/// A copy of a text, if there is memory.
 pub fn text(alloc: Global, text: &str) -> Option<String> {
     String::from_str(alloc, text).ok()
 }
 
+/// A refusal, as rows have it.
 pub fn refused(alloc: Global, refusal: Refusal) -> Option<String> {
     format!(in alloc; "{refusal:?}").ok()
 }
 
+/// What a call that gives nothing answered, as rows have it.
 pub fn done(alloc: Global, answer: Result<(), Refusal>) -> Option<String> {
     match answer {
         Ok(()) => text(alloc, "ok"),
@@ -68,6 +72,7 @@ pub fn done(alloc: Global, answer: Result<(), Refusal>) -> Option<String> {
     }
 }
 
+/// What a call that tells a fact answered, as rows have it.
 pub fn is(alloc: Global, answer: Result<bool, Refusal>) -> Option<String> {
     match answer {
         Ok(true) => text(alloc, "yes"),
@@ -76,11 +81,13 @@ pub fn is(alloc: Global, answer: Result<bool, Refusal>) -> Option<String> {
     }
 }
 
+/// An id, as rows have it.
 pub fn id_text(alloc: Global, id: ObjectId) -> Option<String> {
     let (run, k) = (id.run.0, id.k);
     format!(in alloc; "{run}.{k}").ok()
 }
 
+/// A task's key, as rows have it.
 pub fn key_text(alloc: Global, key: TaskKey) -> Option<String> {
     let TaskKey { run, k } = key;
     id_text(alloc, ObjectId { run, k })
@@ -94,6 +101,7 @@ pub fn an_id(alloc: Global, answer: Result<ObjectId, Refusal>) -> Option<String>
     }
 }
 
+/// What a call that gives a key answered, as rows have it.
 pub fn a_key(alloc: Global, answer: Result<TaskKey, Refusal>) -> Option<String> {
     match answer {
         Ok(key) => key_text(alloc, key),
@@ -101,6 +109,7 @@ pub fn a_key(alloc: Global, answer: Result<TaskKey, Refusal>) -> Option<String> 
     }
 }
 
+/// What a call that may give a name answered, as rows have it.
 pub fn a_name(alloc: Global, answer: Result<Option<Name>, Refusal>) -> Option<String> {
     match answer {
         Ok(Some(name)) => text(alloc, name.as_str()),

@@ -7,6 +7,7 @@ use dk_sessions::{close_record, find, is_connected, is_recorded, open_record, se
 use dk_txn::Txn;
 use std::alloc::Global;
 
+/// What a call on sessions and channels answers, as rows have it.
 pub fn answer(alloc: Global, txn: &mut Txn<'_, Counting>, call: &mut Words<'_>) -> Option<String> {
     match call.word()? {
         "find" => found(alloc, txn, call),

@@ -8,6 +8,7 @@ use dk_types::limits::{MOMENT_MOST_MS, PERIOD_MOST_MS};
 use dk_types::{ConnNo, Out};
 use std::alloc::Global;
 
+/// What a call on tasks answers, as rows have it.
 pub fn answer(
     alloc: Global,
     txn: &mut Txn<'_, Counting>,

@@ -9,6 +9,7 @@ use dk_types::{ConnNo, Listed};
 use std::alloc::Global;
 use sword_world::Thing;
 
+/// What a call on a game's things answers, as rows have it.
 pub fn answer(alloc: Global, txn: &mut Txn<'_, Counting>, call: &mut Words<'_>) -> Option<String> {
     match call.word()? {
         "create" => created(alloc, txn, call),

@@ -11,6 +11,7 @@ pub struct Counting {
 }
 
 impl Counting {
+    /// A view that answers by this list, and was not asked yet.
     pub fn new(reads: Vec<(Item, Read)>) -> Counting {
         Counting {
             list: ListView::new(reads),
@@ -18,6 +19,7 @@ impl Counting {
         }
     }
 
+    /// How often the view was asked.
     pub fn asked(&self) -> u64 {
         self.asked
     }

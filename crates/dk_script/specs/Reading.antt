@@ -10,6 +10,7 @@ use Rattle.dk_script.specs.declared.lines.Spoken.{Spoken}
 use Rattle.dk_script.specs.declared.lines.Spoken.TheVariants as spoken
 use Rattle.dk_script.specs.declared.reader.Reader.{Reader}
 
+-- what a line was read as, as the model has it
 abbrev pub said_by : Spoken → said.Spoken
 said_by spoken.PassedOver = said.PassedOver
 said_by (spoken.Login name) = said.Does (line.Login name.now)

@@ -12,6 +12,7 @@ pub record HasOneReading (bytes : List ℕ) : Type 0 where
   pub not_both : (p : List (List Line)) (line : ℕ) → IsScript bytes p → IsBadLine bytes line → ⊥
   pub one_line : (line other : ℕ) → IsBadLine bytes line → IsBadLine bytes other → line ≡ other
 
+-- all bytes have one reading as a script
 abbrev pub ScriptsAreRead : Type 0
 ScriptsAreRead = (bytes : List ℕ) → HasOneReading bytes
 

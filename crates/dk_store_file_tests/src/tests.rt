@@ -1,3 +1,5 @@
+//! Payloads and files of a store beside bytes worked by hand.
+
 use crate::files::{
     Found, are_entries, entries_fault, found_at_cut, found_in, is_image, is_never_damaged, made,
     two_records,

@@ -35,14 +35,17 @@ const IMAGE: [u8; 115] = [
     0x00, 0x00, 0x00,
 ];
 
+/// A header, as bytes worked by hand.
 pub fn header(alloc: Global) -> Result<Vec<u8>, AllocError> {
     Vec::from_slice(alloc, &HEADER)
 }
 
+/// A payload of entries, as bytes worked by hand.
 pub fn payload(alloc: Global) -> Result<Vec<u8>, AllocError> {
     Vec::from_slice(alloc, &PAYLOAD)
 }
 
+/// An image, as bytes worked by hand.
 pub fn image(alloc: Global) -> Result<Vec<u8>, AllocError> {
     Vec::from_slice(alloc, &IMAGE)
 }

@@ -112,6 +112,7 @@ fn handed_text(alloc: Global, handed: &Handed) -> Option<String> {
 }
 
 impl Crowd {
+    /// These connections, for rows to call.
     pub fn of(connections: Connections) -> Crowd {
         Crowd { connections }
     }

@@ -13,6 +13,7 @@ pub struct Kept<S: Drop> {
 }
 
 impl<S: Store + Drop> Kept<S> {
+    /// This store, for rows to call.
     pub fn of(store: S) -> Kept<S> {
         Kept { store, marked: 0 }
     }
@@ -79,6 +80,7 @@ pub fn numbered(alloc: Global, number: Option<u64>) -> Option<String> {
     }
 }
 
+/// A fact, as rows have it.
 pub fn said(alloc: Global, is: bool) -> Option<String> {
     let text = if is { "yes" } else { "no" };
     String::from_str(alloc, text).ok()

@@ -32,6 +32,7 @@ fn number_of(out: &Out) -> Option<u64> {
 }
 
 impl Post {
+    /// This outbox, for rows to call.
     pub fn of(outbox: Outbox) -> Post {
         Post {
             outbox,

@@ -63,6 +63,7 @@ fn set_claimed(tasks: &mut Tasks, key: TaskKey, claimed: bool) -> Option<()> {
 }
 
 impl Plan {
+    /// These tasks, for rows to call.
     pub fn of(tasks: Tasks) -> Plan {
         Plan { tasks }
     }

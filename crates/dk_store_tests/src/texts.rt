@@ -13,6 +13,7 @@ pub struct Texts {
 }
 
 impl Texts {
+    /// No texts.
     pub fn new(alloc: Global) -> Texts {
         Texts {
             names: Names::new(alloc),

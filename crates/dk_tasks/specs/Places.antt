@@ -18,6 +18,7 @@ use Rattle.dk_tasks.specs.declared.stored.Place.{Place}
 abbrev pub kept_of : Stored → Kept
 kept_of s = record { task = (task_of s.task).1; stamp = s.stamp; claimed = s.claimed }
 
+-- an entry of the tree as the store shows it
 abbrev pub kept_entry : TaskKey × Stored → TaskKey × Kept
 kept_entry e = (e.0, kept_of e.1)
 
@@ -37,6 +38,7 @@ place_of key s = record { due = s.task.due; key = key }
 abbrev pub due_at : ℕ → Stored → Stored
 due_at due s = record s { task = record s.task { due = due } }
 
+-- the task with this mark
 abbrev pub claimed_at : Bool → Stored → Stored
 claimed_at claimed s = record s { claimed = claimed }
 

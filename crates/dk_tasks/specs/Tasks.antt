@@ -24,14 +24,17 @@ pub record Shown : Type 0 where
 abbrev pub key_code : Coded TaskKey
 key_code = code_by (ℕ × ℕ) (coded× coded_ℕ coded_ℕ) (λ k. (k.run.0, k.k)) (λ p. record { run = record { 0 = p.0 }; k = p.1 }) (λ _. refl)
 
+-- a task is stored as its fields, one pair in another
 abbrev pub task_code : Coded Task
 task_code =
     code_by (ℕ × (ℕ × (ℕ × List ℕ))) (coded× coded_ℕ (coded× coded_ℕ (coded× coded_ℕ (coded_list coded_ℕ))))
     (λ t. (t.due, (t.period, (t.kind, t.arg)))) (λ p. record { due = p.0; period = p.1.0; kind = p.1.1.0; arg = p.1.1.1 }) (λ _. refl)
 
+-- and a kept one with its stamp and its mark
 abbrev pub kept_code : Coded Kept
 kept_code = code_by (Task × (ℕ × Bool)) (coded× task_code (coded× coded_ℕ coded_bool)) (λ t. (t.task, (t.stamp, t.claimed))) (λ p. record { task = p.0; stamp = p.1.0; claimed = p.1.1 }) (λ _. refl)
 
+-- and what is shown as the pair of its fields
 abbrev pub shown_code : Coded Shown
 shown_code = code_by (FinMap key_cmp Kept × ℕ) (coded× (code key_code kept_code) coded_ℕ) (λ s. (s.tasks, s.spare)) (λ p. record { tasks = p.0; spare = p.1 }) (λ _. refl)
 
@@ -47,6 +50,7 @@ with_due due t = record t { task = record t.task { due = due } }
 abbrev pub with_stamp : ℕ → Kept → Kept
 with_stamp stamp t = record t { stamp = stamp }
 
+-- the task with this mark
 abbrev pub with_claim : Bool → Kept → Kept
 with_claim claimed t = record t { claimed = claimed }
 

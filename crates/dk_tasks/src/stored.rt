@@ -21,6 +21,7 @@ impl Stored {
     ghost use Rattle.std.specs.Prelude.{◌≡◌};
     ghost use Rattle.dk_tasks.specs.Places.{place_of};
 
+    /// Where the task stands among those that no run has.
     pub fn place(&self) -> Place
         ensures { result ≡ place_of self.now.task.key self.now }
     {

@@ -74,12 +74,15 @@ Every key due = Unit {0}
 abbrev pub Only : TaskKey → ℕ → TaskKey → ℕ → Type 0
 Only key due k from = (k ≡ key) × (from ≡ due)
 
+-- what a call keeps that moves no task
 abbrev pub Keeps : {S : Type 0} → Sights S → Txn S Logged → Txn S Logged → Type 0
 Keeps = KeepsFor Every
 
+-- the call does f, and moves no task
 abbrev pub Does : {S E A : Type 0} → Sights S → (E → Option AppFault) → Txn S Logged → Txn S Logged → Act A → Result A E → Type 0
 Does = DoesFor Every
 
+-- what was left to do at first is what is left to do now, and no task was moved
 abbrev pub Leads : {S C : Type 0} → Sights S → Txn S Logged → Txn S Logged → Act C → Act C → Type 0
 Leads = LeadsFor Every
 

@@ -10,6 +10,7 @@ use Rattle.dk_txn.specs.declared.refusal.Refusal.TheVariants as refusal
 abbrev pub NO_MEMORY : ℕ
 NO_MEMORY = 7
 
+-- the number by which a refusal is told
 abbrev pub number_of : Refusal → ℕ
 number_of refusal.NameNotBound = NAME_NOT_BOUND
 number_of refusal.ObjectNotFound = OBJECT_NOT_FOUND

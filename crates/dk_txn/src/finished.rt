@@ -69,6 +69,7 @@ impl Finished {
         self.outs.as_slice()
     }
 
+    /// How the run ended.
     pub fn outcome(&self) -> &Outcome
         ensures { result.now ≡ self.now.outcome }
     {

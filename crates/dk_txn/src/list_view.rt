@@ -13,6 +13,7 @@ pub struct ListView {
 }
 
 impl ListView {
+    /// A view that answers by this list.
     pub fn new(reads: Vec<(Item, Read)>) -> ListView
         ensures { result.reads.items ≡ reads.items }
     {

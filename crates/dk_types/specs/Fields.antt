@@ -10,12 +10,15 @@ use Rattle.dk_types.specs.declared.limits.TheConstants.{NUMBERS_END}
 abbrev pub IsU8 : ℕ → Type 0
 IsU8 n = n < 2 ^ 8
 
+-- a number of 16 bits
 abbrev pub IsU16 : ℕ → Type 0
 IsU16 n = n < 2 ^ 16
 
+-- a number of 32 bits
 abbrev pub IsU32 : ℕ → Type 0
 IsU32 n = n < 2 ^ 32
 
+-- a number of 64 bits
 abbrev pub IsU64 : ℕ → Type 0
 IsU64 n = n < 2 ^ 64
 
@@ -23,12 +26,15 @@ IsU64 n = n < 2 ^ 64
 unfoldable pub u8_spelling : ℕ → List ℕ
 u8_spelling n = n ∷ []
 
+-- two bytes, the higher first
 unfoldable pub u16_spelling : ℕ → List ℕ
 u16_spelling n = to_be_bytes w16 n
 
+-- four bytes, the highest first
 unfoldable pub u32_spelling : ℕ → List ℕ
 u32_spelling n = to_be_bytes w32 n
 
+-- eight bytes, the highest first
 unfoldable pub u64_spelling : ℕ → List ℕ
 u64_spelling n = to_be_bytes w64 n
 
@@ -57,6 +63,7 @@ id_spelling id = u64_spelling id.run.0 ++ u32_spelling id.k
 abbrev pub id_of_key : TaskKey → ObjectId
 id_of_key key = record { run = key.run; k = key.k }
 
+-- a task's key of the same fields as an object's id
 abbrev pub key_of_id : ObjectId → TaskKey
 key_of_id id = record { run = id.run; k = id.k }
 
@@ -64,5 +71,6 @@ key_of_id id = record { run = id.run; k = id.k }
 abbrev pub IsKey : TaskKey → Type 0
 IsKey key = IsId (id_of_key key)
 
+-- the bytes of a task's key, which are those of an id
 unfoldable pub key_spelling : TaskKey → List ℕ
 key_spelling key = id_spelling (id_of_key key)

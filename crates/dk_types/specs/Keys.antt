@@ -6,9 +6,11 @@ use Rattle.dk_types.specs.declared.number.ConnNo.{ConnNo}
 use Rattle.dk_types.specs.declared.number.ObjectId.{ObjectId}
 use Rattle.dk_types.specs.declared.number.TaskKey.{TaskKey}
 
+-- runs by their numbers
 abbrev pub run_cmp : RunNo → RunNo → Ordering
 run_cmp a b = nat_cmp a.0 b.0
 
+-- connections by their numbers
 abbrev pub conn_cmp : ConnNo → ConnNo → Ordering
 conn_cmp a b = nat_cmp a.0 b.0
 

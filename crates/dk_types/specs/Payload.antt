@@ -12,24 +12,31 @@ abbrev pub placed : {X : Type 0} → ℕ → Result X WireRefused → Result X �
 placed at (Ok x) = Ok x
 placed at (Err e) = Err at
 
+-- reading a byte, or the place of the fault
 unfoldable pub next_u8 : Rest → Result (ℕ × Rest) ℕ
 next_u8 r = placed r.at (u8_at r)
 
+-- reading a number of 16 bits, or the place of the fault
 unfoldable pub next_u16 : Rest → Result (ℕ × Rest) ℕ
 next_u16 r = placed r.at (u16_at r)
 
+-- reading a number of 32 bits, or the place of the fault
 unfoldable pub next_u32 : Rest → Result (ℕ × Rest) ℕ
 next_u32 r = placed r.at (u32_at r)
 
+-- reading a number of 64 bits, or the place of the fault
 unfoldable pub next_u64 : Rest → Result (ℕ × Rest) ℕ
 next_u64 r = placed r.at (u64_at r)
 
+-- reading a name, or the place of the fault
 unfoldable pub next_name : Rest → Result (List ℕ × Rest) ℕ
 next_name r = placed r.at (name_at r)
 
+-- reading bytes behind their length, which is within this limit, or the place of the fault
 unfoldable pub next_blob : ℕ → Rest → Result (List ℕ × Rest) ℕ
 next_blob most r = placed r.at (blob_at most r)
 
+-- reading an object's id, or the place of the fault
 unfoldable pub next_id : Rest → Result (ObjectId × Rest) ℕ
 next_id r = placed r.at (id_at r)
 

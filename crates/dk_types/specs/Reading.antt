@@ -10,6 +10,7 @@ use Rattle.dk_types.specs.Rest.{Rest, moved}
 
 -- a step, and what follows from its value: the first fault ends it
 infixl 10 ◌>>=◌
+-- one reading and then another, unless the first was refused
 abbrev pub ◌>>=◌ : {A B F : Type 0} → Result A F → (A → Result B F) → Result B F
 (Ok x) >>= f = f x
 (Err e) >>= f = Err e
@@ -24,17 +25,21 @@ number_at w r = do
   front ← bytes_at (byte_len w) r
   Ok (from_be_bytes w front.0, front.1)
 
+-- reading a byte
 unfoldable pub u8_at : Rest → Result (ℕ × Rest) WireRefused
 u8_at r = do
   front ← bytes_at 1 r
   Ok (slice_index front.0 0, front.1)
 
+-- reading a number of 16 bits
 unfoldable pub u16_at : Rest → Result (ℕ × Rest) WireRefused
 u16_at r = number_at w16 r
 
+-- reading a number of 32 bits
 unfoldable pub u32_at : Rest → Result (ℕ × Rest) WireRefused
 u32_at r = number_at w32 r
 
+-- reading a number of 64 bits
 unfoldable pub u64_at : Rest → Result (ℕ × Rest) WireRefused
 u64_at r = number_at w64 r
 

@@ -15,6 +15,7 @@ pub struct FaultCount {
 impl FaultCount {
     ghost use Rattle.dk_types.specs.FaultPlan.{counted_up};
 
+    /// No faults yet. Takes no memory.
     pub fn new() -> FaultCount
         ensures { result.count ≡ 0 }
     {
@@ -49,6 +50,7 @@ impl Model for FaultPlan {
 impl FaultPlan {
     ghost use Rattle.dk_types.specs.FaultPlan.{fails_next, after_call, after_fault};
 
+    /// A plan by which the calls of these numbers, counted from 1, fail.
     pub fn new(failing: Vec<u64>) -> FaultPlan
         ensures { result ≡ record { failing = failing.items; calls = 0; faults = 0 } }
     {

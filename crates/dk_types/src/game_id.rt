@@ -81,6 +81,7 @@ impl GameId {
         }
     }
 
+    /// The bytes, 1 to 44 of them.
     pub fn as_slice(&self) -> &[u8]
         ensures value { result.now ≡ self.now }
         ensures id { IsGameId self.now }

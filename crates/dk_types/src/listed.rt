@@ -21,12 +21,14 @@ impl<T> Model for Listed<T> {
 }
 
 impl<T> Listed<T> {
+    /// The list of these items. Takes no memory.
     pub fn from_vec(items: Vec<T>) -> Listed<T>
         ensures { result ≡ items.items }
     {
         Listed { items }
     }
 
+    /// The items, given away. Takes no memory.
     pub fn into_vec(self) -> Vec<T>
         ensures { result.items ≡ self }
     {
@@ -34,6 +36,7 @@ impl<T> Listed<T> {
         items
     }
 
+    /// The items.
     pub fn as_slice(&self) -> &[T]
         ensures { result.now ≡ self.now }
     {

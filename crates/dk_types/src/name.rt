@@ -88,6 +88,7 @@ impl Name {
         Ok(Name { bytes })
     }
 
+    /// The bytes, 1 to 255 of them.
     pub fn as_slice(&self) -> &[u8]
         ensures value { result.now ≡ self.now }
         ensures name { IsName self.now }

@@ -42,6 +42,7 @@ impl Words {
         Ok(())
     }
 
+    /// How many words there are.
     pub fn count(&self) -> u64
         ensures { result ≡ length self.now }
     {

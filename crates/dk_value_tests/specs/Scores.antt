@@ -24,6 +24,7 @@ pub record IsRow (before : Option (List ℕ × ℕ)) (row : List ℕ × ℕ) : T
 abbrev pub row_spelling : List ℕ × ℕ → List ℕ
 row_spelling row = name_spelling row.0 ++ u64_spelling row.1
 
+-- reading a row of a table of scores
 unfoldable pub row_at : Option (List ℕ × ℕ) → Rest → Result ((List ℕ × ℕ) × Rest) ℕ
 row_at before r = do
   name ← checked (is_behind before) next_name r
@@ -39,6 +40,7 @@ pub record AreScores (scores : Scores) : Type 0 where
 abbrev pub scores_spelling : Scores → List ℕ
 scores_spelling scores = u64_spelling scores.best ++ list_spelling row_spelling scores.rows
 
+-- reading a table of scores
 unfoldable pub scores_at : Rest → Result (Scores × Rest) ℕ
 scores_at r = do
   best ← checked (λ n. nat_le n 1000000) next_u64 r

@@ -7,6 +7,7 @@ use Rattle.dk_types.proofs.Composing.{then_exact, last_exact, checked_exact}
 use Rattle.dk_types.proofs.NextLaws.{next_name_exact, next_u64_exact}
 use Rattle.dk_types.proofs.ListLaws.{list_exact}
 
+-- reading a row takes back what its bytes say, and nothing else
 pub row_exact : (before : Option (List ℕ × ℕ)) → IsExact (IsRow before) row_spelling (row_at before)
 unfolding row_at
 row_exact before =
@@ -14,6 +15,7 @@ row_exact before =
     last_exact (λ row. row.1) (λ score. (name, score)) next_u64_exact (λ row is. is.0.score)
     (λ score small. (record { name = fits.0; behind = fits.1; score = small }, refl)) (λ score. refl) (λ row is i. (is.1 i, row.1)))
 
+-- the same of a table
 pub scores_exact : IsExact AreScores scores_spelling scores_at
 unfolding scores_at
 scores_exact =

@@ -18,6 +18,7 @@ fn read_as(alloc: Global, bytes: &[u8], form: &str) -> Option<String> {
     }
 }
 
+/// What reading a payload answers, as rows have it.
 pub fn read(alloc: Global, bytes: &[u8], call: &mut Words<'_>) -> Option<String> {
     read_as(alloc, bytes, call.word()?)
 }

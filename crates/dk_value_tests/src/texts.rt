@@ -48,10 +48,12 @@ pub fn shown(alloc: Global, bytes: &[u8]) -> Option<String> {
     Some(text)
 }
 
+/// A copy of a text, if there is memory.
 pub fn text(alloc: Global, text: &str) -> Option<String> {
     String::from_str(alloc, text).ok()
 }
 
+/// A fact, as rows have it.
 pub fn said(alloc: Global, is: bool) -> Option<String> {
     text(alloc, if is { "yes" } else { "no" })
 }

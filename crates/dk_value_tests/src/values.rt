@@ -6,6 +6,7 @@ use dk_rows::Words as Call;
 use dk_types::{GameId, Listed, Name, Out, Words};
 use std::alloc::Global;
 
+/// What a call on values answers, as rows have it.
 pub fn answer(alloc: Global, word: &str, call: &mut Call<'_>) -> Option<String> {
     match word {
         "name" => named(alloc, call),

@@ -24,5 +24,6 @@ sword_events =
     ∷ claim 3 0 (job.Message (conn 1) alice (codes "look")) ∷ commit 3 3 ∷ idle
     ∷ event.Hand 0 (conn 1) 16 (out.Accepted ∷ out.Message sight ∷ []) false ∷ []
 
+-- a login and a look, from the empty world on
 abbrev pub SwordHistory : Type 0
 SwordHistory = Leads sword_rules (opening empty_world None) sword_events (world (listed alice_entered 3 (Some (run 3))) 0 4 false [] ((conn 1, of_alice [] [] 3) ∷ []))

@@ -14,6 +14,7 @@ use Rattle.dk_examples.specs.Worked.{run, conn, id, object, in_eight, in_four, L
 use Rattle.dk_examples.specs.SessionRows.{alice, alice_record, session_object}
 use Rattle.dk_examples.specs.ChannelRows.{bob, bob_record}
 
+-- the name of the room
 abbrev pub room : List ℕ
 room = codes "Room"
 
@@ -26,18 +27,23 @@ ids (i ∷ rest) = in_eight i.run.0 ++ (in_four i.k ++ ids rest)
 abbrev pub sword_object : Object
 sword_object = object 2 (13 ∷ codes "a shiny sword")
 
+-- the room with these players and the sword
 abbrev pub room_object : ℕ → List ObjectId → Object
 room_object players who = object 1 (in_four players ++ (ids who ++ (in_four 1 ++ ids (id 0 0 ∷ []))))
 
+-- a player who carries nothing
 abbrev pub alice_player : Object
 alice_player = object 3 (5 ∷ alice ++ 0 ∷ [])
 
+-- a player who carries nothing
 abbrev pub bob_player : Object
 bob_player = object 3 (3 ∷ bob ++ 0 ∷ [])
 
+-- the name of a player's object
 abbrev pub alice_is : List ℕ
 alice_is = codes "Player.alice"
 
+-- the name of a player's object
 abbrev pub bob_is : List ℕ
 bob_is = codes "Player.bob"
 
@@ -45,6 +51,7 @@ bob_is = codes "Player.bob"
 abbrev pub furnished : Lists
 furnished = record { objects = (id 0 0, sword_object) ∷ (id 0 1, room_object 0 []) ∷ []; names = (room, id 0 1) ∷ []; tasks = [] }
 
+-- the effects of the first run
 abbrev pub furnishing : Effects
 furnishing = record no_effects { written = furnished.objects; bound = furnished.names }
 
@@ -67,6 +74,7 @@ alice_entered = record {
   tasks = [];
 }
 
+-- the effects of the first login
 abbrev pub entering : Effects
 entering = record no_effects {
   written = (id 0 1, room_object 1 (id 2 1 ∷ [])) ∷ (id 2 0, session_object 1) ∷ (id 2 1, alice_player) ∷ [];
@@ -88,6 +96,7 @@ SwordLogin = Runs sword_rules (job.Login (conn 1) alice) (run 2) 0 (listed furni
 abbrev pub sight : List ℕ
 sight = codes "You are in a plain room.\nOn the floor: a shiny sword.\n"
 
+-- a look tells the room and changes nothing
 abbrev pub SwordLook : Type 0
 SwordLook = Runs sword_rules (job.Message (conn 1) alice (codes "look")) (run 3) 0 (listed alice_entered 2 (Some (run 2)))
     (record does_nothing { outs = (conn 1, out.Message sight) ∷ [] }) (listed alice_entered 3 (Some (run 3)))
@@ -122,6 +131,7 @@ SwordLookAround = Runs sword_rules (job.Message (conn 1) alice (codes "look")) (
 abbrev pub bare_object : ℕ → List ObjectId → Object
 bare_object players who = object 1 (in_four players ++ (ids who ++ in_four 0))
 
+-- a player who carries the sword
 abbrev pub alice_armed : Object
 alice_armed = object 3 (5 ∷ alice ++ (1 ∷ ids (id 0 0 ∷ [])))
 
@@ -200,6 +210,7 @@ alice_twice = record {
   tasks = [];
 }
 
+-- the effects of a login that displaces another
 abbrev pub displacing : Effects
 displacing = record no_effects { written = (id 4 0, session_object 2) ∷ []; removed = id 3 0 ∷ []; bound = (alice_record, id 4 0) ∷ [] }
 

@@ -133,6 +133,7 @@ take_from scene (Some item) items = and_then (thing_at item) (λ thing. give (Ok
 take_from scene None [] = give (Ok bare_text)
 take_from scene None (item ∷ left) = pick_up scene item left
 
+-- the player takes the first thing of the room, if the hands are free
 unfoldable pub take : Scene → Act (List ℕ)
 take scene = take_from scene scene.player.carried scene.room.items
 
@@ -145,6 +146,7 @@ abbrev pub drop_what : Scene → Option ObjectId → Act (List ℕ)
 drop_what scene None = give (Ok empty_text)
 drop_what scene (Some item) = put_down scene item
 
+-- the player drops what is carried, if anything is
 unfoldable pub drop : Scene → Act (List ℕ)
 drop scene = drop_what scene scene.player.carried
 
@@ -175,6 +177,7 @@ abbrev pub answer_if : ConnNo → List ℕ → Option Command → Act (Unit {0})
 answer_if conn name None = give (Ok tt)
 answer_if conn name (Some command) = answer conn name command
 
+-- what a message does: it is answered if it is a command
 unfoldable pub message : ConnNo → List ℕ → List ℕ → Act (Unit {0})
 message conn name body = answer_if conn name (command_of body)
 

@@ -38,6 +38,7 @@ pub record IsPlayer (p : Player) : Type 0 where
   pub name : IsName p.name
   pub carried : IsCarried p.carried
 
+-- reading a room takes back what its bytes say, and nothing else
 pub each_room_exact : (before : Option Room) → IsExact IsRoom room_bytes next_room
 unfolding next_room
 each_room_exact before =
@@ -45,6 +46,7 @@ each_room_exact before =
     last_exact (λ (r : Room). r.items) (λ items. record { players = players; items = items }) (list_exact each_id_exact) (λ r is. is.0.items)
     (λ items all. (record { players = are; items = all }, refl)) (λ items. refl) (λ r is i. record { players = is.1 i; items = r.items }))
 
+-- reading a thing takes back what its bytes say, and nothing else
 pub each_thing_exact : (before : Option Thing) → IsExact IsThing thing_bytes next_thing
 unfolding next_thing
 each_thing_exact before =
@@ -110,6 +112,7 @@ carried_exact =
     spelled None is = refl
     spelled (Some id) is = refl
 
+-- reading a player takes back what its bytes say, and nothing else
 pub each_player_exact : (before : Option Player) → IsExact IsPlayer player_bytes next_player
 unfolding next_player
 each_player_exact before =
@@ -117,14 +120,17 @@ each_player_exact before =
     last_exact (λ (p : Player). p.carried) (λ carried. record { name = name; carried = carried }) carried_exact (λ p is. is.0.carried)
     (λ carried is. (record { name = fits; carried = is }, refl)) (λ carried. refl) (λ p is i. record { name = is.1 i; carried = p.carried }))
 
+-- the same for an object's whole bytes
 pub room_reads : ReadsExactly IsRoom room_bytes room_of
 unfolding room_of
 room_reads = reads_exactly IsRoom room_bytes next_room (each_room_exact None)
 
+-- the same for an object's whole bytes
 pub thing_reads : ReadsExactly IsThing thing_bytes thing_of
 unfolding thing_of
 thing_reads = reads_exactly IsThing thing_bytes next_thing (each_thing_exact None)
 
+-- the same for an object's whole bytes
 pub player_reads : ReadsExactly IsPlayer player_bytes player_of
 unfolding player_of
 player_reads = reads_exactly IsPlayer player_bytes next_player (each_player_exact None)
