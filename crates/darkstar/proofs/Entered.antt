@@ -19,7 +19,7 @@ use Rattle.dk_model.specs.Events.{Meaning, Happens}
 use Rattle.dk_model.specs.Phases.{IsSmall}
 use Rattle.dk_model.specs.Scripts.{LineNames, AllMayStand, names_after, names_through}
 use Rattle.dk_model.specs.Transcripts.{Playing, PostsTo, Enters, EntersAll}
-use Rattle.dk_progress.specs.Fitness.{IsFit}
+use Rattle.dk_progress.specs.Fitness.{HasNumbersLeft}
 use Rattle.dk_core.specs.declared.world.Core.{Core}
 use Rattle.dk_core.specs.Cores.{world_of, Adds}
 use Rattle.dk_workers.proofs.Honest.{standing_then, enters_goes}
@@ -32,7 +32,7 @@ use Rattle.dk_progress.proofs.Entered.{connect_fit, post_fit}
 use Rattle.dk_progress.proofs.Fits.{ticks_fit}
 
 -- numbers for more suffice for less
-pub fit_less : (w : World) (conns : List ConnNo) (more less : ℕ) → less ≤ more → IsFit w conns more → IsFit w conns less
+pub fit_less : (w : World) (conns : List ConnNo) (more less : ℕ) → less ≤ more → HasNumbersLeft w conns more → HasNumbersLeft w conns less
 fit_less w conns more less le fit = record {
   unclaimed = fit.unclaimed;
   unlimited = fit.unlimited;
@@ -70,7 +70,7 @@ login_entered old new name conn enters means opened told rules more lawful going
       enters = (0, conn, refl, h, means, opened);
       going = record {
         standing = standing_then rules old.core new.core (e ∷ []) going.standing goes;
-        fit = subst (λ conns. IsFit (world_of new.core) conns more) (sym opened) (connect_fit rules (world_of old.core) (world_of new.core) old.opened.items more 0 name (connected.Number conn) going.fit h);
+        fit = subst (λ conns. HasNumbersLeft (world_of new.core) conns more) (sym opened) (connect_fit rules (world_of old.core) (world_of new.core) old.opened.items more 0 name (connected.Number conn) going.fit h);
       };
     }
 
@@ -88,7 +88,7 @@ posted_entered old new l name i means same p rules more lawful going =
       enters = same rules e (0, p.conn, p.reply, p.meant, refl, h, p.now_means, p.same_opened);
       going = record {
         standing = standing_then rules old.core new.core (e ∷ []) going.standing goes;
-        fit = subst (λ conns. IsFit (world_of new.core) conns more) (sym p.same_opened) (post_fit rules (world_of old.core) (world_of new.core) old.opened.items more 0 p.conn i p.reply going.fit h);
+        fit = subst (λ conns. HasNumbersLeft (world_of new.core) conns more) (sym p.same_opened) (post_fit rules (world_of old.core) (world_of new.core) old.opened.items more 0 p.conn i p.reply going.fit h);
       };
     }
 
@@ -107,7 +107,7 @@ tick_entered old new moment enters means opened told rules more lawful going =
       enters = (0, refl, h, ap means_of means, opened);
       going = record {
         standing = standing_then rules old.core new.core (e ∷ []) going.standing goes;
-        fit = subst (λ conns. IsFit (world_of new.core) conns more) (sym opened) fit;
+        fit = subst (λ conns. HasNumbersLeft (world_of new.core) conns more) (sym opened) fit;
       };
     }
 

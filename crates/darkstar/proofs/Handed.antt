@@ -8,7 +8,7 @@ use Rattle.dk_model.specs.Worlds.{World}
 use Rattle.dk_model.specs.Events.{Meaning}
 use Rattle.dk_model.specs.Phases.{IsSmall}
 use Rattle.dk_model.specs.Transcripts.{Hands}
-use Rattle.dk_progress.specs.Fitness.{IsFit}
+use Rattle.dk_progress.specs.Fitness.{HasNumbersLeft}
 use Rattle.dk_core.specs.Cores.{world_of}
 use Rattle.dk_workers.proofs.Honest.{standing_then, enters_goes}
 use Rattle.darkstar.specs.declared.play.state.Play.{Play}
@@ -44,6 +44,6 @@ hands_then a b c conns conn first next means opened rules more lawful going =
       same_opened = opened ∙ f.same_opened;
       going = record {
         standing = standing_then rules b.core c.core (e ∷ []) f.going.standing goes;
-        fit = subst (λ cs. IsFit (world_of c.core) cs more) (sym opened) all.1;
+        fit = subst (λ cs. HasNumbersLeft (world_of c.core) cs more) (sym opened) all.1;
       };
     }

@@ -9,10 +9,10 @@ use Rattle.dk_model.specs.Openings.{opening}
 use Rattle.dk_model.specs.Runs.{give}
 use Rattle.dk_model.specs.Transcripts.{playing}
 use Rattle.dk_model.specs.Validity.{IsValid}
-use Rattle.dk_progress.specs.Fitness.{IsFit}
+use Rattle.dk_progress.specs.Fitness.{HasNumbersLeft}
 use Rattle.dk_core.specs.Listings.{world_of as world_in}
 use Rattle.dk_core.specs.declared.world.Core.{Core}
-use Rattle.dk_core.specs.Cores.{world_of, StandsFor}
+use Rattle.dk_core.specs.Cores.{world_of, Represents}
 use Rattle.dk_core.proofs.Bare.{bare_valid}
 use Rattle.darkstar.specs.declared.play.state.Play.{Play}
 use Rattle.darkstar.specs.Plays.{means_of, playing_of, IsGoing}
@@ -25,7 +25,7 @@ nothing = record { commits = 0; last = None; objects = []; names = []; tasks = [
 pub nothing_valid : (d : Durable) → d ≡ nothing → IsValid (world_in d)
 nothing_valid d e = subst (λ x. IsValid (world_in x)) (sym e) (bare_valid nothing refl refl refl refl)
 
-module _ (d : Durable) (is : d ≡ nothing) (c : Core) (stands : (rules : Meaning) → StandsFor rules (world_in d) None [] c) where
+module _ (d : Durable) (is : d ≡ nothing) (c : Core) (stands : (rules : Meaning) → Represents rules (world_in d) None [] c) where
   opened_world : world_of c ≡ opening empty_world None
   opened_world = (stands (λ _. give (Ok tt))).leads ∙ ap (λ x. opening (world_in x) None) is
 
@@ -36,6 +36,6 @@ module _ (d : Durable) (is : d ≡ nothing) (c : Core) (stands : (rules : Meanin
     -- it goes on
     pub opened_going : (rules : Meaning) (more : ℕ) → 1 + more ≤ NUMBERS_END → IsGoing rules p more
     opened_going rules more le = record {
-      standing = record { opened = world_in d; budget = None; events = []; stands = subst (StandsFor rules (world_in d) None []) (sym core) (stands rules) };
-      fit = subst (λ w. IsFit w p.opened.items more) (sym (ap world_of core ∙ opened_world)) (subst (λ conns. IsFit (opening empty_world None) conns more) (sym opened) (fresh_fit more le));
+      standing = record { opened = world_in d; budget = None; events = []; stands = subst (Represents rules (world_in d) None []) (sym core) (stands rules) };
+      fit = subst (λ w. HasNumbersLeft w p.opened.items more) (sym (ap world_of core ∙ opened_world)) (subst (λ conns. HasNumbersLeft (opening empty_world None) conns more) (sym opened) (fresh_fit more le));
     }

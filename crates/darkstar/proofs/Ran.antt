@@ -9,9 +9,9 @@ use Rattle.dk_model.specs.Events.{Meaning}
 use Rattle.dk_model.specs.Lawful.{AreLawful}
 use Rattle.dk_model.specs.Orders.{OrderItem, AreInTurn, Claimed, Committed, job_text, outcome_text}
 use Rattle.dk_model.specs.Phases.{IsSmall}
-use Rattle.dk_model.specs.Sendings.{IsTerse}
+use Rattle.dk_model.specs.Sendings.{SendsOneAtMost}
 use Rattle.dk_model.specs.Transcripts.{Follows, IsQuiet}
-use Rattle.dk_progress.specs.Fitness.{IsFit, left}
+use Rattle.dk_progress.specs.Fitness.{HasNumbersLeft, left}
 use Rattle.dk_core.specs.declared.world.Core.{Core}
 use Rattle.dk_core.specs.Cores.{world_of, AddsBy}
 use Rattle.dk_workers.specs.declared.working.Ran.{Ran}
@@ -24,7 +24,7 @@ use Rattle.darkstar.proofs.Led.{goes_happens, goes_both}
 use Rattle.dk_progress.proofs.Granted.{all_granted}
 use Rattle.dk_progress.proofs.Ran.{run_less}
 
-module _ (rules : Meaning) (lawful : AreLawful rules) (terse : IsTerse rules) (old new : Play) (core : Core) (ran : Ran) (start : IsGoing rules old 0) (served : AddsBy rules old.core core (claim_of 0 ran ∷ commit_of 0 ran ∷ []))
+module _ (rules : Meaning) (lawful : AreLawful rules) (terse : SendsOneAtMost rules) (old new : Play) (core : Core) (ran : Ran) (start : IsGoing rules old 0) (served : AddsBy rules old.core core (claim_of 0 ran ∷ commit_of 0 ran ∷ []))
     (told : new.events.items ≡ old.events.items ++ claim_of 0 ran ∷ commit_of 0 ran ∷ [])
     (same : new ≡ record { core = core; means = old.means; opened = old.opened; events = new.events }) where
   goes : AddsBy rules old.core new.core (claim_of 0 ran ∷ commit_of 0 ran ∷ [])
@@ -51,7 +51,7 @@ module _ (rules : Meaning) (lawful : AreLawful rules) (terse : IsTerse rules) (o
         same_opened = opened;
         going = λ more going. record {
           standing = standing_then rules old.core new.core (claim_of 0 ran ∷ commit_of 0 ran ∷ []) going.standing goes;
-          fit = subst (λ conns. IsFit (world_of new.core) conns more) (sym opened)
+          fit = subst (λ conns. HasNumbersLeft (world_of new.core) conns more) (sym opened)
               (run_less rules (world_of old.core) two.mid (world_of new.core) old.opened.items more 0 ran.run ran.at ran.job ran.seq ran.outcome lawful terse going.fit two.one two.two).fit;
         };
       }
@@ -90,7 +90,7 @@ idle_quiet rules old new start goes told means opened =
         same_opened = opened;
         going = λ more going. record {
           standing = standing_then rules old.core new.core (event.Claim 0 reply.Nothing ∷ []) going.standing goes;
-          fit = subst (λ w. IsFit w new.opened.items more) (sym q.1) (subst (λ conns. IsFit (world_of old.core) conns more) (sym opened) going.fit);
+          fit = subst (λ w. HasNumbersLeft w new.opened.items more) (sym q.1) (subst (λ conns. HasNumbersLeft (world_of old.core) conns more) (sym opened) going.fit);
         };
       },
       subst IsQuiet (sym q.1) q.0,

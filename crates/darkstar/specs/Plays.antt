@@ -19,11 +19,11 @@ use Rattle.dk_model.specs.Orders.{OrderItem, AreInTurn}
 use Rattle.dk_model.specs.Phases.{IsSmall}
 use Rattle.dk_model.specs.Scripts.{LineNames, AllMayStand, IsLineName, IsText}
 use Rattle.dk_model.specs.Transcripts.{Playing, Enters, EntersAll, Follows, IsQuiet, Hands, PlaysPhase}
-use Rattle.dk_progress.specs.Fitness.{IsFit, left}
+use Rattle.dk_progress.specs.Fitness.{HasNumbersLeft, left}
 use Rattle.dk_core.specs.declared.world.Core.{Core}
 use Rattle.dk_core.specs.Cores.{world_of}
 use Rattle.dk_core.specs.Cores as core
-use Rattle.dk_workers.specs.Working.{IsStandingFor}
+use Rattle.dk_workers.specs.Working.{RepresentsSome}
 use Rattle.darkstar.specs.declared.play.state.Play.{Play}
 
 -- the connection that each name means
@@ -40,8 +40,8 @@ left_of p = left (world_of p.core) p.opened.items
 
 -- a play between its calls: its core stands for a history of the rules, and has numbers for all that it leaves to run and for as many more
 pub record IsGoing (rules : Meaning) (p : Play) (more : ℕ) : Type 0 where
-  pub standing : IsStandingFor rules p.core
-  pub fit : IsFit (world_of p.core) p.opened.items more
+  pub standing : RepresentsSome rules p.core
+  pub fit : HasNumbersLeft (world_of p.core) p.opened.items more
 
 -- a line can be entered: its name means a connection, and what is posted is within its limits
 abbrev pub CanBeEntered : Playing → Line → Type 0

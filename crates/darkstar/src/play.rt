@@ -12,7 +12,7 @@ ghost use Rattle.dk_model.specs.Openings.{opening};
 ghost use Rattle.dk_model.specs.Scripts.{AllStand};
 ghost use Rattle.dk_model.specs.Phases.{phases_of};
 ghost use Rattle.dk_model.specs.Transcripts.{IsPlayed};
-ghost use Rattle.dk_model.specs.Sendings.{IsTerse};
+ghost use Rattle.dk_model.specs.Sendings.{SendsOneAtMost};
 ghost use Rattle.darkstar.specs.Plays.{IsGoing, MayStandAll, PlaysLines};
 
 use dk_game::Game;
@@ -21,8 +21,8 @@ use dk_types::{Event, Listed, NoMemory};
 use state::Play;
 use std::alloc::Global;
 
-mod entering;
-mod handing;
+mod deliveries;
+mod line_events;
 mod running;
 mod state;
 
@@ -51,7 +51,7 @@ fn play_phase<G: Game>(
     play: &mut Play,
     lines: &[Line],
 ) -> Result<(), NoMemory>
-    requires terse { IsTerse (G.rules game.now) }
+    requires terse { SendsOneAtMost (G.rules game.now) }
     requires going { IsGoing (G.rules game.now) play.old (4 * length lines.now) }
     requires stand { MayStandAll play.old lines.now }
     ensures { OnOk result (PlaysLines (G.rules game.now) play.old lines.now play.new) }
@@ -69,7 +69,7 @@ pub fn play_script<G: Game>(
     game: &G,
     script: &[Listed<Line>],
 ) -> Result<Played, NoMemory>
-    requires terse { IsTerse (G.rules game.now) }
+    requires terse { SendsOneAtMost (G.rules game.now) }
     requires stand { AllStand sets.empty script.now }
     requires few { sum_by length script.now ≤ SCRIPT_MOST_BYTES }
     ensures played { IfOk result (λ p. IsPlayed (G.rules game.now) (opening empty_world None) script.now (phases_of p.events.items p.marks.items) p.commits p.tasks) }

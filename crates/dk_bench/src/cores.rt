@@ -1,6 +1,6 @@
 //! Jobs served on a core. Each figure is the nanoseconds of all timed jobs together.
 ghost use Rattle.std.specs.Prelude.{IfOk, IfSome};
-ghost use Rattle.dk_workers.specs.Working.{IsStandingFor};
+ghost use Rattle.dk_workers.specs.Working.{RepresentsSome};
 
 use crate::filler::Filler;
 use crate::stores::nanoseconds;
@@ -47,7 +47,7 @@ pub fn on_core<R: AllocGlobal + Clock>(rt: &R, work: CoreWork, number: u32) -> O
 
 /// A core on the world before the first run.
 fn opened<G: Game>(alloc: Global, game: &G) -> Option<Core>
-    ensures { IfSome result (IsStandingFor (G.rules game.now)) }
+    ensures { IfSome result (RepresentsSome (G.rules game.now)) }
 {
     let durable = Durable {
         commits: 0,
@@ -64,8 +64,8 @@ fn opened<G: Game>(alloc: Global, game: &G) -> Option<Core>
 
 /// Serves jobs until none is left, or so many are served. How many were.
 fn serve<G: Game>(alloc: Global, game: &G, core: &mut Core, most: u64) -> Option<u64>
-    requires { IsStandingFor (G.rules game.now) core.old }
-    ensures { IfSome result (λ _. IsStandingFor (G.rules game.now) core.new) }
+    requires { RepresentsSome (G.rules game.now) core.old }
+    ensures { IfSome result (λ _. RepresentsSome (G.rules game.now) core.new) }
 {
     let mut served = 0u64;
     'jobs: for _ in 0..most {
@@ -85,8 +85,8 @@ fn session_name(alloc: Global, number: u64) -> Option<Name> {
 
 /// Connects so many sessions, whose logins wait.
 fn connect_all<G: Game>(alloc: Global, game: &G, core: &mut Core, logins: u64) -> Option<()>
-    requires { IsStandingFor (G.rules game.now) core.old }
-    ensures { IfSome result (λ _. IsStandingFor (G.rules game.now) core.new) }
+    requires { RepresentsSome (G.rules game.now) core.old }
+    ensures { IfSome result (λ _. RepresentsSome (G.rules game.now) core.new) }
 {
     'sessions: for number in 0..logins {
         let name = session_name(alloc, number)?;
@@ -100,7 +100,7 @@ fn connect_all<G: Game>(alloc: Global, game: &G, core: &mut Core, logins: u64) -
 
 /// The occurrences of a task, one each millisecond.
 fn occurrences<G: Game>(alloc: Global, game: &G, core: &mut Core) -> Option<u64>
-    requires { IsStandingFor (G.rules game.now) core.old }
+    requires { RepresentsSome (G.rules game.now) core.old }
 {
     let mut served = 0u64;
     'moments: for moment in 0..OCCURRENCES {

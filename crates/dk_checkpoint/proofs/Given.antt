@@ -5,7 +5,7 @@ use Rattle.dk_types.specs.declared.durable.Durable.{Durable}
 use Rattle.dk_types.specs.declared.limits.TheConstants.{NUMBERS_END}
 use Rattle.dk_types.specs.GameIds.{IsGameId}
 use Rattle.dk_disk.specs.Disk.{Disk, IsImage, settled}
-use Rattle.dk_disk.specs.Past.{Past, now, other_side, MayLeave}
+use Rattle.dk_disk.specs.DiskHistories.{DiskHistory, now, other_side, MayLeave}
 use Rattle.dk_model.specs.DurableWorlds.{DurableWorld}
 use Rattle.dk_model.specs.Images.{SpellsImage, image_spelling}
 use Rattle.dk_model.specs.Stores.{StoreHeader, IsHeader, header_spelling, Reads, look}
@@ -26,32 +26,32 @@ use Rattle.dk_checkpoint.proofs.Held.{same_held, first_file, second_file, both_l
 use Rattle.dk_checkpoint.proofs.Fresh.{fresh_reads, fresh_end, fresh_world}
 
 -- the other file is as it was
-pub stays_other : (side : Side) (P : Disk → Type 0) (old new : Past) → Runs side P old new → now new (other_side side) ≡ now old (other_side side)
+pub stays_other : (side : Side) (P : Disk → Type 0) (old new : DiskHistory) → Runs side P old new → now new (other_side side) ≡ now old (other_side side)
 stays_other side P old new run = run.other new.clock run.later (omega arith)
 
 -- at each moment
-pub left_alone : (side other : Side) (P : Disk → Type 0) (old new : Past) → other ≡ other_side side → Runs other P old new → (t : ℕ) → old.clock ≤ t → t ≤ new.clock → new.disks t side ≡ now old side
+pub left_alone : (side other : Side) (P : Disk → Type 0) (old new : DiskHistory) → other ≡ other_side side → Runs other P old new → (t : ℕ) → old.clock ≤ t → t ≤ new.clock → new.disks t side ≡ now old side
 left_alone side other P old new is run t from to =
     subst (λ (s : Side). new.disks t s ≡ now old s) (ap other_side is ∙ twice side) (run.other t from to)
 
-pub no_time : (side : Side) (past : Past) (t : ℕ) → past.clock ≤ t → t ≤ past.clock → past.disks t side ≡ now past side
+pub no_time : (side : Side) (past : DiskHistory) (t : ℕ) → past.clock ≤ t → t ≤ past.clock → past.disks t side ≡ now past side
 no_time side past t from to = ap (λ k. past.disks k side) (omega (arith, from, to))
 
 -- nothing is pending once it is made
-pub settled_after : (side : Side) (P : Disk → Type 0) (old new : Past) (file : List ℕ) → AreSettled old → Runs side P old new → now new side ≡ settled file → AreSettled new
+pub settled_after : (side : Side) (P : Disk → Type 0) (old new : DiskHistory) (file : List ℕ) → AreSettled old → Runs side P old new → now new side ≡ settled file → AreSettled new
 settled_after side P old new file were run is =
     let same = stays_other side P old new run in
     both_sides (λ s. now new s ≡ settled (now new s).reads) side (is ∙ ap (λ (d : Disk). settled d.reads) (sym is)) (same ∙ were (other_side side) ∙ ap (λ (d : Disk). settled d.reads) (sym same))
 
 -- nothing was done
-pub not_yet : (past : Past) (side : Side) (journal : Journal) (lists : Durable) (header : StoreHeader) (payloads : List (List ℕ)) (before given : DurableWorld) → IsGiven past side journal lists header payloads before given → Recovering (IsEither before given) past past
+pub not_yet : (past : DiskHistory) (side : Side) (journal : Journal) (lists : Durable) (header : StoreHeader) (payloads : List (List ℕ)) (before given : DurableWorld) → IsGiven past side journal lists header payloads before given → Recovering (IsEither before given) past past
 not_yet past side journal lists header payloads before given is = record {
   later = omega arith;
   kept = λ t s le. refl;
   each = λ t from to. subst (λ k. (zero one : List ℕ) → MayLeave past k zero one → (d : DurableWorld) × HasDurable zero one d × IsEither before given d) (omega (arith, from, to)) (λ zero one left. let it = store_recovers past side journal header payloads before is.store zero one left in (it.0, it.1, inl it.2));
 }
 
-module _ (past : Past) (side : Side) (journal : Journal) (lists : Durable) (header : StoreHeader) (payloads : List (List ℕ)) (before given : DurableWorld) (is : IsGiven past side journal lists header payloads before given) (game : List ℕ) (is_game : IsGameId game) (epoch : ℕ) (same_epoch : epoch ≡ header.epoch) (room : epoch + 1 < NUMBERS_END) (short : length (image_spelling lists) < 2 ^ 32) where
+module _ (past : DiskHistory) (side : Side) (journal : Journal) (lists : Durable) (header : StoreHeader) (payloads : List (List ℕ)) (before given : DurableWorld) (is : IsGiven past side journal lists header payloads before given) (game : List ℕ) (is_game : IsGameId game) (epoch : ℕ) (same_epoch : epoch ≡ header.epoch) (room : epoch + 1 < NUMBERS_END) (short : length (image_spelling lists) < 2 ^ 32) where
   abbrev Next : StoreHeader
   Next = next_header game header.epoch
 
@@ -73,7 +73,7 @@ module _ (past : Past) (side : Side) (journal : Journal) (lists : Durable) (head
       inr (header, ap look same ∙ live (now past side).reads header payloads is.store.fits is.store.stands.reads, omega arith)
 
   -- while the other file is made anew
-  pub recovering : (new : Past) → Runs (other_side side) (IsReplacing (now past (other_side side)).reads (1 ∷ behind_gate (next_header game header.epoch) (image_spelling lists))) past new → Recovering (IsEither before given) past new
+  pub recovering : (new : DiskHistory) → Runs (other_side side) (IsReplacing (now past (other_side side)).reads (1 ∷ behind_gate (next_header game header.epoch) (image_spelling lists))) past new → Recovering (IsEither before given) past new
   recovering new run = record {
     later = run.later;
     kept = run.kept;
@@ -97,7 +97,7 @@ module _ (past : Past) (side : Side) (journal : Journal) (lists : Durable) (head
   }
 
   -- and once it is made
-  pub stands_anew : (new : Past) (P : Disk → Type 0) (made : Journal) → Runs (other_side side) P past new → now new (other_side side) ≡ settled (1 ∷ behind_gate (next_header game header.epoch) (image_spelling lists))
+  pub stands_anew : (new : DiskHistory) (P : Disk → Type 0) (made : Journal) → Runs (other_side side) P past new → now new (other_side side) ≡ settled (1 ∷ behind_gate (next_header game header.epoch) (image_spelling lists))
       → made.side ≡ other_side side → made.epoch ≡ epoch + 1 → made.format ≡ 2 → made.length ≡ 70 + length (image_spelling lists) → HasStore new (other_side side) made (next_header game header.epoch) (only_image lists) given
   stands_anew new P made run end here next format place =
       let other : now new (other_side (other_side side)) ≡ now past side = stays_other (other_side side) P past new run ∙ ap (now past) (twice side) in
@@ -119,7 +119,7 @@ module _ (past : Past) (side : Side) (journal : Journal) (lists : Durable) (head
       }
 
   -- by what the code has of these
-  module _ (other : Side) (is_other : other ≡ other_side side) (behind : List ℕ) (is_behind : behind ≡ behind_gate (next_header game epoch) (image_spelling lists)) (new : Past) where
+  module _ (other : Side) (is_other : other ≡ other_side side) (behind : List ℕ) (is_behind : behind ≡ behind_gate (next_header game epoch) (image_spelling lists)) (new : DiskHistory) where
     behind_is : behind ≡ behind_gate (next_header game header.epoch) (image_spelling lists)
     behind_is = is_behind ∙ ap (λ n. behind_gate (next_header game n) (image_spelling lists)) same_epoch
 

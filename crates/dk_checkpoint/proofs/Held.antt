@@ -6,7 +6,7 @@ use Rattle.dk_types.specs.declared.side.Side.{Side}
 use Rattle.dk_types.specs.declared.side.Side.TheVariants.{Zero, One}
 use Rattle.dk_types.specs.declared.durable.Entry.{Entry}
 use Rattle.dk_disk.specs.Disk.{Disk, IsImage}
-use Rattle.dk_disk.specs.Past.{Past, now, other_side, MayLeave}
+use Rattle.dk_disk.specs.DiskHistories.{DiskHistory, now, other_side, MayLeave}
 use Rattle.dk_disk.proofs.Images.{settled_image}
 use Rattle.dk_model.specs.DurableWorlds.{DurableWorld}
 use Rattle.dk_model.specs.Effects.{after}
@@ -46,7 +46,7 @@ durable_once zero one a b x y = ⊎_elim
     y
 
 -- while each image recovers to one world
-pub same_held : (world : DurableWorld) (start : ℕ) (past : Past) → RecoverSince (IsWorld world) start past → ((t : ℕ) → start ≤ t → t ≤ past.clock → HasImage past t) → HeldNeverFalls start past
+pub same_held : (world : DurableWorld) (start : ℕ) (past : DiskHistory) → RecoverSince (IsWorld world) start past → ((t : ℕ) → start ≤ t → t ≤ past.clock → HasImage past t) → HeldNeverFalls start past
 same_held world start past all some t later n from le to held zero one left =
     let x = some t from (omega (arith, le, to)) in
     let it = held x.0 x.1 x.2 in
@@ -56,7 +56,7 @@ same_held world start past all some t later n from le to held zero one left =
     (end.0, end.1, omega (arith, it.2, ap (λ (w : DurableWorld). w.commits) same, ap (λ (w : DurableWorld). w.commits) end.2))
 
 -- while no time goes on
-pub now_held : (past : Past) → HeldNeverFalls past.clock past
+pub now_held : (past : DiskHistory) → HeldNeverFalls past.clock past
 now_held past t later n from le to held = subst (λ k. IsHeld past k n) (omega (arith, from, le, to)) held
 
 -- the two files, by the one on a side and the other
@@ -68,7 +68,7 @@ abbrev pub second_file : Side → List ℕ → List ℕ → List ℕ
 second_file Zero mine other = other
 second_file One mine other = mine
 
-pub both_left : (side : Side) (past : Past) (t : ℕ) (mine other : List ℕ) → IsImage (past.disks t side) mine → IsImage (past.disks t (other_side side)) other → MayLeave past t (first_file side mine other) (second_file side mine other)
+pub both_left : (side : Side) (past : DiskHistory) (t : ℕ) (mine other : List ℕ) → IsImage (past.disks t side) mine → IsImage (past.disks t (other_side side)) other → MayLeave past t (first_file side mine other) (second_file side mine other)
 both_left Zero past t mine other a b = (a, b)
 both_left One past t mine other a b = (b, a)
 
@@ -84,7 +84,7 @@ follow_more d e (x ∷ xs) follow = omega (arith, follow.0.seq, follow_more (aft
 pub takes_more : (format : ℕ) (d e : DurableWorld) (payload : List ℕ) → Takes format d payload e → d.commits ≤ e.commits
 takes_more format d e payload takes = follow_more d e takes.entries takes.follow
 
-module _ (side : Side) (h : StoreHeader) (payloads : List (List ℕ)) (payload : List ℕ) (d e : DurableWorld) (old new : Past) (is : IsHeader h) (rank : IsOutranked h old (other_side side)) (world : HasWorld h payloads d) (next : HasWorld h (payloads ++ payload ∷ []) e) (more : d.commits ≤ e.commits)
+module _ (side : Side) (h : StoreHeader) (payloads : List (List ℕ)) (payload : List ℕ) (d e : DurableWorld) (old new : DiskHistory) (is : IsHeader h) (rank : IsOutranked h old (other_side side)) (world : HasWorld h payloads d) (next : HasWorld h (payloads ++ payload ∷ []) e) (more : d.commits ≤ e.commits)
     (run : Runs side (HasOrNot (header_spelling h) payloads payload) old new) (falls : NeverFalls (header_spelling h) side old.clock new) where
   lesser_at : (t : ℕ) → old.clock ≤ t → t ≤ new.clock → (zero one : List ℕ) → MayLeave new t zero one → IsLesser h (file_on (other_side side) zero one)
   lesser_at t from to zero one left = subst (IsLesser h) (sym (other_file side _ old new rank.settled run t from to zero one left)) rank.lesser

@@ -4,7 +4,7 @@ use Rattle.dk_types.specs.declared.side.Side.{Side}
 use Rattle.dk_types.specs.declared.durable.Durable.{Durable}
 use Rattle.dk_types.specs.Fields.{blob_spelling}
 use Rattle.dk_disk.specs.Disk.{Disk, IsImage}
-use Rattle.dk_disk.specs.Past.{Past}
+use Rattle.dk_disk.specs.DiskHistories.{DiskHistory}
 use Rattle.dk_model.specs.DurableWorlds.{DurableWorld}
 use Rattle.dk_model.specs.Validity.{IsValid}
 use Rattle.dk_model.specs.Images.{world_lists, image_spelling}
@@ -14,7 +14,7 @@ use Rattle.dk_journal.specs.Stores.{HasStore}
 use Rattle.dk_journal.specs.declared.journal.Journal.{Journal}
 
 -- The journal stands on this side, as a store with the one world, and the lists are those of the other, which is valid.
-pub record IsGiven (past : Past) (side : Side) (journal : Journal) (lists : Durable) (header : StoreHeader) (payloads : List (List ℕ)) (before given : DurableWorld) : Type 0 where
+pub record IsGiven (past : DiskHistory) (side : Side) (journal : Journal) (lists : Durable) (header : StoreHeader) (payloads : List (List ℕ)) (before given : DurableWorld) : Type 0 where
   pub store : HasStore past side journal header payloads before
   pub listed : world_lists given ≡ lists
   pub valid : IsValid given

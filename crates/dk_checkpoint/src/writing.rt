@@ -6,7 +6,7 @@ ghost use Rattle.dk_types.specs.declared.side.Side.{Side as Which};
 ghost use Rattle.dk_types.specs.declared.limits.TheConstants.{NUMBERS_END};
 ghost use Rattle.dk_disk.specs.Disk.{settled};
 ghost use Rattle.dk_disk.specs.Opening.{IsOpen};
-ghost use Rattle.dk_disk.specs.Past.{now, other_side};
+ghost use Rattle.dk_disk.specs.DiskHistories.{now, other_side};
 ghost use Rattle.dk_model.specs.DurableWorlds.{DurableWorld};
 ghost use Rattle.dk_model.specs.Images.{image_spelling};
 ghost use Rattle.dk_model.specs.Stores.{StoreHeader};

@@ -8,7 +8,7 @@ use Rattle.dk_model.specs.Keys.{conn_cmp}
 use Rattle.dk_model.proofs.Maps.{conns_total, exact_conns}
 use Rattle.dk_model.specs.Worlds.{Connection}
 use Rattle.dk_model.specs.Deliveries.{Connections, change_connection, close_off, for_conn, is_done, with_closed, without_done}
-use Rattle.dk_connections.specs.Linked.{over_now}
+use Rattle.dk_connections.specs.MarkedConnections.{over_now}
 use Rattle.dk_connections.proofs.Changes.{get-change_connection, get-without_done}
 
 -- what is left of what stands at a number

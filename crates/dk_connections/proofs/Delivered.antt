@@ -6,13 +6,13 @@ use Rattle.dk_types.specs.declared.job.Job.{Job}
 use Rattle.dk_types.specs.declared.job.Out.{Out}
 use Rattle.dk_model.specs.Keys.{conn_cmp}
 use Rattle.dk_model.specs.Deliveries.{closed_by, conn_of, delivered, ended_by, for_conn, input_left, with_closed, with_outs, without_done}
-use Rattle.dk_connections.specs.Linked.{Linked, all_of, change_some, left, linked, over_now, run_ended, KeepsMarks, KeepsMarksBut}
+use Rattle.dk_connections.specs.MarkedConnections.{MarkedConnection, all_of, change_some, left, linked, over_now, run_ended, KeepsMarks, KeepsMarksBut}
 use Rattle.dk_connections.proofs.Changes.{all_of-change_some, all_of-left}
 use Rattle.dk_connections.proofs.Closings.{without-ended}
 use Rattle.dk_connections.proofs.Marks.{keeps_change_some, keeps_left, marks_ended, marks_then}
 
 -- the connections at first, without the input, with the messages, without those that a Close closed, and at last
-module _ (j : Job) (outs : List (ConnNo × Out)) (first ran sent shut last : FinMap conn_cmp Linked) (conn end : Option ConnNo) (closed : List ConnNo)
+module _ (j : Job) (outs : List (ConnNo × Out)) (first ran sent shut last : FinMap conn_cmp MarkedConnection) (conn end : Option ConnNo) (closed : List ConnNo)
     (conn_is : conn ≡ conn_of j) (runs : ran ≡ change_some conn run_ended first) (ends : last ≡ left (change_some end (linked over_now) shut)) where
   pub delivered_is : all_of sent ≡ with_outs outs (all_of ran) → closed ≡ closed_by outs (all_of ran) → all_of shut ≡ without_done (with_closed closed (all_of sent))
       → end ≡ ended_by j → all_of last ≡ without_done (delivered j outs (all_of first))

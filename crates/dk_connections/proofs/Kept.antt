@@ -7,23 +7,23 @@ use Rattle.dk_types.specs.declared.number.ConnNo.{ConnNo}
 use Rattle.dk_map.proofs.Values.{get_values}
 use Rattle.dk_model.specs.Keys.{conn_cmp}
 use Rattle.dk_model.proofs.Maps.{conns_total}
-use Rattle.dk_connections.specs.Linked.{Linked, Shown, all_of, change, is_done_at, left, settled, IsAlive, IsSwept}
+use Rattle.dk_connections.specs.MarkedConnections.{MarkedConnection, ConnectionStore, all_of, change, is_done_at, left, settled, IsAlive, IsSwept}
 use Rattle.dk_connections.proofs.Changes.{connection_in, changed_again, change_none, left_alive, put_back, remove_gone, remove_none, settled_left, swept_alive}
 use Rattle.dk_connections.proofs.Found.{conn_itself}
 
 -- what is found in the world
-pub found_in : (all : FinMap conn_cmp Linked) (k : ConnNo) (r : Option Linked) → r ≡ get all k → get (all_of all) k ≡ option_map connection_in r
+pub found_in : (all : FinMap conn_cmp MarkedConnection) (k : ConnNo) (r : Option MarkedConnection) → r ≡ get all k → get (all_of all) k ≡ option_map connection_in r
 found_in all k r e = get_values connection_in all k ∙ ap (option_map connection_in) (sym e)
 
-is_some_in : (r : Option Linked) → is_some r ≡ is_some (option_map connection_in r)
+is_some_in : (r : Option MarkedConnection) → is_some r ≡ is_some (option_map connection_in r)
 is_some_in None = refl
 is_some_in (Some l) = refl
 
 -- a connection is there where it is in the world
-pub some_in : (all : FinMap conn_cmp Linked) (k : ConnNo) → contains_key all k ≡ contains_key (all_of all) k
+pub some_in : (all : FinMap conn_cmp MarkedConnection) (k : ConnNo) → contains_key all k ≡ contains_key (all_of all) k
 some_in all k = is_some_in (get all k) ∙ ap is_some (sym (get_values connection_in all k))
 
-module _ (all m : FinMap conn_cmp Linked) (k : ConnNo) (out : m ≡ remove all k) where
+module _ (all m : FinMap conn_cmp MarkedConnection) (k : ConnNo) (out : m ≡ remove all k) where
   -- it is not there in between
   pub absent : get m k ≡ None
   absent = ap (λ n. get n k) out ∙ remove_gone all k
@@ -44,14 +44,14 @@ module _ (all m : FinMap conn_cmp Linked) (k : ConnNo) (out : m ≡ remove all k
       ap (λ n. is_done_at (get n q)) out ∙ ap is_done_at (get-remove conns_total all k q)
       ∙ elim (eq_by_cmp conn_cmp q k) as (λ b. is_done_at (cond b None (get all q)) ≡ false) [ true ↦ refl | false ↦ a q ]
 
-  module _ (f : Linked → Linked) where
+  module _ (f : MarkedConnection → MarkedConnection) where
     pub unchanged : None ≡ get all k → m ≡ change k f all
     unchanged e = not_there e ∙ change_none all k f e
 
     pub left_unchanged : None ≡ get all k → IsAlive all → m ≡ left (change k f all)
     left_unchanged e a = not_there e ∙ sym (left_alive all a) ∙ ap left (change_none all k f e)
 
-    module _ (l x : Linked) (there : Some l ≡ get all k) (is : x ≡ f l) (n : FinMap conn_cmp Linked) where
+    module _ (l x : MarkedConnection) (there : Some l ≡ get all k) (is : x ≡ f l) (n : FinMap conn_cmp MarkedConnection) where
       -- changed and added
       pub changed_by : n ≡ insert m k x → n ≡ change k f all
       changed_by e = e ∙ (λ i. insert (out i) k (is i)) ∙ changed_again all k f l there
@@ -61,36 +61,36 @@ module _ (all m : FinMap conn_cmp Linked) (k : ConnNo) (out : m ≡ remove all k
       settled_by a e = e ∙ (λ i. settled k (is i) (out i)) ∙ settled_left all a k f l there
 
   -- it is gone where it was settled over and with nothing left to hand
-  gone_at : (x : Linked) (d : Bool) → d ≡ is_none (get (cond d m (insert m k x)) k)
+  gone_at : (x : MarkedConnection) (d : Bool) → d ≡ is_none (get (cond d m (insert m k x)) k)
   gone_at x true = ap is_none (sym absent)
   gone_at x false = ap is_none (sym (get-insert conns_total m k x k ∙ ap (λ b. cond b (Some x) (get m k)) (conn_itself k)))
 
-  none_in : (r : Option Linked) → is_none r ≡ is_none (option_map connection_in r)
+  none_in : (r : Option MarkedConnection) → is_none r ≡ is_none (option_map connection_in r)
   none_in None = refl
   none_in (Some l) = refl
 
-  pub settled_gone : (x : Linked) (n : FinMap conn_cmp Linked) → n ≡ settled k x m → is_done_at (Some x) ≡ is_none (get (all_of n) k)
+  pub settled_gone : (x : MarkedConnection) (n : FinMap conn_cmp MarkedConnection) → n ≡ settled k x m → is_done_at (Some x) ≡ is_none (get (all_of n) k)
   settled_gone x n e =
       gone_at x (is_done_at (Some x)) ∙ ap (λ o. is_none (get o k)) (sym e) ∙ none_in (get n k) ∙ ap is_none (sym (get_values connection_in n k))
 
 -- both parts of what is seen are the same
-same_shown : (a b : Shown) → a.connections ≡ b.connections → a.spare ≡ b.spare → a ≡ b
+same_shown : (a b : ConnectionStore) → a.connections ≡ b.connections → a.spare ≡ b.spare → a ≡ b
 same_shown a b e f = λ i. record { connections = e i; spare = f i }
 
-none_spare : (n s : ℕ) (r : Option Linked) → None ≡ r → n ≡ s + (if is_some r then 1 else 0) → n ≡ s
+none_spare : (n s : ℕ) (r : Option MarkedConnection) → None ≡ r → n ≡ s + (if is_some r then 1 else 0) → n ≡ s
 none_spare n s None e p = omega arith
 none_spare n s (Some l) e p = cc
 
-some_spare : (n m s : ℕ) (r : Option Linked) (l : Linked) → Some l ≡ r → m ≡ s + (if is_some r then 1 else 0) → n + 1 ≡ m → n ≡ s
+some_spare : (n m s : ℕ) (r : Option MarkedConnection) (l : MarkedConnection) → Some l ≡ r → m ≡ s + (if is_some r then 1 else 0) → n + 1 ≡ m → n ≡ s
 some_spare n m s None l e p q = cc
 some_spare n m s (Some k) l e p q = omega arith
 
-module _ (old mid : Shown) (k : ConnNo) (out : mid.connections ≡ remove old.connections k) (spare : mid.spare ≡ old.spare + (if contains_key old.connections k then 1 else 0)) where
+module _ (old mid : ConnectionStore) (k : ConnNo) (out : mid.connections ≡ remove old.connections k) (spare : mid.spare ≡ old.spare + (if contains_key old.connections k then 1 else 0)) where
   -- nothing was taken out
   pub untouched : None ≡ get old.connections k → mid ≡ old
   untouched e = same_shown mid old (not_there old.connections mid.connections k out e) (none_spare _ _ (get old.connections k) e spare)
 
   -- it was put back as it was
-  pub restored : (l x : Linked) → Some l ≡ get old.connections k → x ≡ l → (new : Shown) → new.connections ≡ insert mid.connections k x → new.spare + 1 ≡ mid.spare → new ≡ old
+  pub restored : (l x : MarkedConnection) → Some l ≡ get old.connections k → x ≡ l → (new : ConnectionStore) → new.connections ≡ insert mid.connections k x → new.spare + 1 ≡ mid.spare → new ≡ old
   restored l x there is new e f =
       same_shown new old (e ∙ (λ i. insert (out i) k (is i)) ∙ put_back old.connections k l there) (some_spare _ _ _ (get old.connections k) l there spare f)

@@ -8,7 +8,7 @@ use Rattle.dk_types.specs.declared.number.ConnNo.{ConnNo}
 use Rattle.dk_map.proofs.Keys.{then-IsAntisymmetric}
 use Rattle.dk_model.specs.Keys.{conn_cmp}
 use Rattle.dk_model.proofs.Maps.{conns_total, exact_conns}
-use Rattle.dk_connections.specs.declared.place.Place.{Place}
+use Rattle.dk_connections.specs.declared.place.ConnectionRank.{ConnectionRank}
 use Rattle.dk_connections.specs.Places.{place_cmp}
 
 -- by turn, and then by number
@@ -28,7 +28,7 @@ exact_bools true false e = cc
 exact_bools true true e = refl
 
 pub places_total : IsTotalOrder place_cmp
-places_total = then_total (on_total (λ (p : Place). p.idle) bool_cmp_total) (on_total (λ (p : Place). (p.turn, p.conn)) turns_total)
+places_total = then_total (on_total (λ (p : ConnectionRank). p.idle) bool_cmp_total) (on_total (λ (p : ConnectionRank). (p.turn, p.conn)) turns_total)
 
 pub exact_places : IsAntisymmetric place_cmp
-exact_places = then-IsAntisymmetric (λ (p : Place). p.idle) (λ (p : Place). (p.turn, p.conn)) exact_bools exact_turns (λ x y p q i. record { idle = p i; turn = (q i).0; conn = (q i).1 })
+exact_places = then-IsAntisymmetric (λ (p : ConnectionRank). p.idle) (λ (p : ConnectionRank). (p.turn, p.conn)) exact_bools exact_turns (λ x y p q i. record { idle = p i; turn = (q i).0; conn = (q i).1 })

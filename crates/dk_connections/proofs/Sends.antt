@@ -6,19 +6,19 @@ use Rattle.dk_types.specs.declared.job.Out.{Out}
 use Rattle.dk_model.specs.Keys.{conn_cmp}
 use Rattle.dk_model.specs.Deliveries.{change_connection, close_off, closed_by, is_close, takes, with_closed, with_out, with_outs, without_done}
 use Rattle.dk_model.proofs.Walks.{closed_more}
-use Rattle.dk_connections.specs.Linked.{Linked, all_of, change, left, linked, IsAlive, KeepsMarks}
+use Rattle.dk_connections.specs.MarkedConnections.{MarkedConnection, all_of, change, left, linked, IsAlive, KeepsMarks}
 use Rattle.dk_connections.proofs.Changes.{all_of-change, all_of-left, swept_alive}
 use Rattle.dk_connections.proofs.Closings.{without-closed}
 use Rattle.dk_connections.proofs.Marks.{keeps_change, keeps_left, keeps_same, marks_then}
 
 -- some of the messages are in their outboxes, and the rest are to come
-pub record Sending (before now : FinMap conn_cmp Linked) (outs rest : List (ConnNo × Out)) (shut : List ConnNo) : Type 0 where
+pub record Sending (before now : FinMap conn_cmp MarkedConnection) (outs rest : List (ConnNo × Out)) (shut : List ConnNo) : Type 0 where
   pub world : with_outs rest (all_of now) ≡ with_outs outs (all_of before)
   pub closed : shut ++ closed_by rest (all_of now) ≡ closed_by outs (all_of before)
   pub marks : KeepsMarks before now
   pub alive : IsAlive now
 
-pub sending_starts : (all : FinMap conn_cmp Linked) (outs : List (ConnNo × Out)) (closed : List ConnNo) → closed ≡ [] → IsAlive all → Sending all all outs outs closed
+pub sending_starts : (all : FinMap conn_cmp MarkedConnection) (outs : List (ConnNo × Out)) (closed : List ConnNo) → closed ≡ [] → IsAlive all → Sending all all outs outs closed
 sending_starts all outs closed none alive = record {
   world = refl;
   closed = ap (λ cs. cs ++ closed_by outs (all_of all)) none;
@@ -35,7 +35,7 @@ closed_next false true closed later conn = refl
 closed_next false false closed later conn = refl
 
 -- one message more
-pub sending_next : (before now after : FinMap conn_cmp Linked) (outs rest : List (ConnNo × Out)) (closed : List ConnNo) (o : ConnNo × Out) (took : Bool)
+pub sending_next : (before now after : FinMap conn_cmp MarkedConnection) (outs rest : List (ConnNo × Out)) (closed : List ConnNo) (o : ConnNo × Out) (took : Bool)
     → Sending before now outs (o ∷ rest) closed → after ≡ change o.0 (linked (with_out o.1)) now → took ≡ takes (get (all_of now) o.0) → IsAlive after
     → Sending before after outs rest (if took && is_close o.1 then closed ++ o.0 ∷ [] else closed)
 sending_next before now after outs rest closed o took s e t a =
@@ -52,7 +52,7 @@ sending_next before now after outs rest closed o took s e t a =
     }
 
 -- the same by the parts of its letter
-pub sending_step : (before now after : FinMap conn_cmp Linked) (outs rest items : List (ConnNo × Out)) (shut : List ConnNo) (letter : ConnNo × Out) (conn : ConnNo) (ready : Out) (closes took : Bool)
+pub sending_step : (before now after : FinMap conn_cmp MarkedConnection) (outs rest items : List (ConnNo × Out)) (shut : List ConnNo) (letter : ConnNo × Out) (conn : ConnNo) (ready : Out) (closes took : Bool)
     → conn ≡ letter.0 → ready ≡ letter.1 → closes ≡ is_close letter.1 → items ≡ letter ∷ rest → Sending before now outs items shut → after ≡ change conn (linked (with_out ready)) now
     → took ≡ takes (get (all_of now) conn) → IsAlive after → Sending before after outs rest (if took && closes then shut ++ conn ∷ [] else shut)
 sending_step before now after outs rest items shut letter conn ready closes took p q r steps s e t a =
@@ -61,16 +61,16 @@ sending_step before now after outs rest items shut letter conn ready closes took
     (t ∙ ap (λ k. takes (get (all_of now) k)) p) a)
 
 -- some of the connections are closed off, and the rest are to come
-pub record Closing (before now : FinMap conn_cmp Linked) (conns rest : List ConnNo) : Type 0 where
+pub record Closing (before now : FinMap conn_cmp MarkedConnection) (conns rest : List ConnNo) : Type 0 where
   pub world : without_done (with_closed rest (all_of now)) ≡ without_done (with_closed conns (all_of before))
   pub marks : KeepsMarks before now
   pub alive : IsAlive now
 
-pub closing_starts : (all : FinMap conn_cmp Linked) (conns : List ConnNo) → IsAlive all → Closing all all conns conns
+pub closing_starts : (all : FinMap conn_cmp MarkedConnection) (conns : List ConnNo) → IsAlive all → Closing all all conns conns
 closing_starts all conns alive = record { world = refl; marks = keeps_same all; alive = alive }
 
 -- one more
-pub closing_next : (before now after : FinMap conn_cmp Linked) (conns rest : List ConnNo) (k : ConnNo)
+pub closing_next : (before now after : FinMap conn_cmp MarkedConnection) (conns rest : List ConnNo) (k : ConnNo)
     → Closing before now conns (k ∷ rest) → after ≡ left (change k (linked close_off) now) → IsAlive after → Closing before after conns rest
 closing_next before now after conns rest k s e a =
     let closed : all_of after ≡ without_done (change_connection k close_off (all_of now)) =
@@ -85,5 +85,5 @@ closing_next before now after conns rest k s e a =
     }
 
 -- none is to come
-pub closing_ends : (before now : FinMap conn_cmp Linked) (conns rest : List ConnNo) → Closing before now conns rest → rest ≡ [] → all_of now ≡ without_done (with_closed conns (all_of before))
+pub closing_ends : (before now : FinMap conn_cmp MarkedConnection) (conns rest : List ConnNo) → Closing before now conns rest → rest ≡ [] → all_of now ≡ without_done (with_closed conns (all_of before))
 closing_ends before now conns rest s e = sym (swept_alive now s.alive) ∙ ap (λ cs. without_done (with_closed cs (all_of now))) (sym e) ∙ s.world

@@ -16,10 +16,10 @@ use Rattle.dk_map.proofs.Next.{next-map_of}
 use Rattle.dk_model.specs.Keys.{conn_cmp}
 use Rattle.dk_model.specs.Picks.{least, lesser, mapped}
 use Rattle.dk_model.proofs.Maps.{conns_total}
-use Rattle.dk_connections.specs.Linked.{Linked}
+use Rattle.dk_connections.specs.MarkedConnections.{MarkedConnection}
 use Rattle.dk_connections.specs.Places.{is_idle, place_cmp, place_of, is_placed, IsInStep}
 use Rattle.dk_connections.specs.Ready.{is_ready, is_before, least_ready}
-use Rattle.dk_connections.specs.declared.place.Place.{Place}
+use Rattle.dk_connections.specs.declared.place.ConnectionRank.{ConnectionRank}
 use Rattle.dk_connections.proofs.Found.{tied, conn_tied, found_is_above, all_of_found}
 use Rattle.dk_connections.proofs.Orders.{turn_cmp, places_total, exact_places}
 use Rattle.dk_connections.proofs.Steps.{placed_there}
@@ -63,17 +63,17 @@ after_by_turn a b c less e =
       | Greater ↦ λ r _. let above : b < a = ranked a b Greater (sym r) in grind (arith, nat_tests)
     ] refl e
 
-module _ (k : ConnNo) (l : Linked) (ready : is_ready (k, l) ≡ true) where
+module _ (k : ConnNo) (l : MarkedConnection) (ready : is_ready (k, l) ≡ true) where
   -- a connection, where it is ready, is not before this one by turn and number
-  abbrev pub IsFrom : ConnNo × Linked → Type 0
+  abbrev pub IsFrom : ConnNo × MarkedConnection → Type 0
   IsFrom e = is_ready e ≡ true → is_lt (turn_cmp (e.1.connection.turn, e.0) (l.connection.turn, k)) ≡ false
 
-  none_before : (es : List (ConnNo × Linked)) → AllByRecursion IsFrom es → AllByRecursion (λ e. is_ready e ≡ true → is_before e (k, l) ≡ false) es
+  none_before : (es : List (ConnNo × MarkedConnection)) → AllByRecursion IsFrom es → AllByRecursion (λ e. is_ready e ≡ true → is_before e (k, l) ≡ false) es
   none_before [] a = tt
   none_before (e ∷ es) a = (λ r. not_before e.1.connection.turn l.connection.turn (conn_cmp e.0 k) (a.0 r), none_before es a.1)
 
   -- before those that are not before it, this one stays the least
-  stays : (es : List (ConnNo × Linked)) → AllByRecursion IsFrom es → lesser is_before (k, l) (least is_before (filter is_ready es)) ≡ Some (k, l)
+  stays : (es : List (ConnNo × MarkedConnection)) → AllByRecursion IsFrom es → lesser is_before (k, l) (least is_before (filter is_ready es)) ≡ Some (k, l)
   stays es a =
       elim (least is_before (filter is_ready es)) as (λ r. least is_before (filter is_ready es) ≡ r → lesser is_before (k, l) r ≡ Some (k, l)) [
         | None ↦ λ _. refl
@@ -81,7 +81,7 @@ module _ (k : ConnNo) (l : Linked) (ready : is_ready (k, l) ≡ true) where
       ] refl
 
   -- this one is the least where it is found and no ready one is before it
-  first_is : (es : List (ConnNo × Linked)) → IsOrdered conn_cmp es → find conn_cmp k es ≡ Some l
+  first_is : (es : List (ConnNo × MarkedConnection)) → IsOrdered conn_cmp es → find conn_cmp k es ≡ Some l
       → AllByRecursion IsFrom es → least is_before (filter is_ready es) ≡ Some (k, l)
   first_is [] h f a = cc
   first_is (x ∷ es) h f a =
@@ -102,19 +102,19 @@ module _ (k : ConnNo) (l : Linked) (ready : is_ready (k, l) ≡ true) where
       ] refl f
 
 -- what `least_ready` has to answer: the number of the least, which is there and ready, or none
-abbrev pub IsSoonest : FinMap conn_cmp Linked → Option ConnNo → Type 0
+abbrev pub IsSoonest : FinMap conn_cmp MarkedConnection → Option ConnNo → Type 0
 IsSoonest m None = least is_before (filter is_ready (entries m)) ≡ None
-IsSoonest m (Some k) = (l : Linked) × (get m k ≡ Some l) × (is_ready (k, l) ≡ true) × (least is_before (filter is_ready (entries m)) ≡ Some (k, l))
+IsSoonest m (Some k) = (l : MarkedConnection) × (get m k ≡ Some l) × (is_ready (k, l) ≡ true) × (least is_before (filter is_ready (entries m)) ≡ Some (k, l))
 
-pub least_of : (m : FinMap conn_cmp Linked) (r : Option ConnNo) → IsSoonest m r → r ≡ least_ready m
+pub least_of : (m : FinMap conn_cmp MarkedConnection) (r : Option ConnNo) → IsSoonest m r → r ≡ least_ready m
 least_of m None s = sym (ap (mapped (λ e. e.0)) s)
 least_of m (Some k) s = sym (ap (mapped (λ e. e.0)) s.3)
 
-module _ (t : List (ConnNo × Linked)) (p : List (Place × Unit {0})) (i : IsInStep t p) where
+module _ (t : List (ConnNo × MarkedConnection)) (p : List (ConnectionRank × Unit {0})) (i : IsInStep t p) where
   -- what stands at a place that is there
-  standing : (q : Place) → is_some (find place_cmp q p) ≡ true → (l : Linked) × (find conn_cmp q.conn t ≡ Some l) × (q ≡ place_of q.conn l)
+  standing : (q : ConnectionRank) → is_some (find place_cmp q p) ≡ true → (l : MarkedConnection) × (find conn_cmp q.conn t ≡ Some l) × (q ≡ place_of q.conn l)
   standing q e =
-      elim (find conn_cmp q.conn t) as (λ r. find conn_cmp q.conn t ≡ r → is_placed q r ≡ true → (l : Linked) × (find conn_cmp q.conn t ≡ Some l) × (q ≡ place_of q.conn l)) [
+      elim (find conn_cmp q.conn t) as (λ r. find conn_cmp q.conn t ≡ r → is_placed q r ≡ true → (l : MarkedConnection) × (find conn_cmp q.conn t ≡ Some l) × (q ≡ place_of q.conn l)) [
         | None ↦ λ _ b. cc
         | Some l ↦ λ f b. (l, f, exact_places q (place_of q.conn l) (tied _ b))
       ] refl (sym (i.placed q) ∙ e)
@@ -123,7 +123,7 @@ module _ (t : List (ConnNo × Linked)) (p : List (Place × Unit {0})) (i : IsInS
   next = next-map_of places_total p i.places_ordered None
 
   -- where each is idle, there is no least
-  all_idle : ((k : ConnNo) (l : Linked) → find conn_cmp k t ≡ Some l → is_ready (k, l) ≡ false) → IsSoonest (map_of conn_cmp t) None
+  all_idle : ((k : ConnNo) (l : MarkedConnection) → find conn_cmp k t ≡ Some l → is_ready (k, l) ≡ false) → IsSoonest (map_of conn_cmp t) None
   all_idle f =
       ap (λ es. least is_before (filter is_ready es)) (entries-map_of conn_cmp t i.ordered)
       ∙ least_of_none is_before is_ready t (all_of_found (λ e. is_ready e ≡ false) t i.ordered f)
@@ -137,15 +137,15 @@ module _ (t : List (ConnNo × Linked)) (p : List (Place × Unit {0})) (i : IsInS
       let there = sym (ap is_some absent) ∙ placed_there t p i k l f in
       cc)
 
-  module _ (q : Place) (v : Unit {0}) (e : first_entry p ≡ Some (q, v)) where
+  module _ (q : ConnectionRank) (v : Unit {0}) (e : first_entry p ≡ Some (q, v)) where
     -- no connection's place is before the front
-    front : (k : ConnNo) (l : Linked) → find conn_cmp k t ≡ Some l → is_lt (place_cmp (place_of k l) q) ≡ false
+    front : (k : ConnNo) (l : MarkedConnection) → find conn_cmp k t ≡ Some l → is_lt (place_cmp (place_of k l) q) ≡ false
     front k l f =
         let n = subst (IsNext (map_of place_cmp p) None) e next in
         n.2 (place_of k l) tt ((ap is_some (get-map_of place_cmp p i.places_ordered (place_of k l)) ∙ placed_there t p i k l f))
 
     -- and a connection stands there
-    at_front : (l : Linked) × (find conn_cmp q.conn t ≡ Some l) × (q ≡ place_of q.conn l)
+    at_front : (l : MarkedConnection) × (find conn_cmp q.conn t ≡ Some l) × (q ≡ place_of q.conn l)
     at_front =
         let n = subst (IsNext (map_of place_cmp p) None) e next in
         standing q (ap is_some (sym (get-map_of place_cmp p i.places_ordered q) ∙ n.0))
@@ -163,15 +163,15 @@ module _ (t : List (ConnNo × Linked)) (p : List (Place × Unit {0})) (i : IsInS
               cc
         ] refl)
 
-    busy : (l : Linked) → is_ready (q.conn, l) ≡ true → is_idle l ≡ false
+    busy : (l : MarkedConnection) → is_ready (q.conn, l) ≡ true → is_idle l ≡ false
     busy l r = elim (is_idle l) as (λ b. not b ≡ true → b ≡ false) [ true ↦ λ n. cc | false ↦ λ _. refl ] r
 
     -- where it is not, it is the least
     pub soonest_at_front : q.idle ≡ false → IsSoonest (map_of conn_cmp t) (Some q.conn)
     soonest_at_front a =
         let l = at_front in
-        let idle : q.idle ≡ is_idle l.0 = ap (λ (p : Place). p.idle) l.2 in
-        let turn : q.turn ≡ l.0.connection.turn = ap (λ (p : Place). p.turn) l.2 in
+        let idle : q.idle ≡ is_idle l.0 = ap (λ (p : ConnectionRank). p.idle) l.2 in
+        let turn : q.turn ≡ l.0.connection.turn = ap (λ (p : ConnectionRank). p.turn) l.2 in
         let ready : is_ready (q.conn, l.0) ≡ true = ap not (sym idle ∙ a) in (
           l.0,
           get-map_of conn_cmp t i.ordered q.conn ∙ l.1,

@@ -11,17 +11,17 @@ use Rattle.dk_map.proofs.Maps.{find-without}
 use Rattle.dk_map.proofs.Seen.{get_seen}
 use Rattle.dk_model.specs.Keys.{conn_cmp}
 use Rattle.dk_model.proofs.Maps.{conns_total}
-use Rattle.dk_connections.specs.Linked.{Linked, is_done_at, IsAlive}
+use Rattle.dk_connections.specs.MarkedConnections.{MarkedConnection, is_done_at, IsAlive}
 use Rattle.dk_connections.specs.Places.{place_cmp, place_of, is_placed, IsInStep}
-use Rattle.dk_connections.specs.declared.place.Place.{Place}
+use Rattle.dk_connections.specs.declared.place.ConnectionRank.{ConnectionRank}
 use Rattle.dk_connections.proofs.Found.{tied, conn_tied, conn_is}
 use Rattle.dk_connections.proofs.Orders.{places_total, exact_places}
 
 -- a place of one number is none of another
-apart : (q : Place) (k : ConnNo) (l : Linked) → eq_by_cmp conn_cmp q.conn k ≡ false → eq_by_cmp place_cmp q (place_of k l) ≡ false
+apart : (q : ConnectionRank) (k : ConnNo) (l : MarkedConnection) → eq_by_cmp conn_cmp q.conn k ≡ false → eq_by_cmp place_cmp q (place_of k l) ≡ false
 apart q k l t =
     elim (eq_by_cmp place_cmp q (place_of k l)) as (λ b. eq_by_cmp place_cmp q (place_of k l) ≡ b → b ≡ false) [
-      | true ↦ λ e. let there = conn_is q.conn k (ap (λ (p : Place). p.conn) (exact_places q (place_of k l) (tied _ e))) in cc
+      | true ↦ λ e. let there = conn_is q.conn k (ap (λ (p : ConnectionRank). p.conn) (exact_places q (place_of k l) (tied _ e))) in cc
       | false ↦ λ _. refl
     ] refl
 
@@ -34,9 +34,9 @@ put_there : {A : Type 0} (b : Bool) (a : A) (x : Option A) → is_some x ≡ fal
 put_there true a x e = refl
 put_there false a x e = e
 
-module _ (t : List (ConnNo × Linked)) (p : List (Place × Unit {0})) (i : IsInStep t p) where
+module _ (t : List (ConnNo × MarkedConnection)) (p : List (ConnectionRank × Unit {0})) (i : IsInStep t p) where
   -- in the map that callers see, none is over with nothing left to hand
-  pub alive_seen : (m : FinMap conn_cmp Linked) → map_of conn_cmp t ≡ m → IsAlive m
+  pub alive_seen : (m : FinMap conn_cmp MarkedConnection) → map_of conn_cmp t ≡ m → IsAlive m
   alive_seen m v conn = ap is_done_at (sym (get_seen t v i.ordered conn)) ∙ i.alive conn
 
   alive_without : (k j : ConnNo) → is_done_at (find conn_cmp j (without conn_cmp k t)) ≡ false
@@ -44,7 +44,7 @@ module _ (t : List (ConnNo × Linked)) (p : List (Place × Unit {0})) (i : IsInS
       ap is_done_at (find-without conns_total t i.ordered k j)
       ∙ elim (eq_by_cmp conn_cmp j k) as (λ b. is_done_at (cond b None (find conn_cmp j t)) ≡ false) [ true ↦ refl | false ↦ i.alive j ]
 
-  module _ (k : ConnNo) (l : Linked) where
+  module _ (k : ConnNo) (l : MarkedConnection) where
     -- the place of each connection is there
     pub placed_there : find conn_cmp k t ≡ Some l → is_some (find place_cmp (place_of k l) p) ≡ true
     placed_there f = i.placed (place_of k l) ∙ ap (is_placed (place_of k l)) f ∙ ap is_eq (tied_itself places_total (place_of k l))
@@ -53,7 +53,7 @@ module _ (t : List (ConnNo × Linked)) (p : List (Place × Unit {0})) (i : IsInS
     pub not_placed : find conn_cmp k t ≡ None → is_some (find place_cmp (place_of k l) p) ≡ false
     not_placed f = i.placed (place_of k l) ∙ ap (is_placed (place_of k l)) f
 
-    placed_without : find conn_cmp k t ≡ Some l → (q : Place) → is_some (find place_cmp q (without place_cmp (place_of k l) p)) ≡ is_placed q (find conn_cmp q.conn (without conn_cmp k t))
+    placed_without : find conn_cmp k t ≡ Some l → (q : ConnectionRank) → is_some (find place_cmp q (without place_cmp (place_of k l) p)) ≡ is_placed q (find conn_cmp q.conn (without conn_cmp k t))
     placed_without f q =
         ap is_some (find-without places_total p i.places_ordered (place_of k l) q)
         ∙ elim (eq_by_cmp conn_cmp q.conn k) as (λ a. eq_by_cmp conn_cmp q.conn k ≡ a → is_some (cond (eq_by_cmp place_cmp q (place_of k l)) None (find place_cmp q p)) ≡ is_placed q (cond a None (find conn_cmp q.conn t))) [
@@ -64,7 +64,7 @@ module _ (t : List (ConnNo × Linked)) (p : List (Place × Unit {0})) (i : IsInS
         ] refl
         ∙ ap (is_placed q) (sym (find-without conns_total t i.ordered k q.conn))
 
-    placed_put : find conn_cmp k t ≡ None → (q : Place) → is_some (find place_cmp q (put place_cmp (place_of k l) tt p)) ≡ is_placed q (find conn_cmp q.conn (put conn_cmp k l t))
+    placed_put : find conn_cmp k t ≡ None → (q : ConnectionRank) → is_some (find place_cmp q (put place_cmp (place_of k l) tt p)) ≡ is_placed q (find conn_cmp q.conn (put conn_cmp k l t))
     placed_put f q =
         ap is_some (find-put place_cmp places_total q (place_of k l) tt p)
         ∙ elim (eq_by_cmp conn_cmp q.conn k) as (λ a. eq_by_cmp conn_cmp q.conn k ≡ a → is_some (cond (eq_by_cmp place_cmp q (place_of k l)) (Some tt) (find place_cmp q p)) ≡ is_placed q (cond a (Some l) (find conn_cmp q.conn t))) [
@@ -81,7 +81,7 @@ module _ (t : List (ConnNo × Linked)) (p : List (Place × Unit {0})) (i : IsInS
         ∙ elim (eq_by_cmp conn_cmp j k) as (λ b. is_done_at (cond b (Some l) (find conn_cmp j t)) ≡ false) [ true ↦ d | false ↦ i.alive j ]
 
     -- a connection is out of both trees
-    pub step_out : (t' : List (ConnNo × Linked)) (p' : List (Place × Unit {0})) → IsOrdered conn_cmp t' → IsOrdered place_cmp p' → find conn_cmp k t ≡ Some l
+    pub step_out : (t' : List (ConnNo × MarkedConnection)) (p' : List (ConnectionRank × Unit {0})) → IsOrdered conn_cmp t' → IsOrdered place_cmp p' → find conn_cmp k t ≡ Some l
         → t' ≡ without conn_cmp k t → p' ≡ without place_cmp (place_of k l) p → IsInStep t' p'
     step_out t' p' ordered places_ordered f e g = record {
       ordered = ordered;
@@ -91,7 +91,7 @@ module _ (t : List (ConnNo × Linked)) (p : List (Place × Unit {0})) (i : IsInS
     }
 
     -- a connection is in both trees
-    pub step_in : (t' : List (ConnNo × Linked)) (p' : List (Place × Unit {0})) → IsOrdered conn_cmp t' → IsOrdered place_cmp p' → find conn_cmp k t ≡ None
+    pub step_in : (t' : List (ConnNo × MarkedConnection)) (p' : List (ConnectionRank × Unit {0})) → IsOrdered conn_cmp t' → IsOrdered place_cmp p' → find conn_cmp k t ≡ None
         → is_done_at (Some l) ≡ false → t' ≡ put conn_cmp k l t → p' ≡ put place_cmp (place_of k l) tt p → IsInStep t' p'
     step_in t' p' ordered places_ordered f d e g = record {
       ordered = ordered;
@@ -111,7 +111,7 @@ module _ (t : List (ConnNo × Linked)) (p : List (Place × Unit {0})) (i : IsInS
         ] refl
 
     -- where no connection was there, both trees stay in step
-    pub step_none : (t' : List (ConnNo × Linked)) → IsOrdered conn_cmp t' → find conn_cmp k t ≡ None → t' ≡ without conn_cmp k t → IsInStep t' p
+    pub step_none : (t' : List (ConnNo × MarkedConnection)) → IsOrdered conn_cmp t' → find conn_cmp k t ≡ None → t' ≡ without conn_cmp k t → IsInStep t' p
     step_none t' ordered f e = record {
       ordered = ordered;
       places_ordered = i.places_ordered;

@@ -1,4 +1,4 @@
-pub mod Linked
+pub mod MarkedConnections
 pub mod Places
 pub mod Posts
 pub mod Queues

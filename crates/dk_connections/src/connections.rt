@@ -8,13 +8,13 @@ ghost use Rattle.dk_model.specs.Openings.{ended_connection};
 ghost use Rattle.dk_model.specs.Deliveries.{change_connection, without_done};
 ghost use Rattle.dk_model.specs.Events.{outbox_at, put_last};
 ghost use Rattle.dk_model.specs.Picks.{pick_input};
-ghost use Rattle.dk_connections.specs.Linked.{all_of, change, left, less_first, linked, released, unclaimed, with_turn, IsSwept};
+ghost use Rattle.dk_connections.specs.MarkedConnections.{all_of, change, left, less_first, linked, released, unclaimed, with_turn, IsSwept};
 ghost use Rattle.dk_connections.specs.Posts.{PostAnswer};
 ghost use Rattle.dk_connections.specs.Ready.{first_at, job_at, least_ready as least_ready_of, HasConnections, HasInput, IsReadyAt};
 
 use crate::answers::{Handed, PostRefused};
-use crate::place::Place;
-use crate::slot::Slot;
+use crate::place::ConnectionRank;
+use crate::stored_connection::StoredConnection;
 use dk_map::OrderedMap;
 use dk_types::{ConnNo, Input, Job, Listed, Name, NoMemory, Session};
 use std::alloc::Global;
@@ -25,8 +25,8 @@ mod room;
 
 /// The connections by their numbers. The room that was made stays until the store is dropped.
 pub struct Connections {
-    slots: OrderedMap<ConnNo, Slot>,
-    places: OrderedMap<Place, ()>,
+    slots: OrderedMap<ConnNo, StoredConnection>,
+    places: OrderedMap<ConnectionRank, ()>,
     alloc: Global,
 }
 
@@ -47,10 +47,10 @@ impl Model for Connections {
     ghost use Rattle.dk_model.specs.contracts.waiting.Waiting as waiting;
     ghost use Rattle.dk_map.specs.AsMap.{map_of};
     ghost use Rattle.dk_model.specs.Keys.{conn_cmp};
-    ghost use Rattle.dk_connections.specs.Linked.{Shown, shown_code};
+    ghost use Rattle.dk_connections.specs.MarkedConnections.{ConnectionStore, shown_code};
     ghost use Rattle.dk_connections.specs.Places.{IsInStep};
 
-    ghost Value = { Shown };
+    ghost Value = { ConnectionStore };
 
     ghost coded = { shown_code waiting.the_row.coded out.the_row.coded };
 
@@ -97,7 +97,7 @@ impl Connections {
         ensures swept { IsSwept self.new.connections }
         ensures refused { OnErr result (self.new ≡ self.old) }
     {
-        let slot = Slot::connected(self.alloc, name, conn.0)?;
+        let slot = StoredConnection::connected(self.alloc, name, conn.0)?;
         self.make_room()?;
         self.add(conn, slot);
         Ok(())
@@ -111,7 +111,7 @@ impl Connections {
         ensures swept { IsSwept self.new.connections }
         ensures refused { OnErr result (self.new ≡ self.old) }
     {
-        let slot = Slot::ended(self.alloc, session)?;
+        let slot = StoredConnection::ended(self.alloc, session)?;
         self.make_room()?;
         self.add(session.conn, slot);
         Ok(())

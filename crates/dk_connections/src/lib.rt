@@ -10,7 +10,7 @@ mod connections;
 mod deliveries;
 mod place;
 mod queue;
-mod slot;
+mod stored_connection;
 
 pub use answers::{Handed, PostRefused};
 pub use connections::Connections;

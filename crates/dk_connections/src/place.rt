@@ -5,7 +5,7 @@ use dk_types::ConnNo;
 /// A connection's place: those whose first input can be run come first, then those of lesser turns, then those of lesser
 /// numbers.
 #[derive(Clone, Copy, PartialEq, Eq, PartialOrd, Ord)]
-pub struct Place {
+pub struct ConnectionRank {
     pub idle: bool,
     pub turn: u64,
     pub conn: ConnNo,

@@ -15,7 +15,7 @@ use Rattle.dk_model.proofs.Acts.{lawful_rules, lawful_done}
 use Rattle.dk_model.proofs.Maps.{not_both}
 use Rattle.dk_core.specs.Listings.{world_of}
 use Rattle.dk_core.specs.declared.world.Core.{Core}
-use Rattle.dk_core.specs.Cores.{StandsFor, IsStanding}
+use Rattle.dk_core.specs.Cores.{Represents, IsStanding}
 
 -- before the first commit, or after run 0 alone
 abbrev pub IsFew : ℕ → Option RunNo → Type 0
@@ -41,7 +41,7 @@ bare_valid d o n t few =
     }
 
 -- it stands for the history of no events, by whatever rules
-pub standing_first : (d : DurableWorld) (budget : Option ℕ) (c : Core) → ((rules : Meaning) → StandsFor rules d budget [] c) → IsStanding c
+pub standing_first : (d : DurableWorld) (budget : Option ℕ) (c : Core) → ((rules : Meaning) → Represents rules d budget [] c) → IsStanding c
 standing_first d budget c stands = record {
   rules = λ job. give (Ok tt);
   opened = d;

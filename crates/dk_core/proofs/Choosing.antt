@@ -15,7 +15,7 @@ use Rattle.dk_model.proofs.Maps.{runs_total}
 use Rattle.dk_laws.proofs.Entries.{all_entries}
 use Rattle.dk_laws.proofs.OpenClaims.{TheClaims}
 use Rattle.dk_tasks.specs.Tasks.{Kept}
-use Rattle.dk_connections.specs.Linked.{Linked}
+use Rattle.dk_connections.specs.MarkedConnections.{MarkedConnection}
 use Rattle.dk_connections.specs.Ready.{first_at, IsReadyAt}
 use Rattle.dk_connections.proofs.Turns.{first_there}
 use Rattle.dk_core.specs.declared.choice.Choice.{Choice}
@@ -35,7 +35,7 @@ task_there : (key : TaskKey) (o : Option Kept) → is_some o ≡ true → (j : J
 task_there key None e = absurd cc
 task_there key (Some t) e = (task_job (key, t.task), refl)
 
-input_there : (conn : ConnNo) (o : Option Linked) → IsReadyAt o → (j : Job) × (first_at conn o ≡ Some j)
+input_there : (conn : ConnNo) (o : Option MarkedConnection) → IsReadyAt o → (j : Job) × (first_at conn o ≡ Some j)
 input_there conn None r = absurd r
 input_there conn (Some l) r = elim (first_at conn (Some l)) as (λ o. first_at conn (Some l) ≡ o → (j : Job) × (first_at conn (Some l) ≡ Some j)) [
   | None ↦ λ e. absurd (first_there conn l r.1 e)

@@ -35,7 +35,7 @@ use Rattle.dk_tasks.specs.Tasks.{Kept}
 use Rattle.dk_tasks.proofs.Durable.{get-durable}
 use Rattle.dk_txn.specs.declared.finished.Finished.{Finished}
 use Rattle.dk_txn.specs.Finishes.{told}
-use Rattle.dk_connections.specs.Linked.{Shown, all_of, IsSwept, KeepsMarksBut}
+use Rattle.dk_connections.specs.MarkedConnections.{Shown, all_of, IsSwept, KeepsMarksBut}
 use Rattle.dk_core.specs.StampedWorlds.{Stamped, Room, with_room, durable_of, seen_now}
 use Rattle.dk_core.specs.Changes.{Stands}
 use Rattle.dk_core.specs.Commits.{CommitsSteps, ComesTo, claimed_at}
@@ -46,7 +46,7 @@ use Rattle.dk_core.specs.Claiming.{Claiming, without_run}
 use Rattle.dk_core.specs.declared.prepared.Prepared.{Prepared}
 use Rattle.dk_core.specs.Rooms.{HasPlaces, HasRoom, IsNoLess, places_of}
 use Rattle.dk_core.specs.Numbers.{HasNumbers}
-use Rattle.dk_core.specs.Cores.{world_of, IsTracked, StandsFor, Stays, HasMoreRoom, IsGranted, KeepsReady}
+use Rattle.dk_core.specs.Cores.{world_of, IsTracked, Represents, Stays, HasMoreRoom, IsGranted, KeepsReady}
 use Rattle.dk_core.specs.Marking.{IsTaskFreed}
 use Rattle.dk_core.specs.Answers.{Commits, HasRoomFor, IsPrepared}
 use Rattle.dk_core.proofs.Having.{never, has_which}
@@ -59,7 +59,7 @@ all_both : {A : Type 0} (P Q R : A → Type 0) → ((x : A) → P x → Q x → 
 all_both P Q R f [] p q = tt
 all_both P Q R f (x ∷ xs) p q = (f x p.0 q.0, all_both P Q R f xs p.1 q.1)
 
-module _ (rules : Meaning) (lawful : AreLawful rules) (d : DurableWorld) (budget : Option ℕ) (events : List Event) (old : Core) (s : StandsFor rules d budget events old) where
+module _ (rules : Meaning) (lawful : AreLawful rules) (d : DurableWorld) (budget : Option ℕ) (events : List Event) (old : Core) (s : Represents rules d budget events old) where
   abbrev o : World
   o = opening d budget
 
@@ -182,7 +182,7 @@ stays_with old new more rules d budget events s =
       claims = (more.claims i).claims;
       connections = all_of (more.connections i).connections;
     } in
-    subst (λ es. StandsFor rules d budget es new) (sym (append-nil events)) record {
+    subst (λ es. Represents rules d budget es new) (sym (append-nil events)) record {
       valid = s.valid;
       within = s.within;
       leads = subst (Leads rules (opening d budget) events) (sym world) s.leads;

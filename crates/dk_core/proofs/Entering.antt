@@ -18,7 +18,7 @@ use Rattle.dk_model.specs.Events.{Meaning, Happens, with_connection, put_last, o
 use Rattle.dk_model.specs.Lawful.{HasShortBody, IsInput, IsWithinLimits}
 use Rattle.dk_model.specs.Successors.{step_by}
 use Rattle.dk_laws.proofs.ShortBodies.{bodies_short}
-use Rattle.dk_connections.specs.Linked.{Shown, all_of, change, left, less_first, linked, unclaimed, IsSwept, KeepsMarks}
+use Rattle.dk_connections.specs.MarkedConnections.{Shown, all_of, change, left, less_first, linked, unclaimed, IsSwept, KeepsMarks}
 use Rattle.dk_connections.specs.Posts.{PostAnswer}
 use Rattle.dk_connections.specs.declared.answers.PostRefused.{PostRefused}
 use Rattle.dk_connections.specs.declared.answers.PostRefused.TheVariants as post_refused
@@ -27,7 +27,7 @@ use Rattle.dk_connections.proofs.Marks.{keeps_same, keeps_change, keeps_left, ma
 use Rattle.dk_core.specs.declared.world.Core.{Core}
 use Rattle.dk_core.specs.Claiming.{Claiming}
 use Rattle.dk_core.specs.Numbers.{HasNumbers, HasNumbers-prop}
-use Rattle.dk_core.specs.Cores.{world_of, StandsFor, Adds, IsStanding}
+use Rattle.dk_core.specs.Cores.{world_of, Represents, Adds, IsStanding}
 use Rattle.dk_core.specs.Answers.{Posted, Hands}
 use Rattle.dk_core.proofs.Standing.{entered_still}
 use Rattle.dk_core.proofs.Tracked.{tracked_connect, tracked_kept}
@@ -55,7 +55,7 @@ pub connects : (old : Core) (name : List ℕ) (pass : ℕ) (shown : Shown) (clai
     → all_of shown.connections ≡ insert (all_of old.connections.connections) (record { 0 = old.claims.next }) (new_connection name old.claims.next)
     → IsSwept shown.connections → Adds old (connecting old shown claims numbers) (event.Connect pass name (connected.Number (record { 0 = old.claims.next })) ∷ [])
 connects old name pass shown claims numbers is few drawn is_linked is_world swept rules d budget events lawful s =
-    subst (λ c. (n : HasNumbers old.world.commits c shown.connections) → StandsFor rules d budget (events ++ event.Connect pass name (connected.Number (record { 0 = old.claims.next })) ∷ []) (connecting old shown c n)) (sym drawn)
+    subst (λ c. (n : HasNumbers old.world.commits c shown.connections) → Represents rules d budget (events ++ event.Connect pass name (connected.Number (record { 0 = old.claims.next })) ∷ []) (connecting old shown c n)) (sym drawn)
     (λ n. entered_still rules lawful d budget events old s (connecting old shown (record old.claims { next = old.claims.next + 1 }) n) (event.Connect pass name (connected.Number (record { 0 = old.claims.next }))) is
     (few, refl, λ i. record (with_connection (world_of old) name) { connections = (sym swept ∙ ap without_done is_world) i })
     (tracked_connect (world_of old) name old.connections.connections shown.connections old.world.tasks s.tracked is_linked swept (all_of shown.connections)) refl refl (λ _. refl)) numbers

@@ -11,7 +11,7 @@ use Rattle.dk_model.specs.Openings.{opening}
 use Rattle.dk_laws.proofs.OneWorld.{events_lead, parted}
 use Rattle.dk_core.specs.declared.world.Core.{Core}
 use Rattle.dk_core.specs.declared.claimed.Claimed.{Claimed}
-use Rattle.dk_core.specs.Cores.{world_of, StandsFor, Adds, IsStanding, IsGranted}
+use Rattle.dk_core.specs.Cores.{world_of, Represents, Adds, IsStanding, IsGranted}
 
 -- it stands for some history still
 pub standing_then : (old new : Core) (e : Event) → IsStanding old → Adds old new (e ∷ []) → IsStanding new
@@ -25,7 +25,7 @@ standing_then old new e s enters = record {
 }
 
 -- the event is one that may happen in the world that it was
-pub happened : (rules : Meaning) (d : DurableWorld) (budget : Option ℕ) (events : List Event) (old new : Core) (e : Event) → StandsFor rules d budget events old → StandsFor rules d budget (events ++ e ∷ []) new
+pub happened : (rules : Meaning) (d : DurableWorld) (budget : Option ℕ) (events : List Event) (old new : Core) (e : Event) → Represents rules d budget events old → Represents rules d budget (events ++ e ∷ []) new
     → Happens rules (world_of old) e (world_of new)
 happened rules d budget events old new e s n =
     let p = parted rules (opening d budget) events (e ∷ []) (world_of new) n.leads in

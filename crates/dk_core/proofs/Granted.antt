@@ -26,7 +26,7 @@ use Rattle.dk_model.proofs.Maps.{runs_total, exact_keys, get-insert_here, some_i
 use Rattle.dk_model.proofs.Works.{IsOwnKey}
 use Rattle.dk_laws.proofs.Numbers.{connected_below}
 use Rattle.dk_tasks.specs.Tasks.{Kept}
-use Rattle.dk_connections.specs.Linked.{Linked, all_of, IsSwept, KeepsMarksBut, change_some, with_turn}
+use Rattle.dk_connections.specs.MarkedConnections.{MarkedConnection, all_of, IsSwept, KeepsMarksBut, change_some, with_turn}
 use Rattle.dk_connections.specs.Ready.{first_at, IsReadyAt}
 use Rattle.dk_connections.proofs.Found.{tied}
 use Rattle.dk_connections.proofs.Kept.{found_in}
@@ -36,7 +36,7 @@ use Rattle.dk_core.specs.declared.world.Core.{Core}
 use Rattle.dk_core.specs.declared.claimed.Claimed.{Claimed}
 use Rattle.dk_core.specs.Claiming.{Claiming, with_grant, without_grant}
 use Rattle.dk_core.specs.Numbers.{HasNumbers, HasNumbers-prop}
-use Rattle.dk_core.specs.Cores.{world_of, IsTracked, StandsFor, Adds, IsGranted}
+use Rattle.dk_core.specs.Cores.{world_of, IsTracked, Represents, Adds, IsGranted}
 use Rattle.dk_core.specs.Picking.{job_of, AreMarks, IsThere, IsPick}
 use Rattle.dk_core.specs.Marking.{is_task, conn_in, tasks_marked, tasks_freed, IsMarked, IsFreed}
 use Rattle.dk_core.proofs.Choosing.{job_there}
@@ -81,7 +81,7 @@ queue_job : (conn : ConnNo) (name : List ℕ) (queue : List Waiting) (j : Job) �
 queue_job conn name [] j e = absurd cc
 queue_job conn name (w ∷ queue) j e = subst (λ k. IsJobOf (choose.Input conn) k × NoTask k) (some_is (picks.job_of conn name w) j e) (waiting_job conn name w)
 
-input_job : (conn : ConnNo) (o : Option Linked) (j : Job) → first_at conn o ≡ Some j → IsJobOf (choose.Input conn) j × NoTask j
+input_job : (conn : ConnNo) (o : Option MarkedConnection) (j : Job) → first_at conn o ≡ Some j → IsJobOf (choose.Input conn) j × NoTask j
 input_job conn None j e = absurd cc
 input_job conn (Some l) j e = queue_job conn l.connection.name l.connection.queue j e
 
@@ -102,8 +102,8 @@ some_conn choose.First conn e = absurd cc
 some_conn (choose.Task key) conn e = absurd cc
 some_conn (choose.Input k) conn e = ap choose.Input (some_is k conn e)
 
-module _ (rules : Meaning) (lawful : AreLawful rules) (d : DurableWorld) (budget : Option ℕ) (events : List Event) (old : Core) (s : StandsFor rules d budget events old) where
-  free_at : (conn : ConnNo) (o : Option Linked) → get old.connections.connections conn ≡ o → IsReadyAt o → IsFree (world_of old) conn
+module _ (rules : Meaning) (lawful : AreLawful rules) (d : DurableWorld) (budget : Option ℕ) (events : List Event) (old : Core) (s : Represents rules d budget events old) where
+  free_at : (conn : ConnNo) (o : Option MarkedConnection) → get old.connections.connections conn ≡ o → IsReadyAt o → IsFree (world_of old) conn
   free_at conn None e r = absurd r
   free_at conn (Some l) e r = record {
     none = s.tracked.inputs conn l e ∙ r.0;
@@ -176,7 +176,7 @@ own_key key (job.Channel conn name channel body) e = absurd cc
 own_key key (job.Disconnect conn name graceful) e = absurd cc
 
 -- of a task there is one run
-pub task_alone : (rules : Meaning) (lawful : AreLawful rules) (d : DurableWorld) (budget : Option ℕ) (events : List Event) (old : Core) (s : StandsFor rules d budget events old) (run : RunNo) (claim : Claim)
+pub task_alone : (rules : Meaning) (lawful : AreLawful rules) (d : DurableWorld) (budget : Option ℕ) (events : List Event) (old : Core) (s : Represents rules d budget events old) (run : RunNo) (claim : Claim)
     → get old.claims.claims run ≡ Some claim → TaskAlone (world_of old) run claim
 task_alone rules lawful d budget events old s run claim held key own other c e its =
     ((sound_of rules lawful d budget events old s).claims run claim held).alone key other c (own_key key claim.job own) e (own_key key c.job its)

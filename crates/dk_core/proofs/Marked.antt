@@ -13,7 +13,7 @@ use Rattle.dk_model.specs.Deliveries.{conn_of}
 use Rattle.dk_model.specs.Picks.{is_of}
 use Rattle.dk_model.proofs.Maps.{keys_total, exact_keys, some_is}
 use Rattle.dk_tasks.specs.Tasks.{Kept, with_claim, changed_at}
-use Rattle.dk_connections.specs.Linked.{Linked, change, change_some, released, with_turn, KeepsMarksBut}
+use Rattle.dk_connections.specs.MarkedConnections.{MarkedConnection, change, change_some, released, with_turn, KeepsMarksBut}
 use Rattle.dk_connections.proofs.Changes.{get-change}
 use Rattle.dk_connections.proofs.Found.{tied, conn_tied, conn_is}
 use Rattle.dk_core.proofs.MapFacts.{get-Changed}
@@ -79,24 +79,24 @@ not_it true = refl
 not_it false = refl
 
 -- what a change at the job's connection sets
-changed_to : (f : Linked → Linked) (v : Bool) → ((l : Linked) → (f l).claimed ≡ v) → (c q : ConnNo) (j : Job) → conn_of j ≡ Some c → (all : FinMap conn_cmp Linked) (l : Linked) → get (change c f all) q ≡ Some l
-    → (k : Linked) × (get all q ≡ Some k) × (l.claimed ≡ set_to v (is_of q j) k.claimed)
+changed_to : (f : MarkedConnection → MarkedConnection) (v : Bool) → ((l : MarkedConnection) → (f l).claimed ≡ v) → (c q : ConnNo) (j : Job) → conn_of j ≡ Some c → (all : FinMap conn_cmp MarkedConnection) (l : MarkedConnection) → get (change c f all) q ≡ Some l
+    → (k : MarkedConnection) × (get all q ≡ Some k) × (l.claimed ≡ set_to v (is_of q j) k.claimed)
 changed_to f v sets c q j is all l e =
-    set_of (λ (x : Linked). x.claimed) f v sets (is_of q j) (get all q) l
+    set_of (λ (x : MarkedConnection). x.claimed) f v sets (is_of q j) (get all q) l
     (ap (λ b. cond b (option_map f (get all q)) (get all q)) (of_conn q c j is ∙ sym (conn_test q c)) ∙ sym (get-change all c f q) ∙ e)
 
 -- a claim of an input marks its connection
-pub input_marked : (j : Job) (turn : ℕ) (all : FinMap conn_cmp Linked) → InputClaimed j all (change_some (conn_of j) (with_turn turn) all)
+pub input_marked : (j : Job) (turn : ℕ) (all : FinMap conn_cmp MarkedConnection) → InputClaimed j all (change_some (conn_of j) (with_turn turn) all)
 input_marked j turn all conn l e =
-    elim (conn_of j) as (λ o. conn_of j ≡ o → get (change_some o (with_turn turn) all) conn ≡ Some l → (k : Linked) × (get all conn ≡ Some k) × (l.claimed ≡ (is_of conn j || k.claimed))) [
+    elim (conn_of j) as (λ o. conn_of j ≡ o → get (change_some o (with_turn turn) all) conn ≡ Some l → (k : MarkedConnection) × (get all conn ≡ Some k) × (l.claimed ≡ (is_of conn j || k.claimed))) [
       | None ↦ λ is f. (l, f, ap (λ b. b || l.claimed) (sym (of_none conn j is)))
       | Some c ↦ λ is f. let k = changed_to (with_turn turn) true (λ _. refl) c conn j is all l f in (k.0, k.1, k.2 ∙ set_true (is_of conn j) k.0.claimed)
     ] refl e
 
 -- a claim that goes takes the mark off
-pub input_freed : (j : Job) (all : FinMap conn_cmp Linked) → KeepsMarksBut j all (change_some (conn_of j) released all)
+pub input_freed : (j : Job) (all : FinMap conn_cmp MarkedConnection) → KeepsMarksBut j all (change_some (conn_of j) released all)
 input_freed j all conn l e =
-    elim (conn_of j) as (λ o. conn_of j ≡ o → get (change_some o released all) conn ≡ Some l → (k : Linked) × (get all conn ≡ Some k) × (l.claimed ≡ (k.claimed && not (is_of conn j)))) [
+    elim (conn_of j) as (λ o. conn_of j ≡ o → get (change_some o released all) conn ≡ Some l → (k : MarkedConnection) × (get all conn ≡ Some k) × (l.claimed ≡ (k.claimed && not (is_of conn j)))) [
       | None ↦ λ is f. (l, f, not_it l.claimed ∙ ap (λ b. l.claimed && not b) (sym (of_none conn j is)))
       | Some c ↦ λ is f. let k = changed_to released false (λ _. refl) c conn j is all l f in (k.0, k.1, k.2 ∙ set_false (is_of conn j) k.0.claimed)
     ] refl e

@@ -19,13 +19,13 @@ use Rattle.dk_laws.proofs.Numbers.{opening_below}
 use Rattle.dk_laws.proofs.OneWorld.{events_lead}
 use Rattle.dk_laws.proofs.OpenClaims.{TheClaims}
 use Rattle.dk_tasks.specs.Tasks.{Kept}
-use Rattle.dk_connections.specs.Linked.{Linked, all_of, IsSwept}
+use Rattle.dk_connections.specs.MarkedConnections.{MarkedConnection, all_of, IsSwept}
 use Rattle.dk_connections.proofs.Kept.{some_in}
 use Rattle.dk_core.specs.StampedWorlds.{durable_of, read_now, HasStamps}
 use Rattle.dk_core.specs.declared.world.Core.{Core}
 use Rattle.dk_core.specs.Claiming.{Claiming}
 use Rattle.dk_core.specs.Numbers.{HasNumbers}
-use Rattle.dk_core.specs.Cores.{world_of, StandsFor}
+use Rattle.dk_core.specs.Cores.{world_of, Represents}
 use Rattle.dk_core.proofs.Having.{has, never, has_which}
 
 has_none : (p : Job → Bool) (claims : TheClaims) → claims ≡ empty → has p claims ≡ false
@@ -37,8 +37,8 @@ no_claim claims is run claim e = not_both (get claims run) claim e (ap (λ m. ge
 pub opened : (rules : Meaning) (d : DurableWorld) (budget : Option ℕ) (c : Core) → IsValid d → durable_of c.world ≡ d → HasStamps (λ _. d.commits) c.world
     → ((key : TaskKey) (t : Kept) → get c.world.tasks key ≡ Some t → t.claimed ≡ false)
     → all_of c.connections.connections ≡ with_sessions (counting (durable_of c.world)) empty
-    → ((conn : ConnNo) (l : Linked) → get c.connections.connections conn ≡ Some l → l.claimed ≡ false) → IsSwept c.connections.connections
-    → c.claims ≡ record { claims = empty; next = next_of d.last; budget = budget_of budget } → c.moment ≡ 0 → c.after_task ≡ false → StandsFor rules d budget [] c
+    → ((conn : ConnNo) (l : MarkedConnection) → get c.connections.connections conn ≡ Some l → l.claimed ≡ false) → IsSwept c.connections.connections
+    → c.claims ≡ record { claims = empty; next = next_of d.last; budget = budget_of budget } → c.moment ≡ 0 → c.after_task ≡ false → Represents rules d budget [] c
 unfolding opening
 opened rules d budget c valid is stamps tasks connected inputs swept claims moment after =
     let none : c.claims.claims ≡ empty = ap (λ (n : Claiming). n.claims) claims in record {
@@ -65,7 +65,7 @@ opened rules d budget c valid is stamps tasks connected inputs swept claims mome
     }
 
 -- a read of the core is what its history answers and sees
-pub read_at : (c : Core) (item : Item) (read : Read) → read ≡ read_now c.world item → (rules : Meaning) (d : DurableWorld) (budget : Option ℕ) (events : List Event) → StandsFor rules d budget events c
+pub read_at : (c : Core) (item : Item) (read : Read) → read ≡ read_now c.world item → (rules : Meaning) (d : DurableWorld) (budget : Option ℕ) (events : List Event) → Represents rules d budget events c
     → IsReadAt rules (opening d budget) events item read
 read_at c item read is rules d budget events s =
     let at = events_lead rules (opening d budget) events (world_of c) s.leads in record {
@@ -74,7 +74,7 @@ read_at c item read is rules d budget events s =
     }
 
 -- and its numbers are drawn
-pub numbers_first : (d : DurableWorld) (commits : ℕ) (claims : Claiming) (all : FinMap conn_cmp Linked) → IsValid d → commits ≡ d.commits → claims.claims ≡ empty → claims.next ≡ next_of d.last
+pub numbers_first : (d : DurableWorld) (commits : ℕ) (claims : Claiming) (all : FinMap conn_cmp MarkedConnection) → IsValid d → commits ≡ d.commits → claims.claims ≡ empty → claims.next ≡ next_of d.last
     → all_of all ≡ with_sessions (counting d) empty → HasNumbers commits claims all
 unfolding opening
 numbers_first d commits claims all valid number none next is =

@@ -7,8 +7,8 @@ use Rattle.dk_types.specs.declared.item.Read.{Read}
 use Rattle.dk_laws.proofs.StaleReads.{seen_equal, seen_itself}
 use Rattle.dk_laws.proofs.SoundConnections.{all_append}
 use Rattle.dk_core.specs.StampedWorlds.{Stamped, seen_now}
-use Rattle.dk_core.specs.Changes.{same_seen, Stands, IsFirstChanged}
-use Rattle.dk_core.specs.declared.durable.changed.Changed.{Changed}
+use Rattle.dk_core.specs.Changes.{same_seen, Stands, IsFirstConflict}
+use Rattle.dk_core.specs.declared.durable.conflicts.Conflict.{Conflict}
 
 module _ (w : Stamped) (reads : List (Item × Read)) (i : ℕ) (x : Item × Read) (lt : i < length reads) (is : x ≡ get_or reads i x) (front : AllByRecursion (Stands w) (take i reads)) where
   -- one more that stands
@@ -18,7 +18,7 @@ module _ (w : Stamped) (reads : List (Item × Read)) (i : ℕ) (x : Item × Read
       (all_append (Stands w) (take i reads) (x ∷ []) front (seen_equal x.1.seen (seen_now w x.0) (sym h), tt))
 
   -- the one that does not
-  pub first_is : false ≡ same_seen x.1.seen (seen_now w x.0) → (c : Changed) → c.item ≡ x.0 → c.found ≡ x.1.seen → c.now ≡ seen_now w x.0 → IsFirstChanged w reads c
+  pub first_is : false ≡ same_seen x.1.seen (seen_now w x.0) → (c : Conflict) → c.item ≡ x.0 → c.found ≡ x.1.seen → c.now ≡ seen_now w x.0 → IsFirstConflict w reads c
   first_is h c item found now = record {
     before = take i reads;
     read = x.1;

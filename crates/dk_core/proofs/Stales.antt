@@ -14,17 +14,17 @@ use Rattle.dk_model.specs.Sights.{stamp, seen, seen_in}
 use Rattle.dk_laws.proofs.OneWorld.{events_lead}
 use Rattle.dk_txn.specs.declared.finished.Finished.{Finished}
 use Rattle.dk_core.specs.Answers.{TellsRefused, TellsStale, CommitsOrTells}
-use Rattle.dk_core.specs.Changes.{Stands, IsFirstChanged}
+use Rattle.dk_core.specs.Changes.{Stands, IsFirstConflict}
 use Rattle.dk_core.specs.Claiming.{Claiming}
-use Rattle.dk_core.specs.Cores.{world_of, StandsFor, Stays, HasMoreRoom, IsGranted}
+use Rattle.dk_core.specs.Cores.{world_of, Represents, Stays, HasMoreRoom, IsGranted}
 use Rattle.dk_core.specs.StampedWorlds.{seen_now}
 use Rattle.dk_core.specs.declared.answers.PrepareRefused.{PrepareRefused}
 use Rattle.dk_core.specs.declared.answers.PrepareRefused.TheVariants as prepare_refused
 use Rattle.dk_core.specs.declared.claimed.Claimed.{Claimed}
-use Rattle.dk_core.specs.declared.durable.changed.Changed.{Changed}
+use Rattle.dk_core.specs.declared.durable.conflicts.Conflict.{Conflict}
 use Rattle.dk_core.specs.declared.world.Core.{Core}
 
-module _ (rules : Meaning) (d : DurableWorld) (budget : Option ℕ) (events : List Event) (c : Core) (s : StandsFor rules d budget events c) where
+module _ (rules : Meaning) (d : DurableWorld) (budget : Option ℕ) (events : List Event) (c : Core) (s : Represents rules d budget events c) where
   -- what is seen now is what is seen after the history
   pub seen_here : (item : Item) → seen_now c.world item ≡ seen rules (opening d budget) events item
   seen_here item =
@@ -34,7 +34,7 @@ module _ (rules : Meaning) (d : DurableWorld) (budget : Option ℕ) (events : Li
   stand_here [] h = tt
   stand_here (r ∷ reads) h = (h.0 ∙ seen_here r.0, stand_here reads h.1)
 
-first_stale : (c : Core) (f : Finished) (changed : Changed) → IsFirstChanged c.world f.reads.items changed → TellsStale c f (prepare_refused.Retry changed)
+first_stale : (c : Core) (f : Finished) (changed : Conflict) → IsFirstConflict c.world f.reads.items changed → TellsStale c f (prepare_refused.Retry changed)
 first_stale c f changed h rules d budget events s = record {
   before = h.before;
   read = h.read;

@@ -16,9 +16,9 @@ use Rattle.dk_laws.proofs.SoundHistories.{history_sound}
 use Rattle.dk_laws.proofs.Stamps.{stamp_from-append}
 use Rattle.dk_core.specs.StampedWorlds.{durable_of, seen_now, HasStamps}
 use Rattle.dk_core.specs.declared.world.Core.{Core}
-use Rattle.dk_core.specs.Cores.{world_of, IsTracked, StandsFor}
+use Rattle.dk_core.specs.Cores.{world_of, IsTracked, Represents}
 
-module _ (rules : Meaning) (lawful : AreLawful rules) (d : DurableWorld) (budget : Option ℕ) (events : List Event) (old : Core) (s : StandsFor rules d budget events old) where
+module _ (rules : Meaning) (lawful : AreLawful rules) (d : DurableWorld) (budget : Option ℕ) (events : List Event) (old : Core) (s : Represents rules d budget events old) where
   -- the world is sound, and its numbers are below the next
   pub sound_of : IsSound (world_of old)
   sound_of = history_sound rules d budget events (world_of old) lawful s.valid s.within s.leads
@@ -34,7 +34,7 @@ module _ (rules : Meaning) (lawful : AreLawful rules) (d : DurableWorld) (budget
         ∙ ap (λ w. stamped_by item (stamp rules (opening d budget) events item) (step_by rules w e)) (sym (events_lead rules (opening d budget) events (world_of old) s.leads))
 
     -- where its stamps are those of before with the step's own number where the step wrote
-    pub entered : ((stamps : Item → ℕ) → HasStamps stamps old.world → HasStamps (λ item. stamped_by item (stamps item) (step_by rules (world_of old) e)) new.world) → StandsFor rules d budget (events ++ e ∷ []) new
+    pub entered : ((stamps : Item → ℕ) → HasStamps stamps old.world → HasStamps (λ item. stamped_by item (stamps item) (step_by rules (world_of old) e)) new.world) → Represents rules d budget (events ++ e ∷ []) new
     entered stamped = record {
       valid = s.valid;
       within = all_append IsWithinLimits events (e ∷ []) s.within (within, tt);
@@ -45,6 +45,6 @@ module _ (rules : Meaning) (lawful : AreLawful rules) (d : DurableWorld) (budget
 
     -- where it steps nothing, and all that is read is as it was
     pub entered_still : step_by rules (world_of old) e ≡ None → durable_of new.world ≡ durable_of old.world → ((item : Item) → seen_now new.world item ≡ seen_now old.world item)
-        → StandsFor rules d budget (events ++ e ∷ []) new
+        → Represents rules d budget (events ++ e ∷ []) new
     entered_still none durable seen = entered (λ stamps has item.
         seen item ∙ has item ∙ ap (λ x. seen_in x (stamps item) item) (sym durable) ∙ ap (λ o. seen_in (durable_of new.world) (stamped_by item (stamps item) o) item) (sym none))

@@ -12,7 +12,7 @@ use Rattle.dk_model.specs.Worlds.{World, Claim, new_connection}
 use Rattle.dk_model.specs.Picks.{is_of, is_task_of, is_claimed}
 use Rattle.dk_model.proofs.Maps.{runs_total, exact_runs, conns_total, exact_conns, get-insert_cases, get-remove_cases}
 use Rattle.dk_tasks.specs.Tasks.{Kept}
-use Rattle.dk_connections.specs.Linked.{Linked, unclaimed, IsSwept, KeepsMarks, KeepsMarksBut, MarksBy}
+use Rattle.dk_connections.specs.MarkedConnections.{MarkedConnection, unclaimed, IsSwept, KeepsMarks, KeepsMarksBut, MarksBy}
 use Rattle.dk_core.specs.Cores.{IsTracked}
 use Rattle.dk_core.proofs.Having.{never, has_which, has_there, has_insert, has_remove}
 
@@ -29,7 +29,7 @@ of_one a b job.Initialize e f = absurd cc
 of_one a b (job.Task key due period kind arg) e f = absurd cc
 
 -- the connections get one more, whose number was to be drawn next
-pub tracked_connect : (w : World) (name : List ℕ) (all after : FinMap conn_cmp Linked) (tasks : FinMap key_cmp Kept) → IsTracked w all tasks
+pub tracked_connect : (w : World) (name : List ℕ) (all after : FinMap conn_cmp MarkedConnection) (tasks : FinMap key_cmp Kept) → IsTracked w all tasks
     → after ≡ insert all (record { 0 = w.next }) (unclaimed (new_connection name w.next)) → IsSwept after → (connections : _) → IsTracked (record w { next = w.next + 1; connections = connections }) after tasks
 tracked_connect w name all after tasks t is swept connections = record {
   swept = swept;
@@ -38,7 +38,7 @@ tracked_connect w name all after tasks t is swept connections = record {
         never (is_claimed (is_of conn) w) (λ h.
         let c = has_which (is_of conn) w.claims h in
         let below = t.below c.run c.claim conn c.there c.passes in
-        let at : conn.0 ≡ w.next = ap (λ (x : ConnNo). x.0) p.0 in omega (arith, below, at)) ∙ ap (λ (x : Linked). x.claimed) p.1
+        let at : conn.0 ≡ w.next = ap (λ (x : ConnNo). x.0) p.0 in omega (arith, below, at)) ∙ ap (λ (x : MarkedConnection). x.claimed) p.1
     | inr there ↦ t.inputs conn l there
   ];
   tasks = t.tasks;
@@ -48,7 +48,7 @@ tracked_connect w name all after tasks t is swept connections = record {
 }
 
 -- the connections keep their marks, and the claims stay
-pub tracked_kept : (w : World) (all after : FinMap conn_cmp Linked) (tasks : FinMap key_cmp Kept) → IsTracked w all tasks → KeepsMarks all after → IsSwept after
+pub tracked_kept : (w : World) (all after : FinMap conn_cmp MarkedConnection) (tasks : FinMap key_cmp Kept) → IsTracked w all tasks → KeepsMarks all after → IsSwept after
     → (moment : ℕ) (connections : _) → IsTracked (record w { moment = moment; connections = connections }) after tasks
 tracked_kept w all after tasks t keeps swept moment connections = record {
   swept = swept;
@@ -64,7 +64,7 @@ abbrev pub TasksBy : (TaskKey → Bool → Bool) → FinMap key_cmp Kept → Fin
 TasksBy mark before after = (key : TaskKey) (t : Kept) → get after key ≡ Some t → (k : Kept) × (get before key ≡ Some k) × (t.claimed ≡ mark key k.claimed)
 
 -- the input or the task of a job that is claimed is marked
-abbrev pub InputClaimed : Job → FinMap conn_cmp Linked → FinMap conn_cmp Linked → Type 0
+abbrev pub InputClaimed : Job → FinMap conn_cmp MarkedConnection → FinMap conn_cmp MarkedConnection → Type 0
 InputClaimed j = MarksBy (λ conn claimed. is_of conn j || claimed)
 
 abbrev pub TaskClaimed : Job → FinMap key_cmp Kept → FinMap key_cmp Kept → Type 0
@@ -82,7 +82,7 @@ both_ways : (b : Bool) → b ≡ true → b ≡ false → ⊥
 both_ways b e f = absurd cc
 
 -- a job is claimed
-pub tracked_claim : (w : World) (pass : ℕ) (j : Job) (all after : FinMap conn_cmp Linked) (tasks marked : FinMap key_cmp Kept) → IsTracked w all tasks
+pub tracked_claim : (w : World) (pass : ℕ) (j : Job) (all after : FinMap conn_cmp MarkedConnection) (tasks marked : FinMap key_cmp Kept) → IsTracked w all tasks
     → get w.claims (record { 0 = w.next }) ≡ None → (w.durable.commits ≡ 0 → j ≡ job.Initialize) → ((conn : ConnNo) → is_of conn j ≡ true → IsFree w conn)
     → InputClaimed j all after → IsSwept after → TaskClaimed j tasks marked
     → (budget : _) (after_task : Bool) (connections : _)
@@ -119,7 +119,7 @@ abbrev pub TaskAlone : World → RunNo → Claim → Type 0
 TaskAlone w run claim = (key : TaskKey) → is_task_of key claim.job ≡ true → (other : RunNo) (c : Claim) → get w.claims other ≡ Some c → is_task_of key c.job ≡ true → other ≡ run
 
 -- a claim goes
-pub tracked_less : (w : World) (run : RunNo) (claim : Claim) (all after : FinMap conn_cmp Linked) (tasks freed : FinMap key_cmp Kept) → IsTracked w all tasks
+pub tracked_less : (w : World) (run : RunNo) (claim : Claim) (all after : FinMap conn_cmp MarkedConnection) (tasks freed : FinMap key_cmp Kept) → IsTracked w all tasks
     → get w.claims run ≡ Some claim → TaskAlone w run claim → KeepsMarksBut claim.job all after → IsSwept after
     → ((key : TaskKey) (t : Kept) → get freed key ≡ Some t → t.claimed ≡ (is_claimed (is_task_of key) w && not (is_task_of key claim.job)))
     → (durable : DurableWorld) → (durable.commits ≡ 0 → w.durable.commits ≡ 0) → (budget : _) (connections : _)

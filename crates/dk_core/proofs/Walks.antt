@@ -13,7 +13,7 @@ use Rattle.dk_model.specs.DurableWorlds.{DurableWorld}
 use Rattle.dk_model.specs.Deliveries.{Connections}
 use Rattle.dk_model.specs.Openings.{counting, ended_connection, first_of_each, has_number, login_of, session_at, with_sessions}
 use Rattle.dk_model.proofs.Maps.{conns_total}
-use Rattle.dk_connections.specs.Linked.{Linked, all_of}
+use Rattle.dk_connections.specs.MarkedConnections.{MarkedConnection, all_of}
 use Rattle.dk_core.proofs.Walked.{map-map}
 use Rattle.dk_core.specs.Firsts.{with_first, IsFresh}
 
@@ -64,16 +64,16 @@ abbrev pub session_in : DurableWorld → List ℕ × ObjectId → Option Session
 session_in d e = session_at d (login_of e.0) e.1
 
 -- a walk has come so far: with the sessions that are left, the connections are those with all sessions
-pub record IsWalked (left start : List (Option Session)) (all : FinMap conn_cmp Linked) : Type 0 where
+pub record IsWalked (left start : List (Option Session)) (all : FinMap conn_cmp MarkedConnection) : Type 0 where
   pub so_far : with_firsts left (all_of all) ≡ with_firsts start empty
   pub fresh : IsFresh all
 
 -- as it begins, none is opened
-pub walk_begun : (start : List (Option Session)) (all : FinMap conn_cmp Linked) → all_of all ≡ empty → IsFresh all → IsWalked start start all
+pub walk_begun : (start : List (Option Session)) (all : FinMap conn_cmp MarkedConnection) → all_of all ≡ empty → IsFresh all → IsWalked start start all
 walk_begun start all none fresh = record { so_far = ap (with_firsts start) none; fresh = fresh }
 
 -- a walk over all names that has come to its end has opened those that count
-pub walk_ended : {A : Type 0} (d : DurableWorld) (both : A → List ℕ × ObjectId) (es start left : List A) (all : FinMap conn_cmp Linked) → map both es ≡ entries d.names → start ≡ es
+pub walk_ended : {A : Type 0} (d : DurableWorld) (both : A → List ℕ × ObjectId) (es start left : List A) (all : FinMap conn_cmp MarkedConnection) → map both es ≡ entries d.names → start ≡ es
     → IsWalked (map (λ e. session_in d (both e)) left) (map (λ e. session_in d (both e)) start) all → left ≡ [] → all_of all ≡ with_sessions (counting d) empty
 walk_ended d both es start left all listed from walked end =
     ap (λ (l : List _). with_firsts (map (λ e. session_in d (both e)) l) (all_of all)) (sym end)

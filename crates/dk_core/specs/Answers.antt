@@ -23,7 +23,7 @@ use Rattle.dk_txn.specs.Finishes.{told}
 use Rattle.dk_connections.specs.declared.answers.PostRefused.{PostRefused}
 use Rattle.dk_connections.specs.declared.answers.PostRefused.TheVariants as post_refused
 use Rattle.dk_connections.specs.declared.answers.Handed.{Handed}
-use Rattle.dk_core.specs.Changes.{Stands, IsFirstChanged, stale_of}
+use Rattle.dk_core.specs.Changes.{Stands, IsFirstConflict, stale_of}
 use Rattle.dk_core.specs.Rooms.{HasPlaces, places_of}
 use Rattle.dk_core.specs.declared.world.Core.{Core}
 use Rattle.dk_core.specs.declared.claimed.Claimed.{Claimed}
@@ -34,7 +34,7 @@ use Rattle.dk_core.specs.declared.answers.ClaimRefused.TheVariants as claim_refu
 use Rattle.dk_core.specs.declared.answers.PrepareRefused.{PrepareRefused}
 use Rattle.dk_core.specs.declared.answers.PrepareRefused.TheVariants as prepare_refused
 use Rattle.dk_core.specs.declared.prepared.Prepared.{Prepared}
-use Rattle.dk_core.specs.Cores.{StandsFor, Extends, Adds, Stays, IsGranted}
+use Rattle.dk_core.specs.Cores.{Represents, Extends, Adds, Stays, IsGranted}
 
 -- a Connect of this name, whatever pass it is of; after want of memory the core is as it was
 abbrev pub Connected : Core → Core → List ℕ → Result ConnNo ConnectRefused → Type 0
@@ -73,14 +73,14 @@ HasRoomFor c f = HasPlaces c.world.room (places_of f.effects)
 
 -- why nothing is made ready: a read no longer stands, and the first such is told
 abbrev pub TellsRefused : Core → Finished → PrepareRefused → Type 0
-TellsRefused c f (prepare_refused.Retry changed) = IsFirstChanged c.world f.reads.items changed
+TellsRefused c f (prepare_refused.Retry changed) = IsFirstConflict c.world f.reads.items changed
 TellsRefused c f prepare_refused.NoMemory = Unit {0}
 
 -- a Retry tells the first stale read after every history that the core stands for
 abbrev pub TellsStale : Core → Finished → PrepareRefused → Type 0
 TellsStale c f (prepare_refused.Retry changed) =
     (rules : Meaning) (d : DurableWorld) (budget : Option ℕ) (events : List Event)
-    → StandsFor rules d budget events c → IsFirstStale rules (opening d budget) events f.reads.items (stale_of changed)
+    → Represents rules d budget events c → IsFirstStale rules (opening d budget) events f.reads.items (stale_of changed)
 TellsStale c f prepare_refused.NoMemory = Unit {0}
 
 -- what is made ready, with the room, or why it is not
@@ -108,5 +108,5 @@ Commits old new claimed f seq =
 -- both in one: where it is refused the claim is handed back, and stands
 abbrev pub CommitsOrTells : Core → Core → Claimed → Finished → Result ℕ (Claimed × PrepareRefused) → Type 0
 CommitsOrTells old new claimed f (Ok seq) = (seq ≡ old.world.commits + 1) × AllByRecursion (Stands old.world) f.reads.items × Commits old new claimed f seq
-CommitsOrTells old new claimed f (Err (back, prepare_refused.Retry changed)) = (back ≡ claimed) × IsGranted new claimed × IsFirstChanged old.world f.reads.items changed × Stays old new × TellsStale old f (prepare_refused.Retry changed)
+CommitsOrTells old new claimed f (Err (back, prepare_refused.Retry changed)) = (back ≡ claimed) × IsGranted new claimed × IsFirstConflict old.world f.reads.items changed × Stays old new × TellsStale old f (prepare_refused.Retry changed)
 CommitsOrTells old new claimed f (Err (back, prepare_refused.NoMemory)) = (back ≡ claimed) × IsGranted new claimed × Stays old new

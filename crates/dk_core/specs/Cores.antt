@@ -19,7 +19,7 @@ use Rattle.dk_model.specs.Openings.{opening}
 use Rattle.dk_model.specs.Sights.{stamp}
 use Rattle.dk_model.specs.Lawful.{AreLawful, IsWithinLimits}
 use Rattle.dk_tasks.specs.Tasks.{Kept}
-use Rattle.dk_connections.specs.Linked.{Linked, all_of, IsSwept}
+use Rattle.dk_connections.specs.MarkedConnections.{MarkedConnection, all_of, IsSwept}
 use Rattle.dk_core.specs.StampedWorlds.{durable_of, seen_now, with_room, HasStamps}
 use Rattle.dk_core.specs.Rooms.{IsNoLess}
 use Rattle.dk_core.specs.declared.world.Core.{Core}
@@ -39,9 +39,9 @@ world_of c = record {
 
 -- the marks on connections and tasks tell which of them claimed runs have, and each input has one run at most; no connection is over with nothing
 -- left to hand
-pub record IsTracked (w : World) (all : FinMap conn_cmp Linked) (kept : FinMap key_cmp Kept) : Type 0 where
+pub record IsTracked (w : World) (all : FinMap conn_cmp MarkedConnection) (kept : FinMap key_cmp Kept) : Type 0 where
   pub swept : IsSwept all
-  pub inputs : (conn : ConnNo) (l : Linked) → get all conn ≡ Some l → is_claimed (is_of conn) w ≡ l.claimed
+  pub inputs : (conn : ConnNo) (l : MarkedConnection) → get all conn ≡ Some l → is_claimed (is_of conn) w ≡ l.claimed
   pub tasks : (key : TaskKey) (t : Kept) → get kept key ≡ Some t → is_claimed (is_task_of key) w ≡ t.claimed
   -- before the first commit the first run alone is claimed
   pub first : w.durable.commits ≡ 0 → (run : RunNo) (claim : Claim) → get w.claims run ≡ Some claim → claim.job ≡ job.Initialize
@@ -50,7 +50,7 @@ pub record IsTracked (w : World) (all : FinMap conn_cmp Linked) (kept : FinMap k
   pub below : (run : RunNo) (claim : Claim) (conn : ConnNo) → get w.claims run ≡ Some claim → is_of conn claim.job ≡ true → conn.0 < w.next
 
 -- from the opening of d with this budget on, the events lead to the core's world, and its stamps are those of the history
-pub record StandsFor (rules : Meaning) (d : DurableWorld) (budget : Option ℕ) (events : List Event) (c : Core) : Type 0 where
+pub record Represents (rules : Meaning) (d : DurableWorld) (budget : Option ℕ) (events : List Event) (c : Core) : Type 0 where
   pub valid : IsValid d
   pub within : AllByRecursion IsWithinLimits events
   pub leads : Leads rules (opening d budget) events (world_of c)
@@ -59,7 +59,7 @@ pub record StandsFor (rules : Meaning) (d : DurableWorld) (budget : Option ℕ) 
 
 -- the history is extended by these events: a core that stood for it stands for it with them at its end
 abbrev pub Extends : Meaning → DurableWorld → Option ℕ → List Event → Core → Core → List Event → Type 0
-Extends rules d budget events old new more = StandsFor rules d budget events old → StandsFor rules d budget (events ++ more) new
+Extends rules d budget events old new more = Represents rules d budget events old → Represents rules d budget (events ++ more) new
 
 -- whatever history of these rules it stood for
 abbrev pub AddsBy : Meaning → Core → Core → List Event → Type 0
@@ -95,7 +95,7 @@ pub record IsStanding (c : Core) : Type 0 where
   pub budget : Option ℕ
   pub events : List Event
   pub lawful : AreLawful rules
-  pub stands : StandsFor rules opened budget events c
+  pub stands : Represents rules opened budget events c
 
 -- the core granted this claim, and its run has not ended
 abbrev pub IsGranted : Core → Claimed → Type 0

@@ -8,7 +8,7 @@ use Rattle.dk_types.specs.declared.job.Job.TheVariants as job
 use Rattle.dk_types.specs.Keys.{key_cmp}
 use Rattle.dk_model.specs.Deliveries.{conn_of, for_conn}
 use Rattle.dk_tasks.specs.Tasks.{Kept, with_claim, changed_at}
-use Rattle.dk_connections.specs.Linked.{all_of, change_some, released, with_turn, IsSwept}
+use Rattle.dk_connections.specs.MarkedConnections.{all_of, change_some, released, with_turn, IsSwept}
 use Rattle.dk_core.specs.StampedWorlds.{durable_of, seen_now}
 use Rattle.dk_core.specs.declared.choice.Choice.{Choice}
 use Rattle.dk_core.specs.declared.choice.Choice.TheVariants as choose

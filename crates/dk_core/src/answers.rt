@@ -1,6 +1,6 @@
 //! Why a call was refused.
 
-use crate::durable::Changed;
+use crate::durable::Conflict;
 use dk_types::NoMemory;
 
 /// Why a connection was not made. The first cause in this order is told.
@@ -26,7 +26,7 @@ pub enum ClaimRefused {
 pub enum PrepareRefused {
     /// A read no longer stands: the first in the order of the reads, with what it saw and what is seen now. The job is to
     /// be run again.
-    Retry(Changed),
+    Retry(Conflict),
     NoMemory,
 }
 

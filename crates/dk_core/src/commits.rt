@@ -49,7 +49,7 @@ impl Core {
         ensures ready { Readies self.old self.new finished.now result }
         ensures stays { Stays self.old self.new }
     {
-        if let Some(changed) = self.world.first_changed(finished.reads())? {
+        if let Some(changed) = self.world.first_conflict(finished.reads())? {
             return Err(PrepareRefused::Retry(changed));
         }
         let deliveries = Deliveries::new(self.alloc, finished.outs())?;

@@ -9,7 +9,7 @@
 pub use answers::{ClaimRefused, ConnectRefused, PrepareRefused};
 pub use claimed::Claimed;
 pub use dk_connections::{Handed, PostRefused};
-pub use durable::{Changed, WorldLook};
+pub use durable::{Conflict, WorldLook};
 pub use prepared::Prepared;
 pub use world::Core;
 
@@ -20,7 +20,7 @@ mod claims;
 mod commits;
 pub mod durable;
 mod events;
-mod granting;
+mod grants;
 pub mod opening;
 pub mod prepared;
 mod rooms;

@@ -7,7 +7,7 @@ ghost use Rattle.std.specs.Prelude.{◌≡◌, false, Some, IfOk, OnOk};
 ghost use Rattle.std.specs.FinMap as map;
 ghost use Rattle.dk_types.specs.declared.number.ConnNo.{ConnNo};
 ghost use Rattle.dk_model.specs.Openings.{counting, with_sessions};
-ghost use Rattle.dk_connections.specs.Linked.{Linked, all_of, IsSwept};
+ghost use Rattle.dk_connections.specs.MarkedConnections.{MarkedConnection, all_of, IsSwept};
 ghost use Rattle.dk_core.specs.StampedWorlds.{durable_of};
 ghost use Rattle.dk_core.specs.Firsts.{with_first, IsFresh};
 
@@ -33,7 +33,7 @@ fn open_first(connections: &mut Connections, session: &Session) -> Result<(), No
 /// The connections of the recorded sessions that count: of those with one number, the one of the least name.
 pub fn open_connections(alloc: Global, world: &StampedWorld) -> Result<Connections, NoMemory>
     ensures world { IfOk result (λ c. all_of c.connections ≡ with_sessions (counting (durable_of world.now)) map.empty) }
-    ensures unclaimed { IfOk result (λ c. (conn : ConnNo) (l : Linked) → map.get c.connections conn ≡ Some l → l.claimed ≡ false) }
+    ensures unclaimed { IfOk result (λ c. (conn : ConnNo) (l : MarkedConnection) → map.get c.connections conn ≡ Some l → l.claimed ≡ false) }
     ensures swept { IfOk result (λ c. IsSwept c.connections) }
 {
     let mut connections = Connections::new(alloc);

@@ -57,13 +57,13 @@ fn next_number(last: Option<RunNo>) -> u64
 impl Core {
     ghost use Rattle.dk_core.specs.Listings.{world_of as world_in, listed};
     ghost use Rattle.dk_core.specs.StampedWorlds.{durable_of, read_now};
-    ghost use Rattle.dk_core.specs.Cores.{world_of, StandsFor};
+    ghost use Rattle.dk_core.specs.Cores.{world_of, Represents};
 
     /// The world that a durable world opens to, with a budget of claims or without: each recorded session is told of its
     /// end.
     pub fn open(alloc: Global, durable: Durable, budget: Option<u64>) -> Result<Core, NoMemory>
         requires valid { IsValid (world_in durable) }
-        ensures stands { IfOk result (λ core. (rules : Meaning) → StandsFor rules (world_in durable) budget [] core) }
+        ensures stands { IfOk result (λ core. (rules : Meaning) → Represents rules (world_in durable) budget [] core) }
     {
         let next = next_number(durable.last);
         let world = StampedWorld::open(alloc, durable)?;
@@ -95,7 +95,7 @@ impl Core {
     /// What the world answers to an item, and what is seen of it. An object is copied.
     pub fn read(&self, item: &Item) -> Result<Read, NoMemory>
         ensures now { IfOk result (λ read. read ≡ read_now self.now.world item.now) }
-        ensures at { IfOk result (λ read. (rules : Meaning) (d : DurableWorld) (budget : Option ℕ) (events : List Event) → StandsFor rules d budget events self.now → IsReadAt rules (opening d budget) events item.now read) }
+        ensures at { IfOk result (λ read. (rules : Meaning) (d : DurableWorld) (budget : Option ℕ) (events : List Event) → Represents rules d budget events self.now → IsReadAt rules (opening d budget) events item.now read) }
     {
         self.world.read(item)
     }

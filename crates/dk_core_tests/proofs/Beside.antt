@@ -11,9 +11,9 @@ use Rattle.dk_core.specs.declared.world.Core.{Core}
 use Rattle.dk_core.specs.declared.claimed.Claimed.{Claimed}
 use Rattle.dk_core.specs.Cores.{world_of, IsGranted, AddsBy}
 use Rattle.dk_workers.specs.declared.working.Ran.{Ran}
-use Rattle.dk_workers.specs.Working.{IsStandingFor, claim_of, commit_of}
+use Rattle.dk_workers.specs.Working.{RepresentsSome, claim_of, commit_of}
 
-pub kept_beside : (rules : Meaning) (old new : Core) (pass : ℕ) (ran : Ran) (claimed : Claimed) → IsStandingFor rules old → AddsBy rules old new (claim_of pass ran ∷ commit_of pass ran ∷ []) → IsGranted old claimed
+pub kept_beside : (rules : Meaning) (old new : Core) (pass : ℕ) (ran : Ran) (claimed : Claimed) → RepresentsSome rules old → AddsBy rules old new (claim_of pass ran ∷ commit_of pass ran ∷ []) → IsGranted old claimed
     → IsGranted new claimed
 kept_beside rules old new pass ran claimed s goes held =
     let n = goes s.opened s.budget s.events s.stands in

@@ -1,7 +1,7 @@
 //! A budget's last claim, and a failed run, with runs that are made by hand.
 ghost use Rattle.std.specs.Prelude.{IfOk};
 ghost use Rattle.dk_core.specs.Cores.{IsGranted};
-ghost use Rattle.dk_workers.specs.Working.{IsStandingFor};
+ghost use Rattle.dk_workers.specs.Working.{RepresentsSome};
 ghost use Rattle.dk_core_tests.specs.Twins.{twins_rules};
 
 use crate::driving::{PASS, claim, commit, opened};
@@ -18,7 +18,7 @@ use std::test::Fail;
 
 /// A claim that is refused, as the budget's are granted. The one that is held stays.
 fn claim_spent(core: &mut Core, held: &Claimed) -> Result<u64, Fail>
-    requires standing { IsStandingFor twins_rules core.old }
+    requires standing { RepresentsSome twins_rules core.old }
     requires granted { IsGranted core.old held.now }
     ensures { IfOk result (λ _. IsGranted core.new held.now) }
 {

@@ -2,9 +2,9 @@
 ghost use Rattle.std.specs.Prelude.{◌≤◌, IfOk};
 ghost use Rattle.dk_model.specs.Lawful.{IsInput};
 ghost use Rattle.dk_core.specs.Cores.{IsGranted};
-ghost use Rattle.dk_workers.specs.Working.{IsStandingFor};
+ghost use Rattle.dk_workers.specs.Working.{RepresentsSome};
 
-use dk_core::{Changed, Claimed, Core, Handed, PostRefused, PrepareRefused};
+use dk_core::{Claimed, Conflict, Core, Handed, PostRefused, PrepareRefused};
 use dk_game::Game;
 use dk_txn::Finished;
 use dk_types::{Blob, ConnNo, Durable, Input, Listed, Name, RunNo};
@@ -28,7 +28,7 @@ pub(crate) fn opened<G: Game>(
     budget: Option<u64>,
 ) -> Result<Core, Fail>
     requires { commits ≤ 1 }
-    ensures { IfOk result (IsStandingFor (G.rules game.now)) }
+    ensures { IfOk result (RepresentsSome (G.rules game.now)) }
 {
     let last = if commits == 0 { None } else { Some(RunNo(0)) };
     let durable = Durable {
@@ -46,8 +46,8 @@ pub(crate) fn opened<G: Game>(
 
 /// The job that comes next, run and committed.
 pub(crate) fn serve<G: Game>(alloc: Global, game: &G, core: &mut Core) -> Result<Ran, Fail>
-    requires { IsStandingFor (G.rules game.now) core.old }
-    ensures { IfOk result (λ _. IsStandingFor (G.rules game.now) core.new) }
+    requires { RepresentsSome (G.rules game.now) core.old }
+    ensures { IfOk result (λ _. RepresentsSome (G.rules game.now) core.new) }
 {
     let Ok(Step::Ran(ran)) = work_once(alloc, game, core, PASS) else {
         return Err(Fail::from("a run"));
@@ -62,9 +62,9 @@ pub(crate) fn serve_beside<G: Game>(
     core: &mut Core,
     held: &Claimed,
 ) -> Result<Ran, Fail>
-    requires standing { IsStandingFor (G.rules game.now) core.old }
+    requires standing { RepresentsSome (G.rules game.now) core.old }
     requires granted { IsGranted core.old held.now }
-    ensures standing { IfOk result (λ _. IsStandingFor (G.rules game.now) core.new) }
+    ensures standing { IfOk result (λ _. RepresentsSome (G.rules game.now) core.new) }
     ensures granted { IfOk result (λ _. IsGranted core.new held.now) }
 {
     let Ok(Step::Ran(ran)) = work_once(alloc, game, core, PASS) else {
@@ -75,8 +75,8 @@ pub(crate) fn serve_beside<G: Game>(
 
 /// A claim, which is granted.
 pub(crate) fn claim<G: Game>(_game: &G, core: &mut Core) -> Result<Claimed, Fail>
-    requires { IsStandingFor (G.rules _game.now) core.old }
-    ensures standing { IfOk result (λ _. IsStandingFor (G.rules _game.now) core.new) }
+    requires { RepresentsSome (G.rules _game.now) core.old }
+    ensures standing { IfOk result (λ _. RepresentsSome (G.rules _game.now) core.new) }
     ensures granted { IfOk result (IsGranted core.new) }
 {
     match core.claim(PASS) {
@@ -85,7 +85,7 @@ pub(crate) fn claim<G: Game>(_game: &G, core: &mut Core) -> Result<Claimed, Fail
     }
 }
 
-fn changed_of(refused: PrepareRefused) -> Result<Changed, Fail> {
+fn changed_of(refused: PrepareRefused) -> Result<Conflict, Fail> {
     match refused {
         PrepareRefused::Retry(changed) => Ok(changed),
         PrepareRefused::NoMemory => Err(Fail::from("memory")),
@@ -98,10 +98,10 @@ pub(crate) fn commit_stale<G: Game>(
     core: &mut Core,
     claimed: Claimed,
     finished: Finished,
-) -> Result<(Claimed, Changed), Fail>
-    requires standing { IsStandingFor (G.rules _game.now) core.old }
+) -> Result<(Claimed, Conflict), Fail>
+    requires standing { RepresentsSome (G.rules _game.now) core.old }
     requires granted { IsGranted core.old claimed }
-    ensures standing { IfOk result (λ _. IsStandingFor (G.rules _game.now) core.new) }
+    ensures standing { IfOk result (λ _. RepresentsSome (G.rules _game.now) core.new) }
     ensures granted { IfOk result (λ back. IsGranted core.new back.0) }
 {
     let Err((back, refused)) = core.commit(claimed, finished) else {
@@ -131,8 +131,8 @@ pub(crate) fn connect<G: Game>(
     core: &mut Core,
     name: &str,
 ) -> Result<ConnNo, Fail>
-    requires { IsStandingFor (G.rules _game.now) core.old }
-    ensures { IfOk result (λ _. IsStandingFor (G.rules _game.now) core.new) }
+    requires { RepresentsSome (G.rules _game.now) core.old }
+    ensures { IfOk result (λ _. RepresentsSome (G.rules _game.now) core.new) }
 {
     let name = text(alloc, name)?;
     match core.connect(&name) {
@@ -147,9 +147,9 @@ pub(crate) fn post<G: Game>(
     conn: ConnNo,
     input: Input,
 ) -> Result<Result<(), PostRefused>, Fail>
-    requires standing { IsStandingFor (G.rules _game.now) core.old }
+    requires standing { RepresentsSome (G.rules _game.now) core.old }
     requires within { IsInput input }
-    ensures { IfOk result (λ _. IsStandingFor (G.rules _game.now) core.new) }
+    ensures { IfOk result (λ _. RepresentsSome (G.rules _game.now) core.new) }
 {
     Ok(core.post(conn, input))
 }
@@ -172,8 +172,8 @@ pub(crate) fn post_bytes<G: Game>(
     conn: ConnNo,
     len: usize,
 ) -> Result<Result<(), PostRefused>, Fail>
-    requires { IsStandingFor (G.rules game.now) core.old }
-    ensures { IfOk result (λ _. IsStandingFor (G.rules game.now) core.new) }
+    requires { RepresentsSome (G.rules game.now) core.old }
+    ensures { IfOk result (λ _. RepresentsSome (G.rules game.now) core.new) }
 {
     let input = message(rt, alloc, len)?;
     post(game, core, conn, input)
@@ -185,8 +185,8 @@ pub(crate) fn hand<G: Game>(
     conn: ConnNo,
     most: u32,
 ) -> Result<Handed, Fail>
-    requires { IsStandingFor (G.rules _game.now) core.old }
-    ensures { IfOk result (λ _. IsStandingFor (G.rules _game.now) core.new) }
+    requires { RepresentsSome (G.rules _game.now) core.old }
+    ensures { IfOk result (λ _. RepresentsSome (G.rules _game.now) core.new) }
 {
     match core.hand(conn, most) {
         Ok(handed) => Ok(handed),

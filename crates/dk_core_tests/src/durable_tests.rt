@@ -1,6 +1,6 @@
 //! Commits on a stamped world, one after another: what is seen of four items after each.
 
-use dk_core::Changed;
+use dk_core::Conflict;
 use dk_core::durable::StampedWorld;
 use dk_txn::{Finished, Txn, View};
 use dk_types::{Blob, Item, Job, Name, ObjectId, Read, RunNo, Seen, TaskKey};
@@ -203,14 +203,14 @@ fn a_stale_read_is_told(rt: HostRuntime) -> Result<(), Fail> {
     let name = hall(alloc)?;
     let mut world = StampedWorld::new(alloc);
     let reads = first_reads(alloc, &world, &name)?;
-    assert!(rt; world.first_changed(&reads) == Ok(None));
+    assert!(rt; world.first_conflict(&reads) == Ok(None));
     commit(&rt, alloc, &mut world, &ROWS[0], &name)?;
-    let changed = Changed {
+    let changed = Conflict {
         item: Item::Bound(name),
         found: Seen::Absent,
         now: Seen::At(1),
     };
-    assert!(rt; world.first_changed(&reads) == Ok(Some(changed)));
+    assert!(rt; world.first_conflict(&reads) == Ok(Some(changed)));
     Ok(())
 }
 

@@ -1,6 +1,6 @@
 //! Calls of a core as rows, which one loop runs.
 ghost use Rattle.std.specs.Prelude.{IfOk};
-ghost use Rattle.dk_workers.specs.Working.{IsStandingFor};
+ghost use Rattle.dk_workers.specs.Working.{RepresentsSome};
 
 use crate::driving::{PASS, claim, connect, hand, post_bytes};
 use dk_core::{Core, PostRefused};
@@ -93,8 +93,8 @@ fn work_of(step: &Step) -> Work {
 
 /// A worker's step.
 fn take_step<G: Game>(alloc: Global, game: &G, core: &mut Core) -> Result<Work, Fail>
-    requires { IsStandingFor (G.rules game.now) core.old }
-    ensures { IfOk result (λ _. IsStandingFor (G.rules game.now) core.new) }
+    requires { RepresentsSome (G.rules game.now) core.old }
+    ensures { IfOk result (λ _. RepresentsSome (G.rules game.now) core.new) }
 {
     match work_once(alloc, game, core, PASS) {
         Ok(step) => Ok(work_of(&step)),
@@ -109,8 +109,8 @@ fn handed<G: Game>(
     conn: ConnNo,
     most: u32,
 ) -> Result<(usize, Told, bool), Fail>
-    requires { IsStandingFor (G.rules game.now) core.old }
-    ensures { IfOk result (λ _. IsStandingFor (G.rules game.now) core.new) }
+    requires { RepresentsSome (G.rules game.now) core.old }
+    ensures { IfOk result (λ _. RepresentsSome (G.rules game.now) core.new) }
 {
     let handed = hand(game, core, conn, most)?;
     let outs = handed.outs.as_slice();
@@ -125,8 +125,8 @@ fn answer<G: Game>(
     core: &mut Core,
     row: &Row,
 ) -> Result<(), Fail>
-    requires { IsStandingFor (G.rules game.now) core.old }
-    ensures { IfOk result (λ _. IsStandingFor (G.rules game.now) core.new) }
+    requires { RepresentsSome (G.rules game.now) core.old }
+    ensures { IfOk result (λ _. RepresentsSome (G.rules game.now) core.new) }
 {
     match *row {
         Row::Connect(name, number) => {
@@ -161,8 +161,8 @@ pub(crate) fn play<G: Game>(
     core: &mut Core,
     rows: &[Row],
 ) -> Result<(), Fail>
-    requires { IsStandingFor (G.rules game.now) core.old }
-    ensures { IfOk result (λ _. IsStandingFor (G.rules game.now) core.new) }
+    requires { RepresentsSome (G.rules game.now) core.old }
+    ensures { IfOk result (λ _. RepresentsSome (G.rules game.now) core.new) }
 {
     for row in rows {
         answer(rt, alloc, game, core, row)?;

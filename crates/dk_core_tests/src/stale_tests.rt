@@ -1,13 +1,13 @@
 //! A run that was begun before another's commit is refused, and run again.
 ghost use Rattle.std.specs.Prelude.{IfOk};
 ghost use Rattle.dk_core.specs.Cores.{IsGranted};
-ghost use Rattle.dk_workers.specs.Working.{IsStandingFor};
+ghost use Rattle.dk_workers.specs.Working.{RepresentsSome};
 ghost use Rattle.dk_core_tests.specs.Twins.{twins_rules};
 
 use crate::between::commit_after_others;
 use crate::driving::{PASS, claim, commit, commit_stale, opened, serve, serve_beside, text};
 use crate::twins::Twins;
-use dk_core::{Changed, Claimed, Core};
+use dk_core::{Claimed, Conflict, Core};
 use dk_txn::{Finished, ListView, Txn, View};
 use dk_types::limits::MOMENT_MOST_MS;
 use dk_types::{
@@ -19,7 +19,7 @@ use std::test::Fail;
 
 /// A core after the first run.
 fn begun(alloc: Global) -> Result<Core, Fail>
-    ensures { IfOk result (IsStandingFor twins_rules) }
+    ensures { IfOk result (RepresentsSome twins_rules) }
 {
     let mut core = opened(alloc, &Twins, 0, None)?;
     serve(alloc, &Twins, &mut core)?;
@@ -129,8 +129,8 @@ fn compares_now(
 }
 
 /// A core on which a run that read the names a and c was refused, since another has bound b.
-fn stale_names(rt: &impl Abort, alloc: Global) -> Result<(Core, Claimed, Changed), Fail>
-    ensures standing { IfOk result (λ made. IsStandingFor twins_rules made.0) }
+fn stale_names(rt: &impl Abort, alloc: Global) -> Result<(Core, Claimed, Conflict), Fail>
+    ensures standing { IfOk result (λ made. RepresentsSome twins_rules made.0) }
     ensures granted { IfOk result (λ made. IsGranted made.0 made.1) }
 {
     let mut core = begun(alloc)?;
@@ -141,8 +141,8 @@ fn stale_names(rt: &impl Abort, alloc: Global) -> Result<(Core, Claimed, Changed
     Ok((core, back, changed))
 }
 
-fn name_between(alloc: Global) -> Result<Changed, Fail> {
-    Ok(Changed {
+fn name_between(alloc: Global) -> Result<Conflict, Fail> {
+    Ok(Conflict {
         item: Item::NextAfter(Some(text(alloc, "a")?)),
         found: Seen::Next(Some(text(alloc, "c")?)),
         now: Seen::Next(Some(text(alloc, "b")?)),
@@ -169,9 +169,9 @@ fn read_pair(core: &Core, item: Item) -> Result<(Item, Read), Fail> {
 
 /// What a reader sees of its task and the first object, and of the second after another's commit.
 fn torn_reads(alloc: Global, core: &mut Core, reader: &Claimed) -> Result<Vec<(Item, Read)>, Fail>
-    requires standing { IsStandingFor twins_rules core.old }
+    requires standing { RepresentsSome twins_rules core.old }
     requires granted { IsGranted core.old reader.now }
-    ensures standing { IfOk result (λ _. IsStandingFor twins_rules core.new) }
+    ensures standing { IfOk result (λ _. RepresentsSome twins_rules core.new) }
     ensures granted { IfOk result (λ _. IsGranted core.new reader.now) }
 {
     let (key, _) = own_task(reader)?;
@@ -187,8 +187,8 @@ fn torn_reads(alloc: Global, core: &mut Core, reader: &Claimed) -> Result<Vec<(I
 }
 
 /// A core on which a run that found the two objects unequal was refused.
-fn stale_objects(rt: &impl Abort, alloc: Global) -> Result<(Core, Claimed, Changed), Fail>
-    ensures standing { IfOk result (λ made. IsStandingFor twins_rules made.0) }
+fn stale_objects(rt: &impl Abort, alloc: Global) -> Result<(Core, Claimed, Conflict), Fail>
+    ensures standing { IfOk result (λ made. RepresentsSome twins_rules made.0) }
     ensures granted { IfOk result (λ made. IsGranted made.0 made.1) }
 {
     let mut core = begun(alloc)?;
@@ -204,7 +204,7 @@ fn stale_objects(rt: &impl Abort, alloc: Global) -> Result<(Core, Claimed, Chang
 fn a_run_that_saw_two_worlds_is_refused(rt: HostRuntime) -> Result<(), Fail> {
     let alloc = rt.alloc();
     let (mut core, reader, changed) = stale_objects(&rt, alloc)?;
-    let told = Changed {
+    let told = Conflict {
         item: Item::Object(twin(0)),
         found: Seen::At(1),
         now: Seen::At(2),

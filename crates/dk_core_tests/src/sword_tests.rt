@@ -1,13 +1,13 @@
 //! In SwordWorld one looks around while another logs in, or the same again.
 ghost use Rattle.std.specs.Prelude.{IfOk};
 ghost use Rattle.dk_core.specs.Cores.{IsGranted};
-ghost use Rattle.dk_workers.specs.Working.{IsStandingFor};
+ghost use Rattle.dk_workers.specs.Working.{RepresentsSome};
 ghost use Rattle.sword_world.specs.Rules.{sword_rules};
 
 use crate::driving::{
     claim, commit, commit_stale, connect, opened, post, serve, serve_beside, text,
 };
-use dk_core::{Changed, Claimed, Core};
+use dk_core::{Claimed, Conflict, Core};
 use dk_game::run_over;
 use dk_txn::Finished;
 use dk_types::limits::MOMENT_MOST_MS;
@@ -19,7 +19,7 @@ use sword_world::SwordWorld;
 
 /// A core on which alice is logged in and another has connected, and her look waits.
 fn before_the_look(alloc: Global, other: &str) -> Result<(Core, ConnNo), Fail>
-    ensures { IfOk result (λ made. IsStandingFor sword_rules made.0) }
+    ensures { IfOk result (λ made. RepresentsSome sword_rules made.0) }
 {
     let mut core = opened(alloc, &SwordWorld, 0, None)?;
     serve(alloc, &SwordWorld, &mut core)?;
@@ -54,8 +54,8 @@ fn looks(
 }
 
 /// The room, as it stood after her login and stands after his.
-fn room_changed() -> Changed {
-    Changed {
+fn room_changed() -> Conflict {
+    Conflict {
         item: Item::Object(ObjectId {
             run: RunNo(0),
             k: 1,
@@ -66,8 +66,8 @@ fn room_changed() -> Changed {
 }
 
 /// Her record's name, as it stood after her login and stands after her second.
-fn record_changed(alloc: Global) -> Result<Changed, Fail> {
-    Ok(Changed {
+fn record_changed(alloc: Global) -> Result<Conflict, Fail> {
+    Ok(Conflict {
         item: Item::Bound(text(alloc, "$s.alice")?),
         found: Seen::At(2),
         now: Seen::At(3),
@@ -79,9 +79,9 @@ fn after_a_login(
     rt: &impl Abort,
     alloc: Global,
     other: &str,
-    told: &Changed,
+    told: &Conflict,
 ) -> Result<(Core, Claimed, ConnNo), Fail>
-    ensures standing { IfOk result (λ made. IsStandingFor sword_rules made.0) }
+    ensures standing { IfOk result (λ made. RepresentsSome sword_rules made.0) }
     ensures granted { IfOk result (λ made. IsGranted made.0 made.1) }
 {
     let (mut core, alice) = before_the_look(alloc, other)?;

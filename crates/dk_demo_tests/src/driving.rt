@@ -2,7 +2,7 @@
 ghost use Rattle.std.specs.Prelude.{IfOk};
 ghost use Rattle.dk_model.specs.Lawful.{IsInput};
 ghost use Rattle.dk_model.specs.Validity.{IsBody};
-ghost use Rattle.dk_workers.specs.Working.{IsStandingFor};
+ghost use Rattle.dk_workers.specs.Working.{RepresentsSome};
 
 use dk_core::Core;
 use dk_game::Game;
@@ -75,7 +75,7 @@ impl Told {
 
 /// A core on the world before the first run.
 fn opened<G: Game>(alloc: Global, _game: &G) -> Result<Core, Fail>
-    ensures { IfOk result (IsStandingFor (G.rules _game.now)) }
+    ensures { IfOk result (RepresentsSome (G.rules _game.now)) }
 {
     let durable = Durable {
         commits: 0,
@@ -92,8 +92,8 @@ fn opened<G: Game>(alloc: Global, _game: &G) -> Result<Core, Fail>
 
 /// A core on the durable world of another.
 fn reopen<G: Game>(alloc: Global, _game: &G, core: &Core) -> Result<Core, Fail>
-    requires { IsStandingFor (G.rules _game.now) core.now }
-    ensures { IfOk result (IsStandingFor (G.rules _game.now)) }
+    requires { RepresentsSome (G.rules _game.now) core.now }
+    ensures { IfOk result (RepresentsSome (G.rules _game.now)) }
 {
     let durable = core.durable()?;
     match Core::open(alloc, durable, None) {
@@ -109,8 +109,8 @@ fn login<G: Game>(
     told: &mut Told,
     name: &str,
 ) -> Result<(), Fail>
-    requires { IsStandingFor (G.rules _game.now) core.old }
-    ensures { IfOk result (λ _. IsStandingFor (G.rules _game.now) core.new) }
+    requires { RepresentsSome (G.rules _game.now) core.old }
+    ensures { IfOk result (λ _. RepresentsSome (G.rules _game.now) core.new) }
 {
     let name = Name::new(alloc, name.as_bytes()).ok().ok_or("a name")?;
     let Ok(conn) = core.connect(&name) else {
@@ -143,9 +143,9 @@ fn channel_input(alloc: Global, channel: &str, text: &str) -> Result<Input, Fail
 }
 
 fn post<G: Game>(_game: &G, core: &mut Core, conn: ConnNo, input: Input) -> Result<(), Fail>
-    requires standing { IsStandingFor (G.rules _game.now) core.old }
+    requires standing { RepresentsSome (G.rules _game.now) core.old }
     requires within { IsInput input }
-    ensures { IfOk result (λ _. IsStandingFor (G.rules _game.now) core.new) }
+    ensures { IfOk result (λ _. RepresentsSome (G.rules _game.now) core.new) }
 {
     match core.post(conn, input) {
         Ok(()) => Ok(()),
@@ -154,15 +154,15 @@ fn post<G: Game>(_game: &G, core: &mut Core, conn: ConnNo, input: Input) -> Resu
 }
 
 fn tick<G: Game>(_game: &G, core: &mut Core, moment: u64)
-    requires { IsStandingFor (G.rules _game.now) core.old }
-    ensures { IsStandingFor (G.rules _game.now) core.new }
+    requires { RepresentsSome (G.rules _game.now) core.old }
+    ensures { RepresentsSome (G.rules _game.now) core.new }
 {
     core.tick(moment);
 }
 
 fn serve<G: Game>(alloc: Global, game: &G, core: &mut Core) -> Result<Option<Ran>, Fail>
-    requires { IsStandingFor (G.rules game.now) core.old }
-    ensures { IfOk result (λ _. IsStandingFor (G.rules game.now) core.new) }
+    requires { RepresentsSome (G.rules game.now) core.old }
+    ensures { IfOk result (λ _. RepresentsSome (G.rules game.now) core.new) }
 {
     match work_once(alloc, game, core, PASS) {
         Ok(Worked::Ran(ran)) => Ok(Some(ran)),
@@ -173,8 +173,8 @@ fn serve<G: Game>(alloc: Global, game: &G, core: &mut Core) -> Result<Option<Ran
 
 /// Runs jobs until none is left.
 fn drain<G: Game>(alloc: Global, game: &G, core: &mut Core, told: &mut Told) -> Result<(), Fail>
-    requires { IsStandingFor (G.rules game.now) core.old }
-    ensures { IfOk result (λ _. IsStandingFor (G.rules game.now) core.new) }
+    requires { RepresentsSome (G.rules game.now) core.old }
+    ensures { IfOk result (λ _. RepresentsSome (G.rules game.now) core.new) }
 {
     for _job in 0..JOBS_MOST {
         match serve(alloc, game, core)? {
@@ -191,8 +191,8 @@ fn hand<G: Game>(
     conn: ConnNo,
     events: &mut Vec<Event>,
 ) -> Result<(), Fail>
-    requires { IsStandingFor (G.rules _game.now) core.old }
-    ensures { IfOk result (λ _. IsStandingFor (G.rules _game.now) core.new) }
+    requires { RepresentsSome (G.rules _game.now) core.old }
+    ensures { IfOk result (λ _. RepresentsSome (G.rules _game.now) core.new) }
 {
     let Ok(handed) = core.hand(conn, ALL) else {
         return Err(Fail::from("a list"));
@@ -209,8 +209,8 @@ fn hand<G: Game>(
 
 /// Hands each client all that waits for it, in the order of logging in.
 fn hand_all<G: Game>(game: &G, core: &mut Core, told: &mut Told) -> Result<(), Fail>
-    requires { IsStandingFor (G.rules game.now) core.old }
-    ensures { IfOk result (λ _. IsStandingFor (G.rules game.now) core.new) }
+    requires { RepresentsSome (G.rules game.now) core.old }
+    ensures { IfOk result (λ _. RepresentsSome (G.rules game.now) core.new) }
 {
     for conn in &told.opened {
         hand(game, core, *conn, &mut told.events)?;
@@ -225,8 +225,8 @@ fn take<G: Game>(
     told: &mut Told,
     step: Step<'_>,
 ) -> Result<(), Fail>
-    requires { IsStandingFor (G.rules game.now) core.old }
-    ensures { IfOk result (λ _. IsStandingFor (G.rules game.now) core.new) }
+    requires { RepresentsSome (G.rules game.now) core.old }
+    ensures { IfOk result (λ _. RepresentsSome (G.rules game.now) core.new) }
 {
     match step {
         Step::Login(name) => login(alloc, game, core, told, name),

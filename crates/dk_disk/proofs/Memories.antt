@@ -4,8 +4,8 @@ use Rattle.dk_types.specs.declared.side.Side.{Side}
 use Rattle.dk_types.specs.declared.side.Side.TheVariants.{Zero, One}
 use Rattle.dk_types.specs.declared.fault.Failed.{Failed}
 use Rattle.dk_disk.specs.Disk.{Disk, IsImage, settled}
-use Rattle.dk_disk.specs.Past.{now, other_side, Elapses, Stays, Becomes}
-use Rattle.dk_disk.specs.Drive.{Files}
+use Rattle.dk_disk.specs.DiskHistories.{now, other_side, Elapses, Stays, Becomes}
+use Rattle.dk_disk.specs.MemoryFiles.{Files}
 use Rattle.dk_types.specs.FaultPlan.{fails_next, counted_up}
 use Rattle.dk_disk.specs.Record.{Call, Change, AreUpTo, changed, made, failed, after_one}
 use Rattle.dk_disk.specs.Memory.{Memory, past_of, first_of, next_call, looked, IsRecorded, IsRefused, Changes, IsConsistent, Opens}

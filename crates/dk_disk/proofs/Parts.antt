@@ -3,9 +3,9 @@ use Rattle.std.proofs.Common.{◌≡◌, ℕ, ◌+◌, ◌<◌, ◌≤◌, Bool,
 use Rattle.dk_types.specs.declared.side.Side.{Side}
 use Rattle.dk_types.specs.declared.side.Side.TheVariants.{Zero, One}
 use Rattle.dk_types.specs.Faults.{COUNT_END}
-use Rattle.dk_disk.specs.Drive.{Files, file_of, HasPlace, AreReserved, Takes}
+use Rattle.dk_disk.specs.MemoryFiles.{Files, file_of, HasPlace, AreReserved, Takes}
 use Rattle.dk_disk.specs.CallRecord.{Calls, IsSpared}
-use Rattle.dk_disk.specs.Opening.{Entrance, NotCalled, Refused, Opened, opening_of}
+use Rattle.dk_disk.specs.Opening.{HomeOpening, NotCalled, Refused, Opened, opening_of}
 use Rattle.dk_types.specs.declared.fault.Failed.{Failed}
 use Rattle.dk_types.specs.FaultPlan.{Plan, after_call, after_fault}
 use Rattle.dk_disk.specs.Record.{Change}
@@ -28,7 +28,7 @@ both_kept true false x le = absurd (omega (arith, le))
 both_kept false b x le = absurd (omega (arith, le))
 
 -- the parts have the room that the home has
-pub ready : (files : Files) (calls : Calls) (plan : Plan) (entrance : Entrance) (side : Side) (n : ℕ) → HasRoom (memory_of files calls plan entrance) n → IsReady files calls plan side n
+pub ready : (files : Files) (calls : Calls) (plan : Plan) (entrance : HomeOpening) (side : Side) (n : ℕ) → HasRoom (memory_of files calls plan entrance) n → IsReady files calls plan side n
 ready files calls plan entrance side n has =
     let kept = both_kept files.zero.is_kept files.one.is_kept calls.spare_calls has.calls in
     record { place = place side kept.0 kept.1; spare = record { calls_fit = kept.2; bytes_fit = omega (arith, has.bytes) }; number = has.number }
@@ -37,7 +37,7 @@ ready files calls plan entrance side n has =
     place Zero a b = record { kept = a; room = omega (arith, has.bytes) }
     place One a b = record { kept = b; room = omega (arith, has.bytes) }
 
-pub refused : (files files' : Files) (calls calls' : Calls) (plan : Plan) (entrance : Entrance) (side : Side) (n : ℕ) → AreReserved files files' → IsSpared calls calls' → (IsReady files calls plan side n → ⊥)
+pub refused : (files files' : Files) (calls calls' : Calls) (plan : Plan) (entrance : HomeOpening) (side : Side) (n : ℕ) → AreReserved files files' → IsSpared calls calls' → (IsReady files calls plan side n → ⊥)
     → IsRefused (memory_of files calls plan entrance) (memory_of files' calls' (after_fault plan) entrance) n
 refused files files' calls calls' plan entrance side n reserved spared lacks = record {
   memory = rw ((reserved Zero).first, (reserved One).first, spared.same) refl;
@@ -46,7 +46,7 @@ refused files files' calls calls' plan entrance side n reserved spared lacks = r
   full = λ has. lacks (ready files calls plan entrance side n has);
 }
 
-pub recorded : (files files1 files2 : Files) (calls calls1 calls2 : Calls) (plan : Plan) (entrance : Entrance) (side : Side) (change : Change) (n : ℕ) → AreReserved files files1 → IsSpared calls calls1 → plan.calls < COUNT_END
+pub recorded : (files files1 files2 : Files) (calls calls1 calls2 : Calls) (plan : Plan) (entrance : HomeOpening) (side : Side) (change : Change) (n : ℕ) → AreReserved files files1 → IsSpared calls calls1 → plan.calls < COUNT_END
     → ((s : Side) → Takes (file_of files1 s) (file_of files2 s) n) → calls2.calls ≡ calls1.calls ++ next_call plan side change ∷ [] → calls1.spare_calls ≤ calls2.spare_calls + 1 → calls1.spare_bytes ≤ calls2.spare_bytes + n
     → IsRecorded (memory_of files calls plan entrance) (memory_of files2 calls2 (after_call plan) entrance) side change n
 recorded files files1 files2 calls calls1 calls2 plan entrance side change n reserved spared number takes pushed spare_calls spare_bytes = record {
@@ -57,7 +57,7 @@ recorded files files1 files2 calls calls1 calls2 plan entrance side change n res
 }
 
 -- room that was made
-pub has_room : (files files' : Files) (calls calls' : Calls) (plan : Plan) (entrance entrance' : Entrance) → AreReserved files files' → IsSpared calls calls' → entrance'.opening ≡ entrance.opening → entrance'.fails ≡ entrance.fails → entrance.room ≤ entrance'.room
+pub has_room : (files files' : Files) (calls calls' : Calls) (plan : Plan) (entrance entrance' : HomeOpening) → AreReserved files files' → IsSpared calls calls' → entrance'.opening ≡ entrance.opening → entrance'.fails ≡ entrance.fails → entrance.room ≤ entrance'.room
     → IsRoomy (memory_of files calls plan entrance) (memory_of files' calls' plan entrance')
 has_room files files' calls calls' plan entrance entrance' reserved spared opening fails room = record {
   memory = rw ((reserved Zero).first, (reserved One).first, spared.same, opening, fails) refl;
@@ -69,7 +69,7 @@ has_room files files' calls calls' plan entrance entrance' reserved spared openi
 recounted : (plan plan' : Plan) → (plan'.failing ≡ plan.failing) × (plan'.calls ≡ plan.calls) → plan' ≡ record { failing = plan.failing; calls = plan.calls; faults = plan'.faults }
 recounted plan plan' kept = λ i. record { failing = kept.0 i; calls = kept.1 i; faults = plan'.faults }
 
-module _ (files : Files) (calls : Calls) (plan plan' : Plan) (entrance entrance' : Entrance) (dir : List ℕ) (kept : (plan'.failing ≡ plan.failing) × (plan'.calls ≡ plan.calls)) (fails : entrance'.fails ≡ entrance.fails) where
+module _ (files : Files) (calls : Calls) (plan plan' : Plan) (entrance entrance' : HomeOpening) (dir : List ℕ) (kept : (plan'.failing ≡ plan.failing) × (plan'.calls ≡ plan.calls)) (fails : entrance'.fails ≡ entrance.fails) where
   -- the folder's name was kept
   opened : entrance'.opening ≡ opening_of true (not entrance.fails) dir → entrance.room ≤ entrance'.room + length dir → IsOpened (memory_of files calls plan entrance) (memory_of files calls plan' entrance') dir
   opened opening room = record {

@@ -5,7 +5,7 @@ use Rattle.std.proofs.lemmas.Option.{none-some}
 use Rattle.dk_types.specs.declared.side.Side.{Side}
 use Rattle.dk_types.specs.declared.side.Side.TheVariants.{Zero, One}
 use Rattle.dk_disk.specs.Disk.{Disk, IsImage, after_write}
-use Rattle.dk_disk.specs.Past.{other_side}
+use Rattle.dk_disk.specs.DiskHistories.{other_side}
 use Rattle.dk_disk.specs.Record.{Call, Change, Write, Cut, Sync, AreUpTo, changed, made, failed, is_side, after_one, replayed}
 use Rattle.dk_disk.proofs.Images.{settled_image, failed_write_image, write_image, failed_cut_image, cut_image}
 

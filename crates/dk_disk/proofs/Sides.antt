@@ -5,8 +5,8 @@ use Rattle.dk_types.specs.declared.side.Side.TheVariants.{Zero, One}
 use Rattle.dk_disk.specs.Step.{IsWithin, IsAddressable, step_size}
 use Rattle.dk_disk.specs.declared.step.Step.{Step}
 use Rattle.dk_disk.specs.declared.step.Step.TheVariants as step
-use Rattle.dk_disk.specs.Past.{other_side}
-use Rattle.dk_disk.specs.Drive.{File, Files, file_of, IsChanged, Takes}
+use Rattle.dk_disk.specs.DiskHistories.{other_side}
+use Rattle.dk_disk.specs.MemoryFiles.{File, Files, file_of, IsChanged, Takes}
 
 pub by_side : (P : Side → Type 0) (side : Side) → P side → P (other_side side) → (s : Side) → P s
 by_side P Zero this other Zero = this

@@ -3,7 +3,7 @@ use Rattle.std.proofs.Common.{◌≡◌, ℕ, ◌≤◌, Bool, true, false, List
 use Rattle.dk_types.specs.declared.side.Side.{Side}
 use Rattle.dk_types.specs.declared.side.Side.TheVariants.{Zero, One}
 use Rattle.dk_disk.specs.Disk.{Disk, IsImage, settled, after_write}
-use Rattle.dk_disk.specs.Drive.{Files, file_of}
+use Rattle.dk_disk.specs.MemoryFiles.{Files, file_of}
 use Rattle.dk_disk.specs.Record.{Call, Change, Write, Cut, Sync, changed, is_side, after_one, replayed}
 use Rattle.dk_disk.specs.Memory.{first_of}
 use Rattle.dk_disk.specs.Torn.{IsTorn}

@@ -1,8 +1,8 @@
 pub mod Disk
-pub mod Past
+pub mod DiskHistories
 pub mod Opening
 pub mod Record
-pub mod Drive
+pub mod MemoryFiles
 pub mod Step
 pub mod CallRecord
 pub mod Memory

@@ -5,9 +5,9 @@ use Rattle.dk_types.specs.declared.fault.Failed.{Failed}
 use Rattle.dk_types.specs.declared.side.Side.{Side}
 use Rattle.dk_types.specs.declared.side.Side.TheVariants.{Zero, One}
 use Rattle.dk_disk.specs.Disk.{settled}
-use Rattle.dk_disk.specs.Past.{Past, now}
-use Rattle.dk_disk.specs.Opening.{Opening, Entrance, opening_of}
-use Rattle.dk_disk.specs.Drive.{Files, file_of, HasPlace}
+use Rattle.dk_disk.specs.DiskHistories.{DiskHistory, now}
+use Rattle.dk_disk.specs.Opening.{Opening, HomeOpening, opening_of}
+use Rattle.dk_disk.specs.MemoryFiles.{Files, file_of, HasPlace}
 use Rattle.dk_disk.specs.CallRecord.{Calls, HasSpare}
 use Rattle.dk_types.specs.FaultPlan.{Plan, fails_next, counted_up, after_call, after_fault}
 use Rattle.dk_disk.specs.Record.{Call, Change, AreUpTo, replayed}
@@ -33,7 +33,7 @@ first_of zero one Zero = zero
 first_of zero one One = one
 
 -- its moments are the numbers of its calls
-abbrev pub past_of : Memory → Past
+abbrev pub past_of : Memory → DiskHistory
 past_of memory = record { clock = memory.plan.calls; disks = λ t side. replayed t side memory.calls (settled (first_of memory.zero memory.one side)) }
 
 -- the next call, and whether it is to fail
@@ -93,7 +93,7 @@ abbrev pub looked : Memory → Memory
 looked memory = record { zero = memory.zero; one = memory.one; calls = memory.calls; plan = after_call memory.plan; opening = memory.opening; open_fails = memory.open_fails; room = memory.room }
 
 -- what is seen of the parts
-abbrev pub memory_of : Files → Calls → Plan → Entrance → Memory
+abbrev pub memory_of : Files → Calls → Plan → HomeOpening → Memory
 memory_of files calls plan entrance = record {
   zero = files.zero.first;
   one = files.one.first;

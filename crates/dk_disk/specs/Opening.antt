@@ -18,7 +18,7 @@ abbrev pub opening_of : Bool → Bool → List ℕ → Opening
 opening_of called ok dir = if called then (if ok then Opened dir else Refused dir) else NotCalled
 
 -- the opening of a home in memory, whether it is to fail, and room for a name of so many bytes
-pub record Entrance : Type 0 where
+pub record HomeOpening : Type 0 where
   pub opening : Opening
   pub fails : Bool
   pub room : ℕ

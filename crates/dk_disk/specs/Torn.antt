@@ -1,7 +1,7 @@
 -- Which image a crash gives.
 use Rattle.std.specs.Prelude.{◌≡◌, ◌⊎◌, ℕ, ◌<◌, ◌≤◌, List, length, slice_index}
 use Rattle.dk_disk.specs.Disk.{Disk, IsTouched, IsUntouched}
-use Rattle.dk_disk.specs.Past.{Past}
+use Rattle.dk_disk.specs.DiskHistories.{DiskHistory}
 use Rattle.dk_types.specs.declared.side.Side.TheVariants.{Zero, One}
 use Rattle.dk_disk.specs.declared.torn.Torn.{Torn}
 use Rattle.dk_disk.specs.declared.torn.Torn.TheVariants.{Old, New, Zeros, Ones}
@@ -24,7 +24,7 @@ IsTorn Zeros disk image = IsFilled 0 disk.least disk image
 IsTorn Ones disk image = IsFilled 255 disk.greatest disk image
 
 -- the images of both files that were asked for, at this moment
-abbrev pub AreTorn : Torn → Past → ℕ → List ℕ → List ℕ → Type 0
+abbrev pub AreTorn : Torn → DiskHistory → ℕ → List ℕ → List ℕ → Type 0
 AreTorn torn past t zero one = IsTorn torn (past.disks t Zero) zero × IsTorn torn (past.disks t One) one
 
 -- this byte at the places from start to before end, and elsewhere what was there

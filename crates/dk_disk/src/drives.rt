@@ -1,11 +1,11 @@
 //! The two files of a home in memory.
 ghost use Rattle.std.specs.Prelude.{◌≡◌, ◌<◌, ◌^◌, length, OnOk, OnErr};
 ghost use Rattle.dk_types.specs.declared.side.Side.{Side as Which};
-ghost use Rattle.dk_disk.specs.Past.{other_side};
-ghost use Rattle.dk_disk.specs.Drive.{file_of, HasPlace, AreReserved, IsReserved, IsChanged};
+ghost use Rattle.dk_disk.specs.DiskHistories.{other_side};
+ghost use Rattle.dk_disk.specs.MemoryFiles.{file_of, HasPlace, AreReserved, IsReserved, IsChanged};
 ghost use Rattle.dk_disk.specs.Step.{step_size, IsWithin, reads_after};
 
-use crate::drive::Drive;
+use crate::memory_file::MemoryFile;
 use crate::step::Step;
 use dk_types::{NoMemory, Side};
 use std::alloc::Global;
@@ -14,12 +14,12 @@ use std::marker::Model;
 /// Both files.
 #[derive(Drop)]
 pub(crate) struct Drives {
-    zero: Drive,
-    one: Drive,
+    zero: MemoryFile,
+    one: MemoryFile,
 }
 
 impl Model for Drives {
-    ghost use Rattle.dk_disk.specs.Drive.{Files};
+    ghost use Rattle.dk_disk.specs.MemoryFiles.{Files};
 
     ghost Value = { Files };
 
@@ -34,8 +34,8 @@ impl Drives {
         ensures one_reads { result.one.reads ≡ one.items }
     {
         Drives {
-            zero: Drive::new(alloc, zero),
-            one: Drive::new(alloc, one),
+            zero: MemoryFile::new(alloc, zero),
+            one: MemoryFile::new(alloc, one),
         }
     }
 

@@ -5,7 +5,7 @@ ghost use Rattle.dk_types.specs.FaultPlan.{fails_next};
 ghost use Rattle.dk_disk.specs.Disk.{IsImage, after_write, after_failed_write, after_cut, after_failed_cut, after_sync};
 ghost use Rattle.dk_disk.specs.Opening.{NotCalled, Refused, Opened, IsOpen};
 ghost use Rattle.dk_disk.specs.Record.{Write, Cut, Sync};
-ghost use Rattle.dk_disk.specs.Past.{now, Elapses, Stays, Becomes, MayBecome};
+ghost use Rattle.dk_disk.specs.DiskHistories.{now, Elapses, Stays, Becomes, MayBecome};
 ghost use Rattle.dk_disk.specs.Memory.{past_of, looked, Changes, Opens};
 
 use crate::home::Home;

@@ -3,7 +3,7 @@ ghost use Rattle.std.specs.Prelude.{◌≡◌, ◌⊎◌, ◌+◌, ◌≤◌, �
 ghost use Rattle.dk_types.specs.Faults.{HasRisen, COUNT_END};
 ghost use Rattle.dk_disk.specs.Disk.{IsImage, after_write, after_failed_write, after_cut, after_failed_cut, after_sync};
 ghost use Rattle.dk_disk.specs.Opening.{Opening, NotCalled, Refused, Opened, IsOpen};
-ghost use Rattle.dk_disk.specs.Past.{Past, now, Elapses, Stays, Becomes, MayBecome};
+ghost use Rattle.dk_disk.specs.DiskHistories.{DiskHistory, now, Elapses, Stays, Becomes, MayBecome};
 
 use dk_types::{Failed, Side};
 
@@ -17,7 +17,7 @@ pub trait Home {
     ghost opening: { Self → Opening };
 
     /// The moment, and what a read gives and a stop may leave at every moment so far.
-    ghost past: { Self → Past };
+    ghost past: { Self → DiskHistory };
 
     /// The count of faults. It never falls, and stays at 2^64 - 1.
     ghost counted: { Self → ℕ };

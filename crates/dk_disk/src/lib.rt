@@ -12,12 +12,12 @@ pub use memory_home::MemoryHome;
 pub use torn::{CrashRefused, Torn};
 
 mod call_record;
-mod drive;
 mod drives;
-mod entrance;
 pub mod folder_home;
 pub mod holding_home;
 pub mod home;
+mod home_opening;
+mod memory_file;
 pub mod memory_home;
 mod replay;
 mod step;

@@ -7,17 +7,17 @@ ghost use Rattle.dk_types.specs.declared.side.Side.{Side as Which};
 ghost use Rattle.dk_types.specs.FaultPlan.{after_call, fails_next};
 ghost use Rattle.dk_disk.specs.Step.{change_of, step_size, reads_after, IsWithin};
 ghost use Rattle.dk_disk.specs.Record.{Write, Cut, Sync, made, failed};
-ghost use Rattle.dk_disk.specs.Past.{now, other_side, Elapses, Stays, Becomes, MayBecome, MayLeave};
+ghost use Rattle.dk_disk.specs.DiskHistories.{now, other_side, Elapses, Stays, Becomes, MayBecome, MayLeave};
 ghost use Rattle.dk_disk.specs.Memory.{past_of, next_call, looked, Changes, IsReady, IsRoomy, Opens};
 ghost use Rattle.dk_disk.specs.Torn.{IsTorn, AreTorn};
 ghost use Rattle.dk_disk.specs.declared.torn.CrashRefused.TheVariants.{NoSuchCall, NoMemory as WantOfMemory};
-ghost use Rattle.dk_disk.specs.Drive.{AreReserved, HasPlace, Takes, file_of};
+ghost use Rattle.dk_disk.specs.MemoryFiles.{AreReserved, HasPlace, Takes, file_of};
 ghost use Rattle.dk_disk.specs.CallRecord.{IsSpared, IsPushed, HasSpare};
 
 use crate::call_record::{CallRecord, Recorded};
 use crate::drives::Drives;
-use crate::entrance::Entrance;
 use crate::home::Home;
+use crate::home_opening::HomeOpening;
 use crate::replay::Replay;
 use crate::step::Step;
 use crate::torn::{CrashRefused, Torn};
@@ -34,7 +34,7 @@ pub struct MemoryHome {
     drives: Drives,
     calls: CallRecord,
     plan: FaultPlan,
-    entrance: Entrance,
+    entrance: HomeOpening,
 }
 
 impl Model for MemoryHome {
@@ -63,7 +63,7 @@ impl MemoryHome {
             drives: Drives::new(alloc, zero, one),
             calls: CallRecord::new(alloc),
             plan: FaultPlan::new(failing),
-            entrance: Entrance::new(alloc, open_fails),
+            entrance: HomeOpening::new(alloc, open_fails),
         }
     }
 
@@ -368,7 +368,7 @@ fn make_room(
 fn make_all_room(
     drives: &mut Drives,
     calls: &mut CallRecord,
-    entrance: &mut Entrance,
+    entrance: &mut HomeOpening,
     more_calls: usize,
     bytes: usize,
 ) -> Result<(), NoMemory>

@@ -7,7 +7,7 @@ ghost use Rattle.dk_disk.specs.Step.{change_of, IsAddressable};
 ghost use Rattle.dk_disk.specs.Torn.{IsTorn, IsFilledOver, IsPainted};
 
 use crate::call_record::{CallRecord, Recorded};
-use crate::drive::write_over;
+use crate::memory_file::write_over;
 use crate::step::Step;
 use crate::torn::Torn;
 use dk_types::{NoMemory, Side};

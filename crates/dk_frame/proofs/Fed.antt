@@ -7,13 +7,13 @@ use Rattle.dk_frame.specs.declared.frame.FrameRefused.{FrameRefused}
 use Rattle.dk_frame.specs.declared.frames.Frames.{Frames}
 use Rattle.dk_frame.specs.Meanings.{frame_of, fault_of, stage_of}
 use Rattle.dk_frame.specs.Fronts.{IsRead, IsToldOf}
-use Rattle.dk_frame.specs.Decoding.{Decoding, StandsFor, Refuses, following, following_at}
+use Rattle.dk_frame.specs.Decoding.{Decoding, HasDecoded, Refuses, following, following_at}
 use Rattle.dk_frame.specs.Behind.{behind}
 use Rattle.dk_frame.proofs.Standing.{stands_on}
 
 -- with this piece, these are the next frames of whatever the decoder stands for
 abbrev pub Gives : Decoding → List ℕ → Decoding → List Frame → Type 0
-Gives old piece new frames = (stream : List ℕ) (given : List Frame) → StandsFor old stream given → StandsFor new (stream ++ piece) (given ++ frames)
+Gives old piece new frames = (stream : List ℕ) (given : List Frame) → HasDecoded old stream given → HasDecoded new (stream ++ piece) (given ++ frames)
 
 -- what was read are the next frames
 pub gives_read : (old : Decoding) (piece : List ℕ) (read : Frames) → old.fault ≡ None → (old.stage ≡ LoggedOut → ⊥) → IsRead old.stage (old.held ++ piece) read → Gives old piece (behind old piece read) (map frame_of read.frames.items)
@@ -31,7 +31,7 @@ refuses_answer (Ok frames) read old piece new at gives place faults told = tt
 refuses_answer (Err e) read old piece new at gives place faults told = subst (Refuses old piece new) (sym told.is) (
   bad,
   λ stream given s.
-      subst (λ (frames : List Frame). StandsFor new (stream ++ piece) frames) (append-nil given) (subst (λ (items : List ClientFrame). StandsFor new (stream ++ piece) (given ++ map frame_of items)) told.none (gives stream given s)),
+      subst (λ (frames : List Frame). HasDecoded new (stream ++ piece) frames) (append-nil given) (subst (λ (items : List ClientFrame). HasDecoded new (stream ++ piece) (given ++ map frame_of items)) told.none (gives stream given s)),
 )
   where
     bad : following new ≡ Bad at (fault_of told.why)

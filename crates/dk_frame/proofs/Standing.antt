@@ -2,7 +2,7 @@
 use Rattle.std.proofs.Common.{◌≡◌, ℕ, ◌+◌, List, [], ◌∷◌, ◌++◌, length, drop, Option, Some, None, refl, sym, ap, subst, ◌∙◌, append_assoc, length-append, arith}
 use Rattle.dk_model.specs.Frames.{Frame, Stage, AtLogin, InSession, LoggedOut, Fault, Following, Bad, Follows, AreInTurn, stage_after, stream_of}
 use Rattle.dk_frame.specs.Fronts.{AreTaken, Stops}
-use Rattle.dk_frame.specs.Decoding.{Decoding, StandsFor, following, following_at, kept, passed}
+use Rattle.dk_frame.specs.Decoding.{Decoding, HasDecoded, following, following_at, kept, passed}
 use Rattle.dk_frame.proofs.Turns.{AreInTurn-append, stage_after-append, stream_of-append}
 use Rattle.dk_frame.proofs.GoingOn.{faults_go_on}
 
@@ -29,7 +29,7 @@ stops_follow LoggedOut at rest None stops = refl
 stops_follow LoggedOut at rest (Some fault) stops = absurd cc
 
 -- where no frame follows whatever comes, more bytes change nothing but their count
-pub stands_still : (d : Decoding) (stream piece : List ℕ) (given : List Frame) (fault : Fault) → d.fault ≡ Some fault → StandsFor d stream given → StandsFor (fed_more d (length piece)) (stream ++ piece) given
+pub stands_still : (d : Decoding) (stream piece : List ℕ) (given : List Frame) (fault : Fault) → d.fault ≡ Some fault → HasDecoded d stream given → HasDecoded (fed_more d (length piece)) (stream ++ piece) given
 stands_still d stream piece given fault bad s = record {
   is = record {
     in_turn = s.is.in_turn;
@@ -51,7 +51,7 @@ stands_still d stream piece given fault bad s = record {
     nothing rest = ap (λ (f : Option Fault). kept d.stage f rest) bad
 
 -- the same behind a LOGOUT
-pub stands_over : (d : Decoding) (stream piece : List ℕ) (given : List Frame) → d.fault ≡ None → d.stage ≡ LoggedOut → StandsFor d stream given → StandsFor (fed_more d (length piece)) (stream ++ piece) given
+pub stands_over : (d : Decoding) (stream piece : List ℕ) (given : List Frame) → d.fault ≡ None → d.stage ≡ LoggedOut → HasDecoded d stream given → HasDecoded (fed_more d (length piece)) (stream ++ piece) given
 stands_over d stream piece given fine over s = record {
   is = record {
     in_turn = s.is.in_turn;
@@ -79,7 +79,7 @@ fed_on d piece taken stage fault = passed (record { fed = d.fed + length piece; 
 -- the frames that a piece completes are the next of the stream
 pub stands_on : (d : Decoding) (stream piece : List ℕ) (given frames : List Frame) (taken : ℕ) (stage : Stage) (fault : Option Fault)
     → d.fault ≡ None → (d.stage ≡ LoggedOut → ⊥) → AreTaken d.stage (d.held ++ piece) frames taken stage → Stops stage (drop taken (d.held ++ piece)) fault
-    → StandsFor d stream given → StandsFor (fed_on d piece taken stage fault) (stream ++ piece) (given ++ frames)
+    → HasDecoded d stream given → HasDecoded (fed_on d piece taken stage fault) (stream ++ piece) (given ++ frames)
 stands_on d stream piece given frames taken stage fault fine running are stops s = record {
   is = record {
     in_turn = AreInTurn-append AtLogin given frames s.is.in_turn (subst (λ (x : Stage). AreInTurn x frames) s.stage are.in_turn);
@@ -116,8 +116,8 @@ stands_on d stream piece given frames taken stage fault fine running are stops s
     ends = are.comes_to ∙ ap (λ (x : Stage). stage_after x frames) s.stage ∙ sym (stage_after-append AtLogin given frames)
 
 -- a decoder that was fed nothing
-pub stands_new : (held : List ℕ) → held ≡ [] → StandsFor (record { fed = 0; at = 0; stage = AtLogin; held = held; fault = None }) [] []
-stands_new held is = subst (λ (h : List ℕ). StandsFor (record { fed = 0; at = 0; stage = AtLogin; held = h; fault = None }) [] []) (sym is) (record {
+pub stands_new : (held : List ℕ) → held ≡ [] → HasDecoded (record { fed = 0; at = 0; stage = AtLogin; held = held; fault = None }) [] []
+stands_new held is = subst (λ (h : List ℕ). HasDecoded (record { fed = 0; at = 0; stage = AtLogin; held = h; fault = None }) [] []) (sym is) (record {
   is = record { in_turn = tt; rest = []; whole = refl; follows = refl };
   fed = refl;
   at = refl;

@@ -31,7 +31,7 @@ kept InSession None rest = rest
 kept LoggedOut None rest = []
 
 -- It was fed this stream and gave these frames. They are the whole frames of the stream, and what it holds is what follows them.
-pub record StandsFor (d : Decoding) (stream : List ℕ) (frames : List Frame) : Type 0 where
+pub record HasDecoded (d : Decoding) (stream : List ℕ) (frames : List Frame) : Type 0 where
   pub is : IsStream stream frames (following d)
   pub fed : d.fed ≡ length stream
   pub at : d.at ≡ length (stream_of frames)
@@ -43,7 +43,7 @@ abbrev pub Refuses : Decoding → List ℕ → Decoding → FrameRefused → Typ
 Refuses old piece new NoMemory = new ≡ old
 Refuses old piece new (BadFrame at why) =
     (following new ≡ Bad at (fault_of why))
-    × ((stream : List ℕ) (given : List Frame) → StandsFor old stream given → StandsFor new (stream ++ piece) given)
+    × ((stream : List ℕ) (given : List Frame) → HasDecoded old stream given → HasDecoded new (stream ++ piece) given)
 
 -- no frame is begun
 abbrev pub IsNotBegun : Following → Type 0

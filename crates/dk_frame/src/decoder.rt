@@ -5,7 +5,7 @@ ghost use Rattle.dk_frame.specs.declared.frame.FrameFault.{FrameFault};
 ghost use Rattle.dk_frame.specs.Meanings.{frame_of, fault_of, stage_of};
 ghost use Rattle.dk_frame.specs.Fronts.{IsRead};
 ghost use Rattle.dk_frame.specs.Behind.{behind, gone_on, IsReadBehind};
-ghost use Rattle.dk_frame.specs.Decoding.{StandsFor, Refuses, IsNotBegun, following};
+ghost use Rattle.dk_frame.specs.Decoding.{HasDecoded, Refuses, IsNotBegun, following};
 
 use crate::frame::{ClientFrame, FrameFault, FrameRefused, Truncated};
 use crate::frames::Frames;
@@ -45,7 +45,7 @@ impl Model for Decoder {
 impl Decoder {
     /// A decoder that was fed nothing. Takes no memory.
     pub fn new(alloc: Global) -> Decoder
-        ensures { StandsFor result [] [] }
+        ensures { HasDecoded result [] [] }
     {
         Decoder {
             fed: 0,
@@ -68,8 +68,8 @@ impl Decoder {
     /// further one.
     pub fn feed(&mut self, piece: &[u8]) -> Result<Vec<ClientFrame>, FrameRefused>
         requires { self.old.fed + length piece.now ≤ STREAM_MOST_BYTES }
-        ensures ok { IfOk result (λ frames. (stream : List ℕ) (given : List Frame) → StandsFor self.old stream given
-            → StandsFor self.new (stream ++ piece.now) (given ++ map frame_of frames.items)) }
+        ensures ok { IfOk result (λ frames. (stream : List ℕ) (given : List Frame) → HasDecoded self.old stream given
+            → HasDecoded self.new (stream ++ piece.now) (given ++ map frame_of frames.items)) }
         // Where no frame comes, a bad one is not passed over.
         ensures told { IfOk result (λ frames. frames.items ≡ [] → self.new.fault ≡ None) }
         ensures refused { IfErr result (Refuses self.old piece.now self.new) }

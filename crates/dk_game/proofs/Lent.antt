@@ -12,7 +12,7 @@ use Rattle.dk_txn.specs.declared.finished.Finished.{Finished}
 use Rattle.dk_overlay.specs.Logged.{Logged, nothing_done}
 use Rattle.dk_txn.specs.Finishes.{told}
 use Rattle.dk_txn.specs.Asks.{IsAskedOnce}
-use Rattle.dk_txn.specs.Knowing.{JobFits}
+use Rattle.dk_txn.specs.Knowing.{HasTaskLimits}
 use Rattle.dk_txn.specs.Law.{IsBegun}
 use Rattle.dk_txn.specs.Sights.{Sights}
 
@@ -38,7 +38,7 @@ asked_back {v = v} {b = b} sights result first last asked =
     subst (λ x. IfOk result (λ f. IsAskedOnce sights b x f.reads.items)) last (subst (λ x. IfOk result (λ f. IsAskedOnce sights x v f.reads.items)) first asked)
 
 -- a job within its limits has the moments of a task within theirs
-pub job_fits : (j : Job) → IsJob j → JobFits j
+pub job_fits : (j : Job) → IsJob j → HasTaskLimits j
 job_fits (job.Task key due period kind arg) h = record { due_most = h.1.due; period_most = h.1.period }
 job_fits job.Initialize h = tt
 job_fits (job.Login conn name) h = tt

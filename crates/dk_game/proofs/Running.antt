@@ -11,7 +11,7 @@ use Rattle.dk_model.specs.Runs.{Act}
 use Rattle.dk_model.specs.Steps.{work, game_part}
 use Rattle.dk_txn.specs.declared.finished.Finished.{Finished}
 use Rattle.dk_txn.specs.Finishes.{told, TellsEnd}
-use Rattle.dk_txn.specs.Knowing.{JobFits}
+use Rattle.dk_txn.specs.Knowing.{HasTaskLimits}
 use Rattle.dk_overlay.specs.Logged.{Logged}
 use Rattle.dk_txn.specs.declared.txn.Txn.{Txn}
 use Rattle.dk_txn.specs.Does.{DoesFor, outcome_told}
@@ -26,7 +26,7 @@ use Rattle.dk_txn.specs.Asks.{AskedInTurn, AsksAny, IsAskedOnce}
 
 -- a run that did the whole of its job, from its start, and tells what its end tells, keeps the law
 pub job_kept : {S : Type 0} {sights : Sights S} {a b : Txn S Logged} {r : Result (Unit {0}) Halt} (rules : Job → Act (Unit {0})) (j : Job) (end : Result (Unit {0}) AppFault) (f : Finished)
-    → IsBegun (a.log) → DoesFor (MayMove j) sights halt_fault a b (work (game_part rules) j) r → AsksOwn j b.log r → JobFits j → outcome_told halt_fault r ≡ Some end
+    → IsBegun (a.log) → DoesFor (MayMove j) sights halt_fault a b (work (game_part rules) j) r → AsksOwn j b.log r → HasTaskLimits j → outcome_told halt_fault r ≡ Some end
     → f.reads.items ≡ b.log.reads → TellsEnd b.log j end f → KeepsLaw rules j a.log.run a.log.at f.reads.items (told f)
 job_kept {a = a} rules j end f start p asks fits is reads tells = record {
   keeps = λ d valid agrees new stands.

@@ -6,7 +6,7 @@ ghost use Rattle.dk_game.specs.Halted.{halt_fault};
 
 use crate::game::Game;
 use crate::halt::Halt;
-use crate::parts::game_part;
+use crate::job_parts::game_part;
 use dk_channels::{Channel, is_member, record_of, send};
 use dk_sessions::is_connected;
 use dk_txn::{Refusal, Txn, View};

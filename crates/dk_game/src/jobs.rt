@@ -1,7 +1,7 @@
 //! The whole of a job.
 ghost use Rattle.std.specs.Prelude.{◌≡◌, IfOk};
 ghost use Rattle.dk_model.specs.Steps.{of_session, game_part as part, work};
-ghost use Rattle.dk_txn.specs.Knowing.{JobFits};
+ghost use Rattle.dk_txn.specs.Knowing.{HasTaskLimits};
 ghost use Rattle.dk_txn.specs.Does.{DoesFor};
 ghost use Rattle.dk_txn.specs.Law.{IsBegun};
 ghost use Rattle.dk_game.specs.Halted.{halt_fault};
@@ -10,7 +10,7 @@ ghost use Rattle.dk_game.specs.Moving.{MayMove, AsksOwn};
 use crate::channel_jobs::channel;
 use crate::game::Game;
 use crate::halt::Halt;
-use crate::parts::{game_part, occurrence};
+use crate::job_parts::{game_part, occurrence};
 use crate::session_jobs::{disconnect, login, message};
 use dk_txn::{Txn, View};
 use dk_types::{ConnNo, Job, Name, Session};
@@ -30,7 +30,7 @@ pub(crate) fn work_job<G: Game, V: View>(
     job: &Job,
     txn: &mut Txn<'_, V>,
 ) -> Result<(), Halt>
-    requires { JobFits job.now }
+    requires { HasTaskLimits job.now }
     ensures does { DoesFor (MayMove job.now) V.sights halt_fault txn.old txn.new (work (part (G.rules game.now)) job.now) result }
     ensures same_mode { txn.new.log.mode ≡ txn.old.log.mode }
     ensures asked { IsBegun txn.old.log → AsksOwn job.now txn.new.log result }

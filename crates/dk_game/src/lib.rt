@@ -7,14 +7,14 @@
 
 pub use game::Game;
 pub use halt::Halt;
-pub use over::run_over;
+pub use job_runs::run_over;
 pub use run::run_job;
 
 mod channel_jobs;
 pub mod game;
 pub mod halt;
+mod job_parts;
+pub mod job_runs;
 mod jobs;
-pub mod over;
-mod parts;
 pub mod run;
 mod session_jobs;

@@ -7,7 +7,7 @@ ghost use Rattle.dk_model.specs.Finishes.{KeepsLaw};
 ghost use Rattle.dk_overlay.specs.Asked.{IsOnce};
 ghost use Rattle.dk_txn.specs.Asks.{IsAskedOnce};
 ghost use Rattle.dk_txn.specs.Finishes.{told};
-ghost use Rattle.dk_txn.specs.Knowing.{JobFits};
+ghost use Rattle.dk_txn.specs.Knowing.{HasTaskLimits};
 ghost use Rattle.dk_txn.specs.Law.{IsBegun};
 
 use crate::game::Game;
@@ -26,7 +26,7 @@ pub fn run_job<G: Game, V: View>(
     txn: &mut Txn<'_, V>,
 ) -> Result<Finished, NoMemory>
     requires begun { IsBegun txn.old.log }
-    requires fits { JobFits job.now }
+    requires fits { HasTaskLimits job.now }
     ensures law { IfOk result (λ f. KeepsLaw (G.rules game.now) job.now txn.old.log.run txn.old.log.at f.reads.items (told f)) }
     ensures same_view { txn.new.view.ghost_name ≡ txn.old.view.ghost_name }
     ensures becomes { V.sights.becomes txn.old.view.now txn.new.view.now }

@@ -8,7 +8,7 @@ ghost use Rattle.dk_game.specs.Halted.{halt_fault};
 
 use crate::game::Game;
 use crate::halt::Halt;
-use crate::parts::game_part;
+use crate::job_parts::game_part;
 use dk_channels::{Channel, leave};
 use dk_sessions::{close_record, find, is_connected, is_recorded, open_record, own_record};
 use dk_txn::{Refusal, Txn, View};

@@ -2,7 +2,7 @@
 use Rattle.std.proofs.Common.{◌≡◌, ℕ, Bool, IsTrue, List, [], ◌++◌, Option, Some, None, sym, ap, subst, ◌∙◌, arith}
 use Rattle.std.proofs.lemmas.List.{append-nil}
 use Rattle.dk_types.specs.declared.event.Event.{Event}
-use Rattle.dk_disk.specs.Past.{Past}
+use Rattle.dk_disk.specs.DiskHistories.{DiskHistory}
 use Rattle.dk_disk.specs.Opening.{Opening}
 use Rattle.dk_model.specs.DurableWorlds.{DurableWorld}
 use Rattle.dk_model.specs.Legal.{Opened, opening_of, world_after, commits_of, pass_of}
@@ -19,7 +19,7 @@ tail_is : (o : Opened) (front : List Event) (places : ℕ) (waiting : Option Pre
 tail_is o front places None tail w = subst (IsTail o front) (sym w) tt
 tail_is o front places (Some p) tail w = subst (IsTail o front) (sym w.1.1.is_tail) w.1.1.next.may
 
-pub ends : (o : Opened) (began : ℕ) (tells : Bool) (past : Past) (opens : Opening) (journal : Journal) (front : List Event) (commits places : ℕ) (waiting : Option Prepared) (faults : Option ℕ) → IsStored o began tells past opens journal front commits places waiting faults
+pub ends : (o : Opened) (began : ℕ) (tells : Bool) (past : DiskHistory) (opens : Opening) (journal : Journal) (front : List Event) (commits places : ℕ) (waiting : Option Prepared) (faults : Option ℕ) → IsStored o began tells past opens journal front commits places waiting faults
     → (faults ≡ None → waiting ≡ None) → (n : ℕ) (log : List Event) → Continues pass_of n front log → commits ≡ commits_of log → IsTrue tells → EndsAs o began past log faults
 ends o began tells past opens journal front commits places waiting faults s free n log goes same h =
     let both = commits_of-append front goes.begins.0 in

@@ -3,7 +3,7 @@ use Rattle.std.proofs.Common.{◌≡◌, ℕ, Bool, List, [], ◌++◌, Option, 
 use Rattle.std.proofs.lemmas.List.{append-nil}
 use Rattle.dk_types.specs.declared.event.Event.{Event}
 use Rattle.dk_types.specs.declared.durable.Entry.{Entry}
-use Rattle.dk_disk.specs.Past.{Past}
+use Rattle.dk_disk.specs.DiskHistories.{DiskHistory}
 use Rattle.dk_disk.specs.Opening.{Opening}
 use Rattle.dk_model.specs.Legal.{Opened, opening_of, IsLegal, commits_of, pass_of}
 use Rattle.dk_model.specs.Retries.{IsFirstStale}
@@ -24,7 +24,7 @@ use Rattle.dk_host.proofs.Calling.{entered_by, may_end}
 use Rattle.dk_host.proofs.Nexts.{next_commit}
 use Rattle.dk_host.proofs.Storing.{store_on}
 
-module _ (o : Opened) (began : ℕ) (tells : Bool) (past : Past) (opening : Opening) (journal : Journal) (front : List Event) (commits places : ℕ) (faults : Option ℕ) (s : IsStored o began tells past opening journal front commits places None faults)
+module _ (o : Opened) (began : ℕ) (tells : Bool) (past : DiskHistory) (opening : Opening) (journal : Journal) (front : List Event) (commits places : ℕ) (faults : Option ℕ) (s : IsStored o began tells past opening journal front commits places None faults)
     (claimed : Claimed) (f : Finished) (p : Known Event) (m : ℕ) (new : List Event) (lent : ℕ) (whole : lent ≡ commits) (commits_after room parts others : ℕ) (r : Result Prepared PrepareRefused)
     (c : Called pass_of p.number (λ before added. Continues pass_of m front before × ((parts ≡ 1) × (others ≡ 1) × (commits_after ≡ lent) × PreparesBy o claimed f lent room before r added)) p.front new) where
   abbrev by : PreparesBy o claimed f lent room c.before r c.added

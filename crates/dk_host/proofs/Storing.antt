@@ -6,7 +6,7 @@ use Rattle.dk_types.specs.declared.event.Event.TheVariants as event
 use Rattle.dk_types.specs.declared.side.Side.{Side}
 use Rattle.dk_types.specs.Faults.{HasRisen}
 use Rattle.dk_disk.specs.Disk.{Disk, settled}
-use Rattle.dk_disk.specs.Past.{Past, now, other_side}
+use Rattle.dk_disk.specs.DiskHistories.{DiskHistory, now, other_side}
 use Rattle.dk_disk.specs.Opening.{Opening, IsOpen}
 use Rattle.dk_model.specs.DurableWorlds.{DurableWorld}
 use Rattle.dk_model.specs.Effects.{after}
@@ -69,7 +69,7 @@ some_or_all o events e d some = ⊎_elim
 untailed : (o : Opened) (events : List Event) (d : DurableWorld) → IsAfterSomeOrTail o events [] d → IsAfterSome o events d
 untailed o events d some = subst (λ (es : List Event). IsAfterSome o es d) (append-nil events) some
 
-module _ (o : Opened) (began : ℕ) (tells : Bool) (past : Past) (opening : Opening) (journal : Journal) (front more : List Event) (commits places : ℕ) (faults : Option ℕ) where
+module _ (o : Opened) (began : ℕ) (tells : Bool) (past : DiskHistory) (opening : Opening) (journal : Journal) (front more : List Event) (commits places : ℕ) (faults : Option ℕ) where
   -- the store's pass goes on, while nothing waits and no commit comes
   pub store_on : IsStored o began tells past opening journal front commits places None faults → commits_of (front ++ more) ≡ commits → IsLegal o (front ++ more) → (room : ℕ) → IsStored o began tells past opening journal (front ++ more) commits room None faults
   store_on s same legal room =
@@ -154,7 +154,7 @@ module _ (o : Opened) (began : ℕ) (tells : Bool) (past : Past) (opening : Open
         }
 
 -- what the journal asks for
-pub at_rest : (past : Past) (journal : Journal) (d : DurableWorld) → HoldsNow past journal d → IsAtRest journal.side journal.length past
+pub at_rest : (past : DiskHistory) (journal : Journal) (d : DurableWorld) → HoldsNow past journal d → IsAtRest journal.side journal.length past
 at_rest past journal d h = subst (λ (x : Side). IsAtRest x journal.length past) (sym h.store.here) (record {
   settled = h.store.stands.settled;
   within = let inside = reads_within (now past h.side).reads (header_spelling h.header) h.payloads h.store.stands.reads in omega (arith, h.store.stands.place, inside);
@@ -165,7 +165,7 @@ pub runs_not : {A : Type 0} (n : ℕ) → Some n ≡ None → A
 runs_not n same = absurd cc
 
 -- a record is put behind the last one
-module _ (o : Opened) (began : ℕ) (tells : Bool) (old new : Past) (opening opening_after : Opening) (journal after_journal : Journal) (front : List Event) (commits places : ℕ) (claimed : Claimed) (f : Finished) (p : Prepared) (payload : List ℕ)
+module _ (o : Opened) (began : ℕ) (tells : Bool) (old new : DiskHistory) (opening opening_after : Opening) (journal after_journal : Journal) (front : List Event) (commits places : ℕ) (claimed : Claimed) (f : Finished) (p : Prepared) (payload : List ℕ)
     (s : IsStored o began tells old opening journal front commits places None None) (next : IsNextCommit o front claimed f p) (room : places ≡ places_of f.effects) (bytes : payload ≡ entries_spelling (p.entry ∷ []))
     (run : IsTrue tells → (header : List ℕ) (payloads : List (List ℕ)) → StandsAt journal.side journal.length old header payloads → Runs journal.side (HasOrNot header payloads payload) old new)
     (falls : IsTrue tells → (header : List ℕ) (payloads : List (List ℕ)) → StandsAt journal.side journal.length old header payloads → NeverFalls header journal.side old.clock new)
@@ -263,19 +263,19 @@ module _ (o : Opened) (began : ℕ) (tells : Bool) (old new : Past) (opening ope
   store_settled (Err journal_refused.DiskFault) n acknowledged untouched same only = store_appended (Some n) (λ h stopped. runs_not n stopped)
   store_settled (Err (journal_refused.Full m)) n acknowledged untouched same only =
       subst (λ (j : Journal). IsStored o began tells new opening_after j front commits places None None) (sym same)
-      (subst (λ (x : Past). IsStored o began tells x opening_after journal front commits places None None) (sym (untouched m refl))
+      (subst (λ (x : DiskHistory). IsStored o began tells x opening_after journal front commits places None None) (sym (untouched m refl))
       (subst (λ (x : Opening). IsStored o began tells old x journal front commits places None None) (sym opened) s))
   store_settled (Err (journal_refused.NotAStore at)) n acknowledged untouched same only = absurd only
   store_settled (Err (journal_refused.Damaged at)) n acknowledged untouched same only = absurd only
   store_settled (Err journal_refused.NoMemory) n acknowledged untouched same only = absurd only
 
 -- what waits is this
-pub as_waiting : {o : Opened} {began : ℕ} {tells : Bool} {past : Past} {opening : Opening} {journal : Journal} {front : List Event} {commits places : ℕ} {faults : Option ℕ} (v w : Option Prepared) → v ≡ w
+pub as_waiting : {o : Opened} {began : ℕ} {tells : Bool} {past : DiskHistory} {opening : Opening} {journal : Journal} {front : List Event} {commits places : ℕ} {faults : Option ℕ} (v w : Option Prepared) → v ≡ w
     → IsStored o began tells past opening journal front commits places v faults → IsStored o began tells past opening journal front commits places w faults
 as_waiting {o = o} {began = began} {tells = tells} {past = past} {opening = opening} {journal = journal} {front = front} {commits = commits} {places = places} {faults = faults} v w same s =
     subst (λ (x : Option Prepared). IsStored o began tells past opening journal front commits places x faults) same s
 
-pub as_faults : {o : Opened} {began : ℕ} {tells : Bool} {past : Past} {opening : Opening} {journal : Journal} {front : List Event} {commits places : ℕ} {waiting : Option Prepared} (v w : Option ℕ) → v ≡ w
+pub as_faults : {o : Opened} {began : ℕ} {tells : Bool} {past : DiskHistory} {opening : Opening} {journal : Journal} {front : List Event} {commits places : ℕ} {waiting : Option Prepared} (v w : Option ℕ) → v ≡ w
     → IsStored o began tells past opening journal front commits places waiting v → IsStored o began tells past opening journal front commits places waiting w
 as_faults {o = o} {began = began} {tells = tells} {past = past} {opening = opening} {journal = journal} {front = front} {commits = commits} {places = places} {waiting = waiting} v w same s =
     subst (λ (x : Option ℕ). IsStored o began tells past opening journal front commits places waiting x) same s
@@ -296,7 +296,7 @@ appends old new p (Err (journal_refused.NotAStore at)) pass room none running wa
 appends old new p (Err (journal_refused.Damaged at)) pass room none running waits faults risen steady untouched only = absurd only
 appends old new p (Err journal_refused.NoMemory) pass room none running waits faults risen steady untouched only = absurd only
 
-pub as_front : {o : Opened} {began : ℕ} {tells : Bool} {past : Past} {opening : Opening} {journal : Journal} {commits places : ℕ} {waiting : Option Prepared} {faults : Option ℕ} (v w : List Event) → v ≡ w
+pub as_front : {o : Opened} {began : ℕ} {tells : Bool} {past : DiskHistory} {opening : Opening} {journal : Journal} {commits places : ℕ} {waiting : Option Prepared} {faults : Option ℕ} (v w : List Event) → v ≡ w
     → IsStored o began tells past opening journal v commits places waiting faults → IsStored o began tells past opening journal w commits places waiting faults
 as_front {o = o} {began = began} {tells = tells} {past = past} {opening = opening} {journal = journal} {commits = commits} {places = places} {waiting = waiting} {faults = faults} v w same s =
     subst (λ (x : List Event). IsStored o began tells past opening journal x commits places waiting faults) same s

@@ -4,7 +4,7 @@ use Rattle.dk_types.specs.Faults.{HasRisen}
 use Rattle.dk_types.specs.declared.event.Event.{Event}
 use Rattle.dk_types.specs.declared.event.Event.TheVariants as event
 use Rattle.dk_types.specs.declared.side.Side.{Side}
-use Rattle.dk_disk.specs.Past.{Past}
+use Rattle.dk_disk.specs.DiskHistories.{DiskHistory}
 use Rattle.dk_disk.specs.Opening.{Opening, IsOpen}
 use Rattle.dk_model.specs.DurableWorlds.{DurableWorld}
 use Rattle.dk_model.specs.Effects.{after}
@@ -71,13 +71,13 @@ Waits o events places None tail = tail ≡ []
 Waits o events places (Some p) tail = (claimed : Claimed) × ((f : Finished) × WaitsFor o events places claimed f p tail)
 
 -- since this moment each image recovers to the world after some first commits, or after all of them and then the tail's; and what is held does not fall
-pub record HasRecovered (o : Opened) (began : ℕ) (past : Past) (events tail : List Event) : Type 0 where
+pub record HasRecovered (o : Opened) (began : ℕ) (past : DiskHistory) (events tail : List Event) : Type 0 where
   pub begun : began ≤ past.clock
   pub recovers : RecoverSince (IsAfterSomeOrTail o events tail) began past
   pub held : HeldNeverFalls began past
 
 -- a store stands on the home's files, and has this world
-pub record HoldsNow (past : Past) (journal : Journal) (d : DurableWorld) : Type 0 where
+pub record HoldsNow (past : DiskHistory) (journal : Journal) (d : DurableWorld) : Type 0 where
   pub side : Side
   pub header : StoreHeader
   pub payloads : List (List ℕ)
@@ -85,7 +85,7 @@ pub record HoldsNow (past : Past) (journal : Journal) (d : DurableWorld) : Type 
 
 -- What the store keeps: its right counts the commits that its pass has seen; at every moment since this one what a stop leaves recovers to a beginning; and unless it is stopped
 -- the files now recover to the world after all that the pass has seen, followed by the record that waits
-pub record IsStored (o : Opened) (began : ℕ) (tells : Bool) (past : Past) (opening : Opening) (journal : Journal) (front : List Event) (commits places : ℕ) (waiting : Option Prepared) (faults : Option ℕ) : Type 0 where
+pub record IsStored (o : Opened) (began : ℕ) (tells : Bool) (past : DiskHistory) (opening : Opening) (journal : Journal) (front : List Event) (commits places : ℕ) (waiting : Option Prepared) (faults : Option ℕ) : Type 0 where
   pub lawful : AreLawful o.rules
   pub legal : IsLegal o front
   pub counted : commits ≡ commits_of front
@@ -145,7 +145,7 @@ faults_after (Err journal_refused.NoMemory) n = None
 
 -- HOW A HOST ENDS: at every moment since this one what a stop leaves recovers to the world after some first commits of the history, or after all of them and then the tail's, and what
 -- is held does not fall. Unless the store was stopped, the files now recover to the world after all events. No commit came since the tail was looked for
-pub record EndsAs (o : Opened) (began : ℕ) (past : Past) (events : List Event) (faults : Option ℕ) : Type 0 where
+pub record EndsAs (o : Opened) (began : ℕ) (past : DiskHistory) (events : List Event) (faults : Option ℕ) : Type 0 where
   pub front : List Event
   pub later : List Event
   pub tail : List Event

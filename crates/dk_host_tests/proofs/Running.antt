@@ -14,7 +14,7 @@ use Rattle.dk_model.specs.Sights.{IsHonestRead}
 use Rattle.dk_laws.proofs.LaterOn.{claims_stand, claimed_within}
 use Rattle.dk_txn.specs.declared.finished.Finished.{Finished}
 use Rattle.dk_txn.specs.Finishes.{told}
-use Rattle.dk_txn.specs.Knowing.{JobFits}
+use Rattle.dk_txn.specs.Knowing.{HasTaskLimits}
 use Rattle.dk_game.proofs.Lent.{job_fits}
 use Rattle.dk_core.specs.declared.claimed.Claimed.{Claimed}
 use Rattle.dk_turn.specs.Fronts.{Known}
@@ -22,7 +22,7 @@ use Rattle.dk_host.specs.Calls.{IsClaimOf, IsHonestAt}
 use Rattle.dk_host.specs.Looks.{Looking, LooksOn, IsGiven}
 
 -- a pass's claim is within its limits
-pub claim_within : (o : Opened) (p : Known Event) (c : Claimed) → AreLawful o.rules → IsClaimOf o p c → JobFits c.job × (c.at ≤ MOMENT_MOST_MS)
+pub claim_within : (o : Opened) (p : Known Event) (c : Claimed) → AreLawful o.rules → IsClaimOf o p c → HasTaskLimits c.job × (c.at ≤ MOMENT_MOST_MS)
 claim_within o p c lawful claim =
     let within = claimed_within o p.front claim.legal c.run (record { pass = c.pass; job = c.job; at = c.at }) claim.stands lawful in (job_fits c.job within.0, within.1)
 

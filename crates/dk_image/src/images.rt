@@ -64,7 +64,7 @@ impl<F: StoreFormat> Form<Durable> for ImageForm<F> {
     }
 }
 
-/// One more than the largest committed run, or 0 where none is committed. Past the end of 64 bits it begins anew, and
+/// One more than the largest committed run, or 0 where none is committed. DiskHistory the end of 64 bits it begins anew, and
 /// `decode_image` refuses it.
 fn next_run(last: Option<RunNo>) -> u64
     ensures { u64_spelling result ≡ u64_spelling (next_of last) }

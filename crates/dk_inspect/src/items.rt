@@ -10,7 +10,7 @@ use serde_json::{Value, json};
 use std::alloc::Global;
 
 /// What stands in a list of the text.
-pub(crate) trait Shown {
+pub(crate) trait ItemText {
     ghost use Rattle.serde_json.specs.Data.{Data};
 
     ghost shown: { Self → Data };
@@ -28,7 +28,7 @@ fn place(alloc: Global, run: u64, k: u32) -> Result<String, NoMemory>
     Ok(format!(in alloc; "{run}.{k}")?)
 }
 
-impl Shown for (Name, ObjectId) {
+impl ItemText for (Name, ObjectId) {
     ghost use Rattle.dk_inspect.specs.Items.{name_data};
 
     ghost shown = { name_data };
@@ -39,7 +39,7 @@ impl Shown for (Name, ObjectId) {
     }
 }
 
-impl Shown for (ObjectId, Object) {
+impl ItemText for (ObjectId, Object) {
     ghost use Rattle.dk_inspect.specs.Items.{object_data};
 
     ghost shown = { object_data };
@@ -51,7 +51,7 @@ impl Shown for (ObjectId, Object) {
     }
 }
 
-impl Shown for Pending {
+impl ItemText for Pending {
     ghost use Rattle.dk_inspect.specs.Items.{task_data};
 
     ghost shown = { task_data };
@@ -65,7 +65,7 @@ impl Shown for Pending {
     }
 }
 
-fn push_shown<T: Shown>(alloc: Global, out: &mut String, item: &T) -> Result<(), NoMemory>
+fn push_shown<T: ItemText>(alloc: Global, out: &mut String, item: &T) -> Result<(), NoMemory>
     ensures { OnOk result (string_bytes out.new ≡ string_bytes out.old ++ compact_text (T.shown item.now)) }
 {
     let value = item.show(alloc)?;
@@ -75,7 +75,7 @@ fn push_shown<T: Shown>(alloc: Global, out: &mut String, item: &T) -> Result<(),
 }
 
 /// Each item after a comma.
-fn push_later<T: Shown>(alloc: Global, out: &mut String, items: &[T]) -> Result<(), NoMemory>
+fn push_later<T: ItemText>(alloc: Global, out: &mut String, items: &[T]) -> Result<(), NoMemory>
     ensures { OnOk result (string_bytes out.new ≡ string_bytes out.old ++ flat_map (later_text T.shown) items.now) }
 {
     for item in items {
@@ -86,7 +86,7 @@ fn push_later<T: Shown>(alloc: Global, out: &mut String, items: &[T]) -> Result<
 }
 
 /// The items as a JSON array, in their order.
-pub(crate) fn push_list<T: Shown>(
+pub(crate) fn push_list<T: ItemText>(
     alloc: Global,
     out: &mut String,
     items: &[T],

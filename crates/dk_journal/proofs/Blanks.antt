@@ -5,7 +5,7 @@ use Rattle.std.proofs.Math.ListN.{drop_of_length-le}
 use Rattle.std.proofs.lemmas.List.{append-nil}
 use Rattle.dk_types.specs.declared.side.Side.{Side}
 use Rattle.dk_disk.specs.Disk.{Disk, IsImage, settled, overwritten, after_write, after_failed_write, after_cut, after_failed_cut}
-use Rattle.dk_disk.specs.Past.{Past, now}
+use Rattle.dk_disk.specs.DiskHistories.{DiskHistory, now}
 use Rattle.dk_disk.proofs.Images.{settled_only, settled_image, failed_write_image}
 use Rattle.dk_model.specs.Stores.{Reads, is_blank, header_fields, header_spelling, StoreHeader}
 use Rattle.dk_journal.specs.Standing.{Stands, IsReady, IsAtRest}
@@ -203,12 +203,12 @@ module _ (header : StoreHeader) (behind : List ℕ) (spelled : behind ≡ header
   behind_length = omega (arith, ap length spelled, length-append (header_fields header) (0 ∷ []), long)
 
   -- while an empty journal is made
-  pub making : (old new : Past) → Runs side (AreBlankOr 65 (1 ∷ behind)) old new → Runs side (IsNewOrEmpty (header_spelling header)) old new
+  pub making : (old new : DiskHistory) → Runs side (AreBlankOr 65 (1 ∷ behind)) old new → Runs side (IsNewOrEmpty (header_spelling header)) old new
   making old new run =
       weakened side (AreBlankOr 65 (1 ∷ behind)) (IsNewOrEmpty (header_spelling header)) old new (λ d are. new_or_empty header long d (subst (λ (l : List ℕ). AreBlankOr 65 (1 ∷ l) d) spelled are)) run
 
   -- once it is made
-  pub made_stands : (new : Past) → now new side ≡ settled (1 ∷ behind) → Stands side 65 new (header_spelling header) []
+  pub made_stands : (new : DiskHistory) → now new side ≡ settled (1 ∷ behind) → Stands side 65 new (header_spelling header) []
   made_stands new is =
       let whole : now new side ≡ settled (1 ∷ (header_fields header ++ 0 ∷ [])) = is ∙ ap (λ (l : List ℕ). settled (1 ∷ l)) spelled in
       record {
@@ -217,10 +217,10 @@ module _ (header : StoreHeader) (behind : List ℕ) (spelled : behind ≡ header
         place = omega (arith, long);
       }
 
-  pub made_rests : (new : Past) → now new side ≡ settled (1 ∷ behind) → IsAtRest side 65 new
+  pub made_rests : (new : DiskHistory) → now new side ≡ settled (1 ∷ behind) → IsAtRest side 65 new
   made_rests new is = record { settled = is ∙ ap (λ (d : Disk). settled d.reads) (sym is); within = omega (arith, behind_length, ap (λ (d : Disk). length d.reads) is) }
 
 -- before it is begun
-pub not_begun : (header : List ℕ) (side : Side) (past : Past) → IsReady side past → length (now past side).reads ≤ 65 → Runs side (IsNewOrEmpty header) past past
+pub not_begun : (header : List ℕ) (side : Side) (past : DiskHistory) → IsReady side past → length (now past side).reads ≤ 65 → Runs side (IsNewOrEmpty header) past past
 not_begun header side past ready short =
     begun side (IsNewOrEmpty header) past (λ image left. inl (subst (IsBlankUpTo 65) (sym (settled_only (now past side).reads image (subst (λ (d : Disk). IsImage d image) ready.settled left))) (ready.blank, short)))

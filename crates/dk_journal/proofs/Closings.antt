@@ -4,7 +4,7 @@ use Rattle.std.proofs.lemmas.Bool.{cases_eq, eqb-false}
 use Rattle.std.proofs.lemmas.List.{drop_more}
 use Rattle.dk_types.specs.declared.side.Side.{Side}
 use Rattle.dk_disk.specs.Disk.{Disk, IsImage, settled, overwritten, after_write, after_failed_write}
-use Rattle.dk_disk.specs.Past.{Past, now}
+use Rattle.dk_disk.specs.DiskHistories.{DiskHistory, now}
 use Rattle.dk_disk.proofs.Images.{settled_only, settled_image}
 use Rattle.dk_model.specs.Stores.{is_blank}
 use Rattle.dk_journal.specs.Moments.{Runs, Looks, IsWriting, AreSameOrBlank}
@@ -53,24 +53,24 @@ pub closing_gate : (file : List ℕ) (old d : Disk) → old ≡ settled file →
 closing_gate file old d is some gate may = (closing_each file old d is some gate may, written_some 0 (0 ∷ []) file old d is may)
 
 -- the gate is closed
-pub is_shut : (side : Side) (new : Past) (file : List ℕ) → now new side ≡ settled (overwritten 0 (0 ∷ []) file) → IsReady side new
+pub is_shut : (side : Side) (new : DiskHistory) (file : List ℕ) → now new side ≡ settled (overwritten 0 (0 ∷ []) file) → IsReady side new
 is_shut side new file is = record {
   settled = is ∙ ap (λ (d : Disk). settled d.reads) (sym is);
   blank = ap (λ (d : Disk). is_blank d.reads) is ∙ blank_shut (overwritten 0 (0 ∷ []) file) (λ open_gate. let no : 0 ≡ 1 = open_gate in absurd (omega (arith, no)));
 }
 
 -- a file that is only looked at
-pub looked_same : (side : Side) (old new : Past) → now old side ≡ settled (now old side).reads → Looks old new → Runs side (AreSameOrBlank (now old side).reads) old new
+pub looked_same : (side : Side) (old new : DiskHistory) → now old side ≡ settled (now old side).reads → Looks old new → Runs side (AreSameOrBlank (now old side).reads) old new
 looked_same side old new is looks = looked_runs side (AreSameOrBlank (now old side).reads) old old new (begun side (AreSameOrBlank (now old side).reads) old (same_settled (now old side).reads (now old side) is)) looks
 
 -- and is blank
-pub looked_blank : (side : Side) (old new : Past) → now old side ≡ settled (now old side).reads → Looks old new → is_blank (now old side).reads ≡ true → IsReady side new
+pub looked_blank : (side : Side) (old new : DiskHistory) → now old side ≡ settled (now old side).reads → Looks old new → is_blank (now old side).reads ≡ true → IsReady side new
 looked_blank side old new is looks blank =
     let same : now new side ≡ now old side = looks_now old new looks side in
     record { settled = same ∙ is ∙ ap (λ (d : Disk). settled d.reads) (sym same); blank = ap (λ (d : Disk). is_blank d.reads) same ∙ blank }
 
 -- looked at, and then closed
-pub closed_runs : (side : Side) (old mid new : Past) → now old side ≡ settled (now old side).reads → Looks old mid → 0 < length (now old side).reads → get_or (now old side).reads 0 0 ≡ 1 → Runs side (IsWriting 0 (0 ∷ []) (now mid side)) mid new → Runs side (AreSameOrBlank (now old side).reads) old new
+pub closed_runs : (side : Side) (old mid new : DiskHistory) → now old side ≡ settled (now old side).reads → Looks old mid → 0 < length (now old side).reads → get_or (now old side).reads 0 0 ≡ 1 → Runs side (IsWriting 0 (0 ∷ []) (now mid side)) mid new → Runs side (AreSameOrBlank (now old side).reads) old new
 closed_runs side old mid new is looks some gate run =
     goes_further side (AreSameOrBlank (now old side).reads) old mid new (looked_same side old mid is looks)
     (weakened side (IsWriting 0 (0 ∷ []) (now mid side)) (AreSameOrBlank (now old side).reads) mid new (λ d. closing_gate (now old side).reads (now mid side) d (looks_now old mid looks side ∙ is) some gate) run)

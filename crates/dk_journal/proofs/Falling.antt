@@ -3,7 +3,7 @@ use Rattle.std.proofs.Common.{◌≡◌, ⊎_elim, ℕ, List, [], ◌∷◌, ◌
 use Rattle.std.proofs.lemmas.Bool.{cases_lt}
 use Rattle.dk_types.specs.declared.side.Side.{Side}
 use Rattle.dk_disk.specs.Disk.{Disk}
-use Rattle.dk_disk.specs.Past.{Past, now, Elapses}
+use Rattle.dk_disk.specs.DiskHistories.{DiskHistory, now, Elapses}
 use Rattle.dk_model.specs.Stores.{Reads}
 use Rattle.dk_journal.specs.Moments.{Runs, Holds, NeverFalls, HasOrNot, IsBetween}
 use Rattle.dk_journal.proofs.Readings.{one_reading}
@@ -18,12 +18,12 @@ no_less header payloads payload before after held between has holds image is =
     (λ (r : Reads image header (payloads ++ payload ∷ [])). (first.0 ++ payload ∷ [], subst (λ (ps : List (List ℕ)). Reads image header ps) (ap (λ (ps : List (List ℕ)). ps ++ payload ∷ []) same ∙ append_assoc held first.0 (payload ∷ [])) r))
     (has image is)
 
-pub falls_between : (header : List ℕ) (payloads : List (List ℕ)) (payload : List ℕ) (side : Side) (old new : Past) → Runs side (IsBetween header payloads payload) old new → NeverFalls header side old.clock new
+pub falls_between : (header : List ℕ) (payloads : List (List ℕ)) (payload : List ℕ) (side : Side) (old new : DiskHistory) → Runs side (IsBetween header payloads payload) old new → NeverFalls header side old.clock new
 falls_between header payloads payload side old new run t later held from le to =
     no_less header payloads payload (new.disks t side) (new.disks later side) held (run.each t from (omega (arith, le, to))) (run.each later (omega (arith, from, le)) to).each
 
 -- one call more
-pub falls_on : (header : List ℕ) (payloads : List (List ℕ)) (payload : List ℕ) (side : Side) (old mid new : Past) → Runs side (IsBetween header payloads payload) old mid → Elapses mid new → HasOrNot header payloads payload (now new side) → NeverFalls header side old.clock new
+pub falls_on : (header : List ℕ) (payloads : List (List ℕ)) (payload : List ℕ) (side : Side) (old mid new : DiskHistory) → Runs side (IsBetween header payloads payload) old mid → Elapses mid new → HasOrNot header payloads payload (now new side) → NeverFalls header side old.clock new
 falls_on header payloads payload side old mid new run time has t later held from le to =
     ⊎_elim
     (λ after. ⊎_elim

@@ -3,7 +3,7 @@ use Rattle.std.proofs.Common.{◌≡◌, ◌⊎◌, inl, inr, ℕ, ◌+◌, ◌-
 use Rattle.std.proofs.lemmas.List.{length-take, take_at, drop_at, same_lists, get_or-take, get_or-drop, get_or_default, drop_more}
 use Rattle.dk_types.specs.declared.side.Side.{Side}
 use Rattle.dk_disk.specs.Disk.{Disk, IsImage, settled, overwritten, after_write, after_failed_write}
-use Rattle.dk_disk.specs.Past.{Past, now}
+use Rattle.dk_disk.specs.DiskHistories.{DiskHistory, now}
 use Rattle.dk_disk.proofs.Images.{settled_image, settled_only, failed_write_image}
 use Rattle.dk_types.specs.Fields.{blob_spelling}
 use Rattle.dk_wire.proofs.LengthLaws.{length-blob}
@@ -33,7 +33,7 @@ made_as_failed at byte file image is = record { no_shorter = is.no_shorter; no_l
 failed_as_made : (at : ℕ) (byte : ℕ) (file image : List ℕ) → IsImage (after_failed_write at 1 (settled file)) image → IsImage (after_write at (byte ∷ []) (settled file)) image
 failed_as_made at byte file image is = record { no_shorter = is.no_shorter; no_longer = is.no_longer; kept = is.kept }
 
-module _ (side : Side) (at : ℕ) (header : List ℕ) (payloads : List (List ℕ)) (payload : List ℕ) (old : Past) (stands : Stands side at old header payloads) (fits : length payload < 2 ^ 32) where
+module _ (side : Side) (at : ℕ) (header : List ℕ) (payloads : List (List ℕ)) (payload : List ℕ) (old : DiskHistory) (stands : Stands side at old header payloads) (fits : length payload < 2 ^ 32) where
   file : List ℕ
   file = (now old side).reads
 
@@ -132,7 +132,7 @@ module _ (side : Side) (at : ℕ) (header : List ℕ) (payloads : List (List ℕ
       omega (arith, stands.place, ap length (records_push payloads payload []), length-append (records (payloads ++ payload ∷ [])) [], length-append (records payloads) (1 ∷ (blob_spelling payload ++ [])), length-append (blob_spelling payload) [], length-blob payload)
 
   -- and on the disk
-  pub stands_next : (new : Past) → now new side ≡ settled (overwritten (at - 1) (1 ∷ []) (overwritten at (behind_gate payload) (now old side).reads)) → Stands side (at + 5 + length payload) new header (payloads ++ payload ∷ [])
+  pub stands_next : (new : DiskHistory) → now new side ≡ settled (overwritten (at - 1) (1 ∷ []) (overwritten at (behind_gate payload) (now old side).reads)) → Stands side (at + 5 + length payload) new header (payloads ++ payload ∷ [])
   stands_next new is = record {
     settled = is ∙ ap (λ (d : Disk). settled d.reads) (sym is);
     reads = subst (λ (g : List ℕ). Reads g header (payloads ++ payload ∷ [])) (ap (λ (d : Disk). d.reads) (sym is)) opened;

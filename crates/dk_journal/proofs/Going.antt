@@ -3,14 +3,14 @@ use Rattle.std.proofs.Common.{◌≡◌, ◌⊎◌, inl, inr, ⊎_elim, ℕ, ◌
 use Rattle.std.proofs.lemmas.Bool.{cases_lt}
 use Rattle.dk_types.specs.declared.side.Side.{Side}
 use Rattle.dk_disk.specs.Disk.{Disk, after_sync}
-use Rattle.dk_disk.specs.Past.{Past, now, other_side, Elapses, Stays, Becomes}
+use Rattle.dk_disk.specs.DiskHistories.{DiskHistory, now, other_side, Elapses, Stays, Becomes}
 use Rattle.dk_journal.specs.Moments.{Runs, Looks, IsAsRead}
 
 -- a moment is one of before the call, or has what there is now
-at_moment : (old new : Past) (t : ℕ) (s : Side) → Elapses old new → t ≤ new.clock → ((t ≤ old.clock) × (new.disks t s ≡ old.disks t s)) ⊎ ((old.clock < t) × (new.disks t s ≡ now new s))
+at_moment : (old new : DiskHistory) (t : ℕ) (s : Side) → Elapses old new → t ≤ new.clock → ((t ≤ old.clock) × (new.disks t s ≡ old.disks t s)) ⊎ ((old.clock < t) × (new.disks t s ≡ now new s))
 at_moment old new t s time le = ⊎_elim (λ lt. inr (lt, time.since t s lt le)) (λ before. inl (before, time.kept t s before)) (cases_lt old.clock t)
 
-pub begun : (side : Side) (P : Disk → Type 0) (past : Past) → P (now past side) → Runs side P past past
+pub begun : (side : Side) (P : Disk → Type 0) (past : DiskHistory) → P (now past side) → Runs side P past past
 begun side P past here = record {
   later = omega arith;
   kept = λ t s le. refl;
@@ -19,7 +19,7 @@ begun side P past here = record {
 }
 
 -- one call more
-pub goes_on : (side : Side) (P : Disk → Type 0) (old mid new : Past) → Runs side P old mid → Elapses mid new → P (now new side) → now new (other_side side) ≡ now mid (other_side side) → Runs side P old new
+pub goes_on : (side : Side) (P : Disk → Type 0) (old mid new : DiskHistory) → Runs side P old mid → Elapses mid new → P (now new side) → now new (other_side side) ≡ now mid (other_side side) → Runs side P old new
 goes_on side P old mid new so_far time here same = record {
   later = omega (arith, so_far.later, time.later);
   kept = λ t s le. time.kept t s (omega (arith, le, so_far.later)) ∙ so_far.kept t s le;
@@ -34,7 +34,7 @@ goes_on side P old mid new so_far time here same = record {
 }
 
 -- one run and then another
-pub goes_further : (side : Side) (P : Disk → Type 0) (old mid new : Past) → Runs side P old mid → Runs side P mid new → Runs side P old new
+pub goes_further : (side : Side) (P : Disk → Type 0) (old mid new : DiskHistory) → Runs side P old mid → Runs side P mid new → Runs side P old new
 goes_further side P old mid new first second = record {
   later = omega (arith, first.later, second.later);
   kept = λ t s le. second.kept t s (omega (arith, le, first.later)) ∙ first.kept t s le;
@@ -48,11 +48,11 @@ goes_further side P old mid new first second = record {
       (cases_lt mid.clock t);
 }
 
-pub weakened : (side : Side) (P Q : Disk → Type 0) (old new : Past) → ((d : Disk) → P d → Q d) → Runs side P old new → Runs side Q old new
+pub weakened : (side : Side) (P Q : Disk → Type 0) (old new : DiskHistory) → ((d : Disk) → P d → Q d) → Runs side P old new → Runs side Q old new
 weakened side P Q old new to run = record { later = run.later; kept = run.kept; other = run.other; each = λ t from le. to (new.disks t side) (run.each t from le) }
 
 -- a call that leaves both files
-pub looks_once : (old new : Past) → Elapses old new → Stays old new → Looks old new
+pub looks_once : (old new : DiskHistory) → Elapses old new → Stays old new → Looks old new
 looks_once old new time same = record {
   later = time.later;
   kept = time.kept;
@@ -62,7 +62,7 @@ looks_once old new time same = record {
       (at_moment old new t s time to);
 }
 
-pub looks_on : (old mid new : Past) → Looks old mid → Looks mid new → Looks old new
+pub looks_on : (old mid new : DiskHistory) → Looks old mid → Looks mid new → Looks old new
 looks_on old mid new first second = record {
   later = omega (arith, first.later, second.later);
   kept = λ t s le. second.kept t s (omega (arith, le, first.later)) ∙ first.kept t s le;
@@ -72,11 +72,11 @@ looks_on old mid new first second = record {
       (cases_lt mid.clock t);
 }
 
-pub looks_now : (old new : Past) → Looks old new → (s : Side) → now new s ≡ now old s
+pub looks_now : (old new : DiskHistory) → Looks old new → (s : Side) → now new s ≡ now old s
 looks_now old new looks s = looks.each new.clock s looks.later (omega arith)
 
 -- calls that only look, behind a run
-pub looked_runs : (side : Side) (P : Disk → Type 0) (old mid new : Past) → Runs side P old mid → Looks mid new → Runs side P old new
+pub looked_runs : (side : Side) (P : Disk → Type 0) (old mid new : DiskHistory) → Runs side P old mid → Looks mid new → Runs side P old new
 looked_runs side P old mid new run looks = record {
   later = omega (arith, run.later, looks.later);
   kept = λ t s le. looks.kept t s (omega (arith, le, run.later)) ∙ run.kept t s le;
@@ -91,10 +91,10 @@ looked_runs side P old mid new run looks = record {
 }
 
 -- a file that is synced, or not
-pub synced_runs : (side : Side) (old new : Past) → Elapses old new → Becomes side (after_sync (now old side)) old new → Runs side (IsAsRead (now old side)) old new
+pub synced_runs : (side : Side) (old new : DiskHistory) → Elapses old new → Becomes side (after_sync (now old side)) old new → Runs side (IsAsRead (now old side)) old new
 synced_runs side old new time is =
     goes_on side (IsAsRead (now old side)) old old new (begun side (IsAsRead (now old side)) old (inl refl)) time (inr is.this) is.other
 
-pub unsynced_runs : (side : Side) (old new : Past) → Elapses old new → Stays old new → Runs side (IsAsRead (now old side)) old new
+pub unsynced_runs : (side : Side) (old new : DiskHistory) → Elapses old new → Stays old new → Runs side (IsAsRead (now old side)) old new
 unsynced_runs side old new time same =
     goes_on side (IsAsRead (now old side)) old old new (begun side (IsAsRead (now old side)) old (inl refl)) time (inl (same side)) (same (other_side side))

@@ -3,7 +3,7 @@ use Rattle.std.proofs.Common.{◌≡◌, ◌⊎◌, inl, inr, ℕ, ◌<◌, ltb,
 use Rattle.std.proofs.lemmas.Bool.{ltb-true}
 use Rattle.dk_types.specs.declared.side.Side.{Side}
 use Rattle.dk_types.specs.declared.side.Side.TheVariants.{Zero, One}
-use Rattle.dk_disk.specs.Past.{other_side}
+use Rattle.dk_disk.specs.DiskHistories.{other_side}
 use Rattle.dk_model.specs.Stores.{StoreHeader, Look, Blank, Live, Faulty, look, NoStore, StandsOn, NoneStands, standing, standing_of}
 use Rattle.dk_model.specs.Recovered.{file_on}
 use Rattle.dk_journal.specs.Ranks.{IsLesser}

@@ -4,25 +4,25 @@ use Rattle.std.proofs.lemmas.Bool.{cases_lt}
 use Rattle.dk_types.specs.declared.side.Side.{Side}
 use Rattle.dk_types.specs.declared.side.Side.TheVariants.{Zero, One}
 use Rattle.dk_disk.specs.Disk.{Disk, IsImage}
-use Rattle.dk_disk.specs.Past.{Past, MayLeave}
+use Rattle.dk_disk.specs.DiskHistories.{DiskHistory, MayLeave}
 use Rattle.dk_model.specs.DurableWorlds.{DurableWorld}
 use Rattle.dk_journal.specs.Recoveries.{AllRecover, IsHeld, HeldNeverFalls, RecoverSince, Recovering}
 
 -- a moment whose files are those of another
-pub image_at : (old new : Past) (t u : ℕ) → ((s : Side) → new.disks t s ≡ old.disks u s) → (zero one : List ℕ) → MayLeave new t zero one → MayLeave old u zero one
+pub image_at : (old new : DiskHistory) (t u : ℕ) → ((s : Side) → new.disks t s ≡ old.disks u s) → (zero one : List ℕ) → MayLeave new t zero one → MayLeave old u zero one
 image_at old new t u same zero one left = (subst (λ (d : Disk). IsImage d zero) (same Zero) left.0, subst (λ (d : Disk). IsImage d one) (same One) left.1)
 
-pub all_at : (P : DurableWorld → Type 0) (old new : Past) (t u : ℕ) → ((s : Side) → new.disks t s ≡ old.disks u s) → AllRecover P old u → AllRecover P new t
+pub all_at : (P : DurableWorld → Type 0) (old new : DiskHistory) (t u : ℕ) → ((s : Side) → new.disks t s ≡ old.disks u s) → AllRecover P old u → AllRecover P new t
 all_at P old new t u same all zero one left = all zero one (image_at old new t u same zero one left)
 
-pub all_weakened : (P Q : DurableWorld → Type 0) (past : Past) (t : ℕ) → ((d : DurableWorld) → P d → Q d) → AllRecover P past t → AllRecover Q past t
+pub all_weakened : (P Q : DurableWorld → Type 0) (past : DiskHistory) (t : ℕ) → ((d : DurableWorld) → P d → Q d) → AllRecover P past t → AllRecover Q past t
 all_weakened P Q past t to all zero one left = let it = all zero one left in (it.0, it.1, to it.0 it.2)
 
-pub recovering_weakened : (P Q : DurableWorld → Type 0) (old new : Past) → ((d : DurableWorld) → P d → Q d) → Recovering P old new → Recovering Q old new
+pub recovering_weakened : (P Q : DurableWorld → Type 0) (old new : DiskHistory) → ((d : DurableWorld) → P d → Q d) → Recovering P old new → Recovering Q old new
 recovering_weakened P Q old new to run = record { later = run.later; kept = run.kept; each = λ t from le. all_weakened P Q new t to (run.each t from le) }
 
 -- what was so since some moment stays so over a call
-pub since_on : (P : DurableWorld → Type 0) (start : ℕ) (old new : Past) → RecoverSince P start old → Recovering P old new → RecoverSince P start new
+pub since_on : (P : DurableWorld → Type 0) (start : ℕ) (old new : DiskHistory) → RecoverSince P start old → Recovering P old new → RecoverSince P start new
 since_on P start old new so_far run t from to =
     ⊎_elim
     (λ after. run.each t (omega (arith, after)) to)
@@ -30,7 +30,7 @@ since_on P start old new so_far run t from to =
     (cases_lt old.clock t)
 
 -- one call and then another
-pub recovering_on : (P : DurableWorld → Type 0) (old mid new : Past) → Recovering P old mid → Recovering P mid new → Recovering P old new
+pub recovering_on : (P : DurableWorld → Type 0) (old mid new : DiskHistory) → Recovering P old mid → Recovering P mid new → Recovering P old new
 recovering_on P old mid new first second = record {
   later = omega (arith, first.later, second.later);
   kept = λ t s le. second.kept t s (omega (arith, le, first.later)) ∙ first.kept t s le;
@@ -38,7 +38,7 @@ recovering_on P old mid new first second = record {
 }
 
 -- what is held stays so over calls
-pub held_on : (start : ℕ) (old new : Past) → start ≤ old.clock → old.clock ≤ new.clock → ((t : ℕ) (s : Side) → t ≤ old.clock → new.disks t s ≡ old.disks t s) → HeldNeverFalls start old → HeldNeverFalls old.clock new → HeldNeverFalls start new
+pub held_on : (start : ℕ) (old new : DiskHistory) → start ≤ old.clock → old.clock ≤ new.clock → ((t : ℕ) (s : Side) → t ≤ old.clock → new.disks t s ≡ old.disks t s) → HeldNeverFalls start old → HeldNeverFalls old.clock new → HeldNeverFalls start new
 held_on start old new begun later kept before since t u n from le to =
     ⊎_elim
     (λ after. ⊎_elim

@@ -4,7 +4,7 @@ use Rattle.std.proofs.lemmas.Bool.{lt-ltb, ltb-true, le-leb}
 use Rattle.dk_types.specs.declared.side.Side.{Side}
 use Rattle.dk_types.specs.declared.side.Side.TheVariants.{Zero, One}
 use Rattle.dk_disk.specs.Disk.{Disk, IsImage, settled}
-use Rattle.dk_disk.specs.Past.{Past, now, other_side, MayLeave}
+use Rattle.dk_disk.specs.DiskHistories.{DiskHistory, now, other_side, MayLeave}
 use Rattle.dk_disk.proofs.Images.{settled_only}
 use Rattle.dk_model.specs.DurableWorlds.{DurableWorld, empty_world}
 use Rattle.dk_model.specs.Stores.{StoreHeader, IsHeader, header_spelling, Reads, Blank, Live, look, NoStore, StandsOn, is_blank, standing, standing_of}
@@ -32,18 +32,18 @@ pub holding : (side : Side) (zero one : List ℕ) (h : StoreHeader) (payloads : 
 holding side zero one h payloads d is reads world lesser =
     (side, (h, wins side h zero one (live (file_on side zero one) h payloads is reads) lesser, record { payloads = payloads; reads = reads; world = world }))
 
-pub image_on : (side : Side) (past : Past) (t : ℕ) (zero one : List ℕ) → MayLeave past t zero one → IsImage (past.disks t side) (file_on side zero one)
+pub image_on : (side : Side) (past : DiskHistory) (t : ℕ) (zero one : List ℕ) → MayLeave past t zero one → IsImage (past.disks t side) (file_on side zero one)
 image_on Zero past t zero one left = left.0
 image_on One past t zero one left = left.1
 
 -- the file that is not written, while the other is
-pub other_file : (side : Side) (P : Disk → Type 0) (old new : Past) → now old (other_side side) ≡ settled (now old (other_side side)).reads → Runs side P old new → (t : ℕ) → old.clock ≤ t → t ≤ new.clock → (zero one : List ℕ) → MayLeave new t zero one
+pub other_file : (side : Side) (P : Disk → Type 0) (old new : DiskHistory) → now old (other_side side) ≡ settled (now old (other_side side)).reads → Runs side P old new → (t : ℕ) → old.clock ≤ t → t ≤ new.clock → (zero one : List ℕ) → MayLeave new t zero one
     → file_on (other_side side) zero one ≡ (now old (other_side side)).reads
 other_file side P old new rests run t from to zero one left =
     settled_only _ _ (subst (λ (x : Disk). IsImage x (file_on (other_side side) zero one)) (run.other t from to ∙ rests) (image_on (other_side side) new t zero one left))
 
 -- while a record is appended
-pub appended : (side : Side) (h : StoreHeader) (payloads : List (List ℕ)) (payload : List ℕ) (d e : DurableWorld) (old new : Past) → IsHeader h → IsOutranked h old (other_side side) → HasWorld h payloads d → HasWorld h (payloads ++ payload ∷ []) e
+pub appended : (side : Side) (h : StoreHeader) (payloads : List (List ℕ)) (payload : List ℕ) (d e : DurableWorld) (old new : DiskHistory) → IsHeader h → IsOutranked h old (other_side side) → HasWorld h payloads d → HasWorld h (payloads ++ payload ∷ []) e
     → Runs side (HasOrNot (header_spelling h) payloads payload) old new → (t : ℕ) → old.clock ≤ t → t ≤ new.clock → (zero one : List ℕ) → MayLeave new t zero one → Recovers zero one (Holding d) ⊎ Recovers zero one (Holding e)
 appended side h payloads payload d e old new is rank world next run t from to zero one left =
     let lesser : IsLesser h (file_on (other_side side) zero one) = subst (IsLesser h) (sym (other_file side _ old new rank.settled run t from to zero one left)) rank.lesser in
@@ -66,12 +66,12 @@ not_yet Zero zero one mine other short = nothing zero one (blank_looks zero mine
 not_yet One zero one mine other short = nothing zero one other (blank_looks one mine.0) (short refl)
 
 -- of the side that is not written, while the other is
-first_file : (side : Side) (past : Past) (zero one : List ℕ) → file_on (other_side side) zero one ≡ (now past (other_side side)).reads → length (now past Zero).reads ≤ 65 → side ≡ One → length zero ≤ 65
+first_file : (side : Side) (past : DiskHistory) (zero one : List ℕ) → file_on (other_side side) zero one ≡ (now past (other_side side)).reads → length (now past Zero).reads ≤ 65 → side ≡ One → length zero ≤ 65
 first_file Zero past zero one same short is = absurd cc
 first_file One past zero one same short is = omega (arith, ap length same, short)
 
 -- while a file of the first epoch is made
-pub created : (side : Side) (h : StoreHeader) (old new : Past) → IsHeader h → h.epoch ≡ 0 → IsBlankBeside old (other_side side) → length (now old Zero).reads ≤ 65
+pub created : (side : Side) (h : StoreHeader) (old new : DiskHistory) → IsHeader h → h.epoch ≡ 0 → IsBlankBeside old (other_side side) → length (now old Zero).reads ≤ 65
     → Runs side (IsNewOrEmpty (header_spelling h)) old new → (t : ℕ) → old.clock ≤ t → t ≤ new.clock → (zero one : List ℕ) → MayLeave new t zero one → Recovers zero one NotYet ⊎ Recovers zero one (Holding empty_world)
 created side h old new is first beside short run t from to zero one left =
     let other_is : file_on (other_side side) zero one ≡ (now old (other_side side)).reads = other_file side _ old new beside.settled run t from to zero one left in

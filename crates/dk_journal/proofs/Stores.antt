@@ -3,7 +3,7 @@ use Rattle.std.proofs.Common.{◌≡◌, inl, ℕ, List, [], ◌∷◌, ◌++◌
 use Rattle.dk_types.specs.declared.side.Side.{Side}
 use Rattle.dk_types.specs.declared.side.Side.TheVariants.{Zero, One}
 use Rattle.dk_disk.specs.Disk.{Disk, IsImage, settled}
-use Rattle.dk_disk.specs.Past.{Past, now, other_side}
+use Rattle.dk_disk.specs.DiskHistories.{DiskHistory, now, other_side}
 use Rattle.dk_disk.proofs.Images.{settled_only}
 use Rattle.dk_model.specs.DurableWorlds.{DurableWorld}
 use Rattle.dk_model.specs.Stores.{StoreHeader, IsHeader, Reads, StandsOn, header_spelling, standing}
@@ -28,7 +28,7 @@ both_sides P Zero here there One = there
 both_sides P One here there One = here
 both_sides P One here there Zero = there
 
-module _ (past : Past) (side : Side) (journal : Journal) (header : StoreHeader) (payloads : List (List ℕ)) (d : DurableWorld) (store : HasStore past side journal header payloads d) where
+module _ (past : DiskHistory) (side : Side) (journal : Journal) (header : StoreHeader) (payloads : List (List ℕ)) (d : DurableWorld) (store : HasStore past side journal header payloads d) where
   pub store_settled : AreSettled past
   store_settled = both_sides (λ s. now past s ≡ settled (now past s).reads) side store.stands.settled store.outranked.settled
 
@@ -40,12 +40,12 @@ module _ (past : Past) (side : Side) (journal : Journal) (header : StoreHeader) 
       (d, inl (holding side zero one header payloads d store.fits (subst (λ (f : List ℕ). Reads f (header_spelling header) payloads) (sym mine) store.stands.reads) store.world (subst (IsLesser header) (sym other) store.outranked.lesser)), refl)
 
 -- a file as it is read, by its side
-reads_on : (past : Past) (s : Side) → file_on s (now past Zero).reads (now past One).reads ≡ (now past s).reads
+reads_on : (past : DiskHistory) (s : Side) → file_on s (now past Zero).reads (now past One).reads ≡ (now past s).reads
 reads_on past Zero = refl
 reads_on past One = refl
 
 -- the file that stands by the table, with nothing pending on either side, is a store
-pub store_of : (past : Past) (side : Side) (journal : Journal) (header : StoreHeader) (payloads : List (List ℕ)) (d : DurableWorld) → IsHeader header → journal.side ≡ side → journal.epoch ≡ header.epoch → journal.format ≡ header.format → Stands side journal.length past (header_spelling header) payloads
+pub store_of : (past : DiskHistory) (side : Side) (journal : Journal) (header : StoreHeader) (payloads : List (List ℕ)) (d : DurableWorld) → IsHeader header → journal.side ≡ side → journal.epoch ≡ header.epoch → journal.format ≡ header.format → Stands side journal.length past (header_spelling header) payloads
     → standing (now past Zero).reads (now past One).reads ≡ StandsOn side header → AreSettled past → HasWorld header payloads d → HasStore past side journal header payloads d
 store_of past side journal header payloads d fits here epoch format stands table rests world = record {
   fits = fits;
@@ -58,7 +58,7 @@ store_of past side journal header payloads d fits here epoch format stands table
 }
 
 -- and so it is with one more record
-pub store_next : (old new : Past) (side : Side) (journal next : Journal) (header : StoreHeader) (payloads : List (List ℕ)) (payload : List ℕ) (d e : DurableWorld) (P : Disk → Type 0) → HasStore old side journal header payloads d → Runs side P old new
+pub store_next : (old new : DiskHistory) (side : Side) (journal next : Journal) (header : StoreHeader) (payloads : List (List ℕ)) (payload : List ℕ) (d e : DurableWorld) (P : Disk → Type 0) → HasStore old side journal header payloads d → Runs side P old new
     → (next.side ≡ journal.side) × (next.epoch ≡ journal.epoch) × (next.format ≡ journal.format) → Stands side next.length new (header_spelling header) (payloads ++ payload ∷ []) → HasWorld header (payloads ++ payload ∷ []) e → HasStore new side next header (payloads ++ payload ∷ []) e
 store_next old new side journal next header payloads payload d e P store run same stands world =
     let other : now new (other_side side) ≡ now old (other_side side) = run.other new.clock run.later (omega arith) in

@@ -2,18 +2,18 @@
 use Rattle.std.specs.Prelude.{◌≡◌, ◌⊎◌, ℕ, ◌<◌, ◌≤◌, true, List, [], ◌∷◌, ◌++◌, length, take}
 use Rattle.dk_types.specs.declared.side.Side.{Side}
 use Rattle.dk_disk.specs.Disk.{Disk, IsImage, IsUntouched, settled, overwritten, after_write, after_failed_write, after_cut, after_failed_cut}
-use Rattle.dk_disk.specs.Past.{Past, now, other_side}
+use Rattle.dk_disk.specs.DiskHistories.{DiskHistory, now, other_side}
 use Rattle.dk_model.specs.Stores.{Reads, is_blank}
 
 -- What was stays, the other file is what it was, and this one has P at each moment since the run began.
-pub record Runs (side : Side) (P : Disk → Type 0) (old new : Past) : Type 0 where
+pub record Runs (side : Side) (P : Disk → Type 0) (old new : DiskHistory) : Type 0 where
   pub later : old.clock ≤ new.clock
   pub kept : (t : ℕ) (s : Side) → t ≤ old.clock → new.disks t s ≡ old.disks t s
   pub other : (t : ℕ) → old.clock ≤ t → t ≤ new.clock → new.disks t (other_side side) ≡ now old (other_side side)
   pub each : (t : ℕ) → old.clock ≤ t → t ≤ new.clock → P (new.disks t side)
 
 -- What was stays, and both files are what they were at each moment since.
-pub record Looks (old new : Past) : Type 0 where
+pub record Looks (old new : DiskHistory) : Type 0 where
   pub later : old.clock ≤ new.clock
   pub kept : (t : ℕ) (s : Side) → t ≤ old.clock → new.disks t s ≡ old.disks t s
   pub each : (t : ℕ) (s : Side) → old.clock ≤ t → t ≤ new.clock → new.disks t s ≡ now old s
@@ -31,7 +31,7 @@ abbrev pub Holds : List ℕ → List (List ℕ) → Disk → Type 0
 Holds header payloads disk = (image : List ℕ) → IsImage disk image → (more : List (List ℕ)) × Reads image header (payloads ++ more)
 
 -- what each image holds does not fall from one moment to a later one
-abbrev pub NeverFalls : List ℕ → Side → ℕ → Past → Type 0
+abbrev pub NeverFalls : List ℕ → Side → ℕ → DiskHistory → Type 0
 NeverFalls header side start past =
     (t later : ℕ) (payloads : List (List ℕ)) → start ≤ t → t ≤ later → later ≤ past.clock → Holds header payloads (past.disks t side) → Holds header payloads (past.disks later side)
 

@@ -2,23 +2,23 @@
 use Rattle.std.specs.Prelude.{◌≡◌, ℕ, ◌+◌, ◌≤◌, true, List, [], ◌∷◌, ◌++◌, length}
 use Rattle.dk_types.specs.declared.side.Side.{Side}
 use Rattle.dk_disk.specs.Disk.{settled}
-use Rattle.dk_disk.specs.Past.{Past, now}
+use Rattle.dk_disk.specs.DiskHistories.{DiskHistory, now}
 use Rattle.dk_types.specs.Fields.{blob_spelling}
 use Rattle.dk_model.specs.Stores.{Reads, end_of, is_blank}
 
 -- The file has these payloads with nothing pending, and the journal's length is the place behind its closed gate.
-pub record Stands (side : Side) (journal_length : ℕ) (past : Past) (header : List ℕ) (payloads : List (List ℕ)) : Type 0 where
+pub record Stands (side : Side) (journal_length : ℕ) (past : DiskHistory) (header : List ℕ) (payloads : List (List ℕ)) : Type 0 where
   pub settled : now past side ≡ settled (now past side).reads
   pub reads : Reads (now past side).reads header payloads
   pub place : journal_length ≡ end_of header payloads + 1
 
 -- nothing is pending, and the place lies within the file
-pub record IsAtRest (side : Side) (journal_length : ℕ) (past : Past) : Type 0 where
+pub record IsAtRest (side : Side) (journal_length : ℕ) (past : DiskHistory) : Type 0 where
   pub settled : now past side ≡ settled (now past side).reads
   pub within : journal_length ≤ length (now past side).reads
 
 -- nothing is pending, and the file is blank
-pub record IsReady (side : Side) (past : Past) : Type 0 where
+pub record IsReady (side : Side) (past : DiskHistory) : Type 0 where
   pub settled : now past side ≡ settled (now past side).reads
   pub blank : is_blank (now past side).reads ≡ true
 

@@ -2,7 +2,7 @@
 use Rattle.std.specs.Prelude.{◌≡◌, ℕ, List}
 use Rattle.dk_types.specs.declared.side.Side.{Side}
 use Rattle.dk_disk.specs.Disk.{settled}
-use Rattle.dk_disk.specs.Past.{Past, now, other_side}
+use Rattle.dk_disk.specs.DiskHistories.{DiskHistory, now, other_side}
 use Rattle.dk_model.specs.DurableWorlds.{DurableWorld}
 use Rattle.dk_model.specs.Stores.{StoreHeader, IsHeader, header_spelling}
 use Rattle.dk_model.specs.Recovered.{HasWorld}
@@ -11,11 +11,11 @@ use Rattle.dk_journal.specs.Ranks.{IsOutranked}
 use Rattle.dk_journal.specs.declared.journal.Journal.{Journal}
 
 -- nothing is pending on either side
-abbrev pub AreSettled : Past → Type 0
+abbrev pub AreSettled : DiskHistory → Type 0
 AreSettled past = (side : Side) → now past side ≡ settled (now past side).reads
 
 -- THE STORE: under this header the journal stands on this side with these payloads, which have this world; the other file does not stand beside it; and nothing is pending on either side.
-pub record HasStore (past : Past) (side : Side) (journal : Journal) (header : StoreHeader) (payloads : List (List ℕ)) (d : DurableWorld) : Type 0 where
+pub record HasStore (past : DiskHistory) (side : Side) (journal : Journal) (header : StoreHeader) (payloads : List (List ℕ)) (d : DurableWorld) : Type 0 where
   pub fits : IsHeader header
   pub here : journal.side ≡ side
   pub epoch : journal.epoch ≡ header.epoch

@@ -3,7 +3,7 @@ ghost use Rattle.std.specs.Prelude.{◌≡◌, ◌<◌, ◌≤◌, ◌++◌, ◌
 ghost use Rattle.dk_types.specs.Faults.{HasRisen};
 ghost use Rattle.dk_types.specs.declared.limits.TheConstants.{NUMBERS_END};
 ghost use Rattle.dk_disk.specs.Opening.{IsOpen};
-ghost use Rattle.dk_disk.specs.Past.{now};
+ghost use Rattle.dk_disk.specs.DiskHistories.{now};
 ghost use Rattle.dk_model.specs.Stores.{header_fields, header_spelling};
 ghost use Rattle.dk_journal.specs.Headers.{store_header};
 ghost use Rattle.dk_journal.specs.Moments.{Runs, IsNewOrEmpty};

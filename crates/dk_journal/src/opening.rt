@@ -3,7 +3,7 @@ ghost use Rattle.std.specs.Prelude.{◌≡◌, ℕ, None, Ok, length, IfOk, IfEr
 ghost use Rattle.dk_types.specs.Faults.{HasRisen};
 ghost use Rattle.dk_disk.specs.Disk.{settled};
 ghost use Rattle.dk_disk.specs.Opening.{IsOpen};
-ghost use Rattle.dk_disk.specs.Past.{now, Stays};
+ghost use Rattle.dk_disk.specs.DiskHistories.{now, Stays};
 ghost use Rattle.dk_model.specs.Stores.{look, Blank, Faulty};
 ghost use Rattle.dk_journal.specs.Moments.{Runs, Looks, IsAsRead};
 ghost use Rattle.dk_journal.specs.Opened.{IsOpened};

@@ -2,7 +2,7 @@
 ghost use Rattle.std.specs.Prelude.{◌≡◌, ◌+◌, ◌<◌, ◌≤◌, ◌^◌, ℕ, List, [], ◌∷◌, ◌++◌, length, take, drop, Ok, None, IfOk, OnOk, OnErr, IfErr, IsErrOf, IfSome, IsTrue};
 ghost use Rattle.dk_types.specs.Faults.{HasRisen};
 ghost use Rattle.dk_disk.specs.Opening.{IsOpen};
-ghost use Rattle.dk_disk.specs.Past.{now, Stays};
+ghost use Rattle.dk_disk.specs.DiskHistories.{now, Stays};
 ghost use Rattle.dk_types.specs.Fields.{u32_spelling};
 ghost use Rattle.dk_model.specs.Entries.{IsFormat};
 ghost use Rattle.dk_model.specs.Stores.{Reads};

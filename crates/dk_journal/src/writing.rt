@@ -3,7 +3,7 @@ ghost use Rattle.std.specs.Prelude.{◌≡◌, ◌+◌, ◌<◌, ◌≤◌, ◌^
 ghost use Rattle.dk_types.specs.Faults.{HasRisen};
 ghost use Rattle.dk_disk.specs.Disk.{settled, overwritten, after_write};
 ghost use Rattle.dk_disk.specs.Opening.{IsOpen};
-ghost use Rattle.dk_disk.specs.Past.{now};
+ghost use Rattle.dk_disk.specs.DiskHistories.{now};
 ghost use Rattle.dk_journal.specs.Moments.{Runs, Looks, IsFrontSafe, HasOrNot, NeverFalls, IsWriting, IsClearing, AreBlankOr, AreSameOrBlank};
 ghost use Rattle.dk_model.specs.Stores.{is_blank};
 ghost use Rattle.dk_journal.specs.Standing.{Stands, IsAtRest, IsReady, behind_gate};

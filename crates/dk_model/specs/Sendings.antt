@@ -9,5 +9,5 @@ pub record SendsAtMost {A : Type 0} (most : ℕ) (act : Act A) : Type 0 where
   pub tasks : (s : Run) → (act s).1.world.tasks ≡ s.world.tasks
 
 -- a game that in each job sends at most one message, and schedules and cancels no task
-abbrev pub IsTerse : (Job → Act (Unit {0})) → Type 0
-IsTerse rules = (job : Job) → SendsAtMost 1 (rules job)
+abbrev pub SendsOneAtMost : (Job → Act (Unit {0})) → Type 0
+SendsOneAtMost rules = (job : Job) → SendsAtMost 1 (rules job)

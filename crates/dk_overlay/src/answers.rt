@@ -6,7 +6,7 @@ use crate::change::copy_object;
 use dk_types::{Answer, Name, NoMemory, Object, ObjectId};
 
 /// The object.
-pub fn says_object(answer: Answer) -> Option<Object>
+pub fn object_of_answer(answer: Answer) -> Option<Object>
     ensures { result ≡ object_in answer }
 {
     match answer {

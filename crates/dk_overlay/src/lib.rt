@@ -6,7 +6,7 @@
 //! the business of `dk_txn`.
 #![tactic(auto)]
 
-pub use answers::{copy_answer, copy_name, says_named, says_next, says_object, says_pending};
+pub use answers::{copy_answer, copy_name, object_of_answer, says_named, says_next, says_pending};
 pub use change::{Change, Scheduled, TaskChange, copy_change, copy_object, copy_value};
 pub use items::is_same_item;
 pub use log::{Log, LogParts};

@@ -13,14 +13,14 @@ use Rattle.dk_model.specs.Deliveries.{Connections, change_connection, without_do
 use Rattle.dk_model.specs.Events.{swept, with_connection, put_last, outbox_at}
 use Rattle.dk_model.proofs.Maps.{conns_total, exact_conns, get-insert_cases}
 use Rattle.dk_laws.proofs.NumberedMaps.{equal, unequal, conn-insert, get-change}
-use Rattle.dk_progress.specs.Fitness.{left_at, IsFit}
+use Rattle.dk_progress.specs.Fitness.{left_at, HasNumbersLeft}
 use Rattle.dk_progress.specs.ProgressLaws.{ConnectsFit, PostsFit}
 use Rattle.dk_progress.proofs.Kept.{AtEach, kept_changed, kept_swept}
 use Rattle.dk_progress.proofs.Lefts.{LeavesNoMore, StaysWithin, StaysAway, lefts_steady, boxes_steady, away_steady}
 use Rattle.dk_progress.proofs.Sums.{NoMoreBut, sum_apart, sum_one_more, sum_push, distinct_push}
 use Rattle.dk_progress.proofs.Fits.{there_before, known_after, fit_fewer}
 
-module _ (w : World) (conns : List ConnNo) (more : ℕ) (fit : IsFit w conns (4 + more)) where
+module _ (w : World) (conns : List ConnNo) (more : ℕ) (fit : HasNumbersLeft w conns (4 + more)) where
   module _ (name : List ℕ) where
     -- the new connection's number
     abbrev new_conn : ConnNo
@@ -87,7 +87,7 @@ module _ (w : World) (conns : List ConnNo) (more : ℕ) (fit : IsFit w conns (4 
         (subst (λ o. length (outbox_at o) ≤ OUTS_MOST_COUNT) (sym (conn-insert w.connections new_conn new other)) was)
 
     -- the world is fit with the new connection
-    pub fit_connected : IsFit (swept (with_connection w name)) (conns ++ new_conn ∷ []) more
+    pub fit_connected : HasNumbersLeft (swept (with_connection w name)) (conns ++ new_conn ∷ []) more
     fit_connected = record {
       unclaimed = fit.unclaimed;
       unlimited = fit.unlimited;
@@ -145,7 +145,7 @@ module _ (w : World) (conns : List ConnNo) (more : ℕ) (fit : IsFit w conns (4 
     within_put = kept_changed StaysWithin boxes_steady conn (put_last x) w.connections (λ c h. h)
 
     -- the world is fit with what was posted
-    pub fit_posted : IsFit (record w { connections = without_done with_put }) conns more
+    pub fit_posted : HasNumbersLeft (record w { connections = without_done with_put }) conns more
     fit_posted = record {
       unclaimed = fit.unclaimed;
       unlimited = fit.unlimited;
@@ -161,12 +161,12 @@ module _ (w : World) (conns : List ConnNo) (more : ℕ) (fit : IsFit w conns (4 
 -- a connect of a fit world
 pub connect_fit : ConnectsFit
 connect_fit rules w after conns more pass name (connected.Number conn) fit h =
-    let at_next = subst (λ v. IsFit v (conns ++ record { 0 = w.next } ∷ []) more) (sym h.2) (fit_connected w conns more fit name) in
-    subst (λ (k : ConnNo). IsFit after (conns ++ k ∷ []) more) (sym h.1) at_next
+    let at_next = subst (λ v. HasNumbersLeft v (conns ++ record { 0 = w.next } ∷ []) more) (sym h.2) (fit_connected w conns more fit name) in
+    subst (λ (k : ConnNo). HasNumbersLeft after (conns ++ k ∷ []) more) (sym h.1) at_next
 connect_fit rules w after conns more pass name (connected.Exhausted next) fit h = let numbers = fit.numbers in let none = h.0 in omega (arith, numbers, none)
 
 -- a post to a fit world
 pub post_fit : PostsFit
-post_fit rules w after conns more pass conn input posted.Taken fit h = subst (λ v. IsFit v conns more) (sym h.2) (fit_posted w conns more fit conn (waits.Input input))
-post_fit rules w after conns more pass conn input posted.Closed fit h = subst (λ v. IsFit v conns more) (sym h.1) (fit_fewer w conns 4 more fit)
-post_fit rules w after conns more pass conn input (posted.QueueFull waiting) fit h = subst (λ v. IsFit v conns more) (sym h.3) (fit_fewer w conns 4 more fit)
+post_fit rules w after conns more pass conn input posted.Taken fit h = subst (λ v. HasNumbersLeft v conns more) (sym h.2) (fit_posted w conns more fit conn (waits.Input input))
+post_fit rules w after conns more pass conn input posted.Closed fit h = subst (λ v. HasNumbersLeft v conns more) (sym h.1) (fit_fewer w conns 4 more fit)
+post_fit rules w after conns more pass conn input (posted.QueueFull waiting) fit h = subst (λ v. HasNumbersLeft v conns more) (sym h.3) (fit_fewer w conns 4 more fit)

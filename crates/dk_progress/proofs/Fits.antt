@@ -12,7 +12,7 @@ use Rattle.dk_model.specs.Worlds.{World, Connection}
 use Rattle.dk_model.specs.Deliveries.{Connections, change_connection, without_done}
 use Rattle.dk_model.specs.Events.{outbox_at, ticked}
 use Rattle.dk_model.proofs.Maps.{not_both}
-use Rattle.dk_progress.specs.Fitness.{left_at, IsFit}
+use Rattle.dk_progress.specs.Fitness.{left_at, HasNumbersLeft}
 use Rattle.dk_progress.specs.ProgressLaws.{FreshIsFit, TicksFit, HandsTakeAll}
 use Rattle.dk_progress.proofs.Kept.{AtEach, kept_changed, kept_swept}
 use Rattle.dk_progress.proofs.Lefts.{LeavesNoMore, StaysWithin, StaysAway, lefts_steady, boxes_steady, left_none}
@@ -44,7 +44,7 @@ pub known_after : (after before : Connections) (conns : List ConnNo) → AtEach 
 known_after after before conns away known conn c there = let was = there_before after before away conn c there in known conn was.0 was.1
 
 -- where fewer numbers are asked for
-pub fit_fewer : (w : World) (conns : List ConnNo) (n more : ℕ) → IsFit w conns (n + more) → IsFit w conns more
+pub fit_fewer : (w : World) (conns : List ConnNo) (n more : ℕ) → HasNumbersLeft w conns (n + more) → HasNumbersLeft w conns more
 fit_fewer w conns n more fit = record {
   unclaimed = fit.unclaimed;
   unlimited = fit.unlimited;
@@ -59,7 +59,7 @@ fit_fewer w conns n more fit = record {
 
 -- where the connections leave no more
 pub fit_with : (w : World) (all : Connections) (conns : List ConnNo) (more : ℕ)
-    → AtEach LeavesNoMore all w.connections → AtEach StaysWithin all w.connections → IsFit w conns more → IsFit (record w { connections = all }) conns more
+    → AtEach LeavesNoMore all w.connections → AtEach StaysWithin all w.connections → HasNumbersLeft w conns more → HasNumbersLeft (record w { connections = all }) conns more
 fit_with w all conns more less within fit = record {
   unclaimed = fit.unclaimed;
   unlimited = fit.unlimited;
@@ -84,7 +84,7 @@ opens_bare = ap (λ es. record bare_world { connections = with_sessions (first_o
 none_there : (conn : ConnNo) → get bare_world.connections conn ≡ None
 none_there conn = get-empty conn_cmp conn
 
-bare_fit : (more : ℕ) → 1 + more ≤ NUMBERS_END → IsFit bare_world [] more
+bare_fit : (more : ℕ) → 1 + more ≤ NUMBERS_END → HasNumbersLeft bare_world [] more
 bare_fit more few = record {
   unclaimed = refl;
   unlimited = refl;
@@ -99,7 +99,7 @@ bare_fit more few = record {
 
 -- a world that nothing has happened to
 pub fresh_fit : FreshIsFit
-fresh_fit more few = subst (λ w. IsFit w [] more) (sym opens_bare) (bare_fit more few)
+fresh_fit more few = subst (λ w. HasNumbersLeft w [] more) (sym opens_bare) (bare_fit more few)
 
 -- a hand takes all that may wait
 pub hands_all : HandsTakeAll
@@ -109,11 +109,11 @@ hands_all rules w after conns more pass conn outs end fit h =
     let less = kept_changed LeavesNoMore lefts_steady conn handed w.connections (λ c. omega arith) in
     let within = kept_changed StaysWithin boxes_steady conn handed w.connections (λ c few. omega (arith, few, length-drop OUTS_MOST_COUNT c.outbox)) in (
       h.0 ∙ take_all OUTS_MOST_COUNT (outbox_at (get w.connections conn)) (fit.boxes conn),
-      subst (λ v. IsFit v conns more) (sym h.2) (fit_with w taken conns more less within fit),
+      subst (λ v. HasNumbersLeft v conns more) (sym h.2) (fit_with w taken conns more less within fit),
     )
 
 -- time goes on
-fit_ticked : (w : World) (conns : List ConnNo) (more moment : ℕ) → IsFit w conns more → IsFit (ticked w moment) conns more
+fit_ticked : (w : World) (conns : List ConnNo) (more moment : ℕ) → HasNumbersLeft w conns more → HasNumbersLeft (ticked w moment) conns more
 fit_ticked w conns more moment fit = record {
   unclaimed = fit.unclaimed;
   unlimited = fit.unlimited;
@@ -129,5 +129,5 @@ fit_ticked w conns more moment fit = record {
 -- a tick to a fit world
 pub ticks_fit : TicksFit
 ticks_fit rules w after conns more pass moment fit h =
-    subst (λ v. IsFit v conns more) (sym h)
+    subst (λ v. HasNumbersLeft v conns more) (sym h)
     (fit_with (ticked w moment) (without_done w.connections) conns more (kept_swept LeavesNoMore lefts_steady w.connections) (kept_swept StaysWithin boxes_steady w.connections) (fit_ticked w conns more moment fit))

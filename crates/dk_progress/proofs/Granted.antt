@@ -5,14 +5,14 @@ use Rattle.dk_types.specs.declared.number.ConnNo.{ConnNo}
 use Rattle.dk_model.specs.Worlds.{World}
 use Rattle.dk_model.specs.Picks.{runnable}
 use Rattle.dk_model.specs.Events.{has_left}
-use Rattle.dk_progress.specs.Fitness.{left_at, left, IsFit}
+use Rattle.dk_progress.specs.Fitness.{left_at, left, HasNumbersLeft}
 use Rattle.dk_progress.specs.ProgressLaws.{ClaimsAreGranted}
 use Rattle.dk_progress.proofs.Lefts.{left_some}
 use Rattle.dk_progress.proofs.Sums.{first_left, sum_holds}
 use Rattle.dk_progress.proofs.Picks.{no_entries, runnable_first}
 
 -- where something can be run something is left
-something_left : (w : World) (conns : List ConnNo) (more : ℕ) → IsFit w conns more → runnable w ≢ [] → 1 ≤ left w conns
+something_left : (w : World) (conns : List ConnNo) (more : ℕ) → HasNumbersLeft w conns more → runnable w ≢ [] → 1 ≤ left w conns
 something_left w conns more fit some = elim (cases_Bool (w.durable.commits == 0)) [
   | inl first ↦ let one = ap first_left first in omega (arith, one)
   | inr later ↦

@@ -23,7 +23,7 @@ use Rattle.dk_model.specs.Runs.{Run, Act, give, and_then, carry_on, within, refu
 use Rattle.dk_model.specs.Records.{SESSION_KIND, CHANNEL_KIND, session_of, session_bytes, channel_of, channel_bytes, session_name, channel_name, is_name_too_long}
 use Rattle.dk_model.specs.Platforms.{platform_bound, found_as, session_under, channel_under, own_record, numbered, is_connected, find_session, new_record, open_record, close_record, is_member, without_member, without_channel, save_both, leave_records, leave, is_sender, send_each, channel_send}
 use Rattle.dk_model.specs.Steps.{of_session, displace_found, displace_recorded, lost, admit, for_session, heard, channel_found, channel_message, leave_channels, end_session, work, game_part, kept_by, is_too_large, Stepped, ended, step}
-use Rattle.dk_model.specs.Sendings.{SendsAtMost, IsTerse}
+use Rattle.dk_model.specs.Sendings.{SendsAtMost, SendsOneAtMost}
 use Rattle.dk_model.proofs.Sendings.{create_sends, bind_sends, save_sends, get_as_sends, send_sends}
 
 -- where a step ended the tasks are as they were
@@ -242,7 +242,7 @@ ended_keeps j d start (Ok x, s) none same = either_stepped (λ r. r.world.tasks 
 ended_keeps j d start (Err fault, s) none same = failed_keeps j start none
 
 -- a run of a terse game leaves the tasks as they are, where its job is no task
-pub step_keeps : (rules : Meaning) (j : Job) (run : RunNo) (at : ℕ) (d : DurableWorld) → IsTerse rules → is_task j ≡ false → (step rules j run at d).world.tasks ≡ d.tasks
+pub step_keeps : (rules : Meaning) (j : Job) (run : RunNo) (at : ℕ) (d : DurableWorld) → SendsOneAtMost rules → is_task j ≡ false → (step rules j run at d).world.tasks ≡ d.tasks
 step_keeps rules j run at d terse none =
     let start = begun run at d in
     ended_keeps j d start (work (game_part rules) j start) none ((work_keeps (λ i. within_keeps Game (of_sends (terse i))) j none).from start).kept

@@ -17,11 +17,11 @@ use Rattle.dk_model.specs.Picks.{pick}
 use Rattle.dk_model.specs.Steps.{Stepped}
 use Rattle.dk_model.specs.Events.{Meaning, Happens, swept, lowered, with_claim, committed, step_of}
 use Rattle.dk_model.specs.Lawful.{AreLawful}
-use Rattle.dk_model.specs.Sendings.{IsTerse}
+use Rattle.dk_model.specs.Sendings.{SendsOneAtMost}
 use Rattle.dk_model.proofs.Maps.{runs_total, exact_runs, get-insert_here, some_is}
 use Rattle.dk_model.proofs.StepLaws.{step_goes_on}
 use Rattle.dk_laws.proofs.NumberedMaps.{equal, unequal, run-insert, run-remove, get-change, get-without_done}
-use Rattle.dk_progress.specs.Fitness.{left_of, left_at, left_in, left, IsFit}
+use Rattle.dk_progress.specs.Fitness.{left_of, left_at, left_in, left, HasNumbersLeft}
 use Rattle.dk_progress.specs.ProgressLaws.{IsRun, RunsLeaveLess}
 use Rattle.dk_progress.proofs.Kept.{IsDelivered, OfEach, Relation, AtEach, kept_next, kept_for_conn, kept_swept, kept_after_input, kept_delivered}
 use Rattle.dk_progress.proofs.Lefts.{LeavesNoMore, StaysWithin, lefts_steady, lefts_delivered, boxes_delivered, input_less}
@@ -95,7 +95,7 @@ module _ (turn : Connection → Connection) (j : Job) (outs : List (ConnNo × Ou
         let less = input_less (not (is_done (get turned conn))) (turn c) x queue queued in
         omega (arith, swept_less, rest_less, here, was, less, same)
 
-module _ (rules : Meaning) (lawful : AreLawful rules) (terse : IsTerse rules) (w : World) (conns : List ConnNo) (more : ℕ) (fit : IsFit w conns more) (pass : ℕ) (j : Job) (is_picked : pick w ≡ Some j) where
+module _ (rules : Meaning) (lawful : AreLawful rules) (terse : SendsOneAtMost rules) (w : World) (conns : List ConnNo) (more : ℕ) (fit : HasNumbersLeft w conns more) (pass : ℕ) (j : Job) (is_picked : pick w ≡ Some j) where
   -- the run's number
   abbrev run : RunNo
   run = record { 0 = w.next }
@@ -150,7 +150,7 @@ module _ (rules : Meaning) (lawful : AreLawful rules) (terse : IsTerse rules) (w
   ]
 
   -- the world after the commit is fit
-  fit_ran : IsFit after conns more
+  fit_ran : HasNumbersLeft after conns more
   fit_ran = record {
     unclaimed = claim_gone w.claims run claim fit.unclaimed;
     unlimited = ap lowered fit.unlimited;

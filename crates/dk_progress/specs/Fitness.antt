@@ -32,7 +32,7 @@ AreDistinct [] = Unit {0}
 AreDistinct (conn ∷ conns) = (Contains conns conn → ⊥) × AreDistinct conns
 
 -- a world between runs, without tasks and without a budget, that has these connections and no others, and numbers enough for all that it leaves to run and for as many more
-pub record IsFit (w : World) (conns : List ConnNo) (more : ℕ) : Type 0 where
+pub record HasNumbersLeft (w : World) (conns : List ConnNo) (more : ℕ) : Type 0 where
   pub unclaimed : w.claims ≡ empty
   pub unlimited : w.budget ≡ None
   pub moment : w.moment ≤ MOMENT_MOST_MS

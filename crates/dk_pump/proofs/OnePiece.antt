@@ -9,7 +9,7 @@ use Rattle.dk_frame.specs.declared.frame.ClientFrame.{ClientFrame}
 use Rattle.dk_frame.specs.declared.frame.FrameRefused.{FrameRefused}
 use Rattle.dk_frame.specs.declared.frame.FrameRefused.TheVariants as frames
 use Rattle.dk_frame.specs.Meanings.{frame_of}
-use Rattle.dk_frame.specs.Decoding.{Decoding, StandsFor, Refuses, IsNotBegun, following}
+use Rattle.dk_frame.specs.Decoding.{Decoding, HasDecoded, Refuses, IsNotBegun, following}
 use Rattle.dk_pump.specs.declared.limits.TheConstants.{SESSION_MOST_BYTES}
 use Rattle.dk_pump.specs.declared.ends.SessionEnd.TheVariants as ends
 use Rattle.dk_pump.specs.Reading.{HasStream, IsNextRead, IsNextEnd}
@@ -17,7 +17,7 @@ use Rattle.dk_pump.proofs.Streams.{consumes_none, keeps_consumes, whole_at_end, 
 
 -- a decoder that was fed nothing, and no bad frame follows
 pub record IsIdle (old mid : Decoding) : Type 0 where
-  pub same : (stream : List ℕ) (given : List Frame) → StandsFor old stream given → StandsFor mid stream given
+  pub same : (stream : List ℕ) (given : List Frame) → HasDecoded old stream given → HasDecoded mid stream given
   pub fed : mid.fed ≡ old.fed
   pub fault : mid.fault ≡ None
   pub stream : HasStream mid
@@ -27,11 +27,11 @@ map_nil [] is = refl
 map_nil (f ∷ items) is = absurd (cc is)
 
 pub idle : (old mid : Decoding) (piece : List ℕ) (items : List ClientFrame) → HasStream old → piece ≡ []
-    → ((stream : List ℕ) (given : List Frame) → StandsFor old stream given → StandsFor mid (stream ++ piece) (given ++ map frame_of items)) → (items ≡ [] → mid.fault ≡ None) → IsIdle old mid
+    → ((stream : List ℕ) (given : List Frame) → HasDecoded old stream given → HasDecoded mid (stream ++ piece) (given ++ map frame_of items)) → (items ≡ [] → mid.fault ≡ None) → IsIdle old mid
 idle old mid piece items s nothing fed told =
-    let on : (stream : List ℕ) (given : List Frame) → StandsFor old stream given → StandsFor mid (stream ++ []) (given ++ map frame_of items) = subst (λ p. (stream : List ℕ) (given : List Frame) → StandsFor old stream given → StandsFor mid (stream ++ p) (given ++ map frame_of items)) nothing fed in
+    let on : (stream : List ℕ) (given : List Frame) → HasDecoded old stream given → HasDecoded mid (stream ++ []) (given ++ map frame_of items) = subst (λ p. (stream : List ℕ) (given : List Frame) → HasDecoded old stream given → HasDecoded mid (stream ++ p) (given ++ map frame_of items)) nothing fed in
     let none : items ≡ [] = map_nil items (none_given old mid s.stream s.given (map frame_of items) s.stands (on s.stream s.given s.stands)) in
-    let now : StandsFor mid s.stream s.given = stands_as old mid s.stream s.given (map frame_of items) s.stands (on s.stream s.given s.stands) in
+    let now : HasDecoded mid s.stream s.given = stands_as old mid s.stream s.given (map frame_of items) s.stands (on s.stream s.given s.stands) in
     record {
       same = λ stream given before. stands_as old mid stream given (map frame_of items) before (on stream given before);
       fed = now.fed ∙ sym s.stands.fed;
@@ -40,7 +40,7 @@ idle old mid piece items s nothing fed told =
     }
 
 -- how many bytes were fed
-pub fed_more : (d d' : Decoding) (piece : List ℕ) (frames : List Frame) → HasStream d → ((stream : List ℕ) (given : List Frame) → StandsFor d stream given → StandsFor d' (stream ++ piece) (given ++ frames)) → d'.fed ≡ d.fed + length piece
+pub fed_more : (d d' : Decoding) (piece : List ℕ) (frames : List Frame) → HasStream d → ((stream : List ℕ) (given : List Frame) → HasDecoded d stream given → HasDecoded d' (stream ++ piece) (given ++ frames)) → d'.fed ≡ d.fed + length piece
 fed_more d d' piece frames s fed =
     let now = (fed s.stream s.given s.stands).fed in
     let before = s.stands.fed in
@@ -56,8 +56,8 @@ refused_fed (frames.BadFrame at why) d d' piece s h =
 refused_fed frames.NoMemory d d' piece s h = let same = ap (λ (x : Decoding). x.fed) h in omega (arith, same)
 
 module _ (left left' : Option (List ℕ)) (old mid : Decoding) (counted counted' : ℕ) (is : IsIdle old mid) where
-  none_fed : (stream : List ℕ) (given : List Frame) → StandsFor old stream given → StandsFor mid (stream ++ []) given
-  none_fed stream given s = subst (λ bytes. StandsFor mid bytes given) (sym (append-nil stream)) (is.same stream given s)
+  none_fed : (stream : List ℕ) (given : List Frame) → HasDecoded old stream given → HasDecoded mid (stream ++ []) given
+  none_fed stream given s = subst (λ bytes. HasDecoded mid bytes given) (sym (append-nil stream)) (is.same stream given s)
 
   -- the budget is spent
   pub budget_end : mid.fed ≡ SESSION_MOST_BYTES → counted' ≡ counted → left' ≡ left → IsNextEnd (ends.Budget SESSION_MOST_BYTES) left left' old mid counted counted'
@@ -83,7 +83,7 @@ module _ (left left' : Option (List ℕ)) (old mid : Decoding) (counted counted'
 
   -- it gave a piece, which was fed
   pub next_read : (new : Decoding) (piece : List ℕ) (frames : List Frame) → Consumes left left' piece → 0 < length piece
-      → ((stream : List ℕ) (given : List Frame) → StandsFor mid stream given → StandsFor new (stream ++ piece) (given ++ frames)) → counted' ≡ counted → IsNextRead frames left left' old new counted counted'
+      → ((stream : List ℕ) (given : List Frame) → HasDecoded mid stream given → HasDecoded new (stream ++ piece) (given ++ frames)) → counted' ≡ counted → IsNextRead frames left left' old new counted counted'
   next_read new piece frames consumed some fed steady =
       let more = fed_more mid new piece frames is.stream fed in
       let same = is.fed in

@@ -11,7 +11,7 @@ use Rattle.dk_connections.specs.declared.answers.PostRefused.{PostRefused}
 use Rattle.dk_connections.specs.declared.answers.PostRefused.TheVariants as refused
 use Rattle.dk_frame.specs.declared.frame.FrameRefused.{FrameRefused}
 use Rattle.dk_frame.specs.declared.frame.FrameRefused.TheVariants as frames
-use Rattle.dk_frame.specs.Decoding.{Decoding, StandsFor, Refuses}
+use Rattle.dk_frame.specs.Decoding.{Decoding, HasDecoded, Refuses}
 use Rattle.dk_frame.proofs.Turns.{stage_after-append}
 use Rattle.dk_pump.specs.declared.ends.SessionEnd.{SessionEnd}
 use Rattle.dk_pump.specs.declared.ends.SessionEnd.TheVariants as ends
@@ -27,7 +27,7 @@ use Rattle.dk_pump.proofs.Streams.{consumes_none, consumes_then, cause_then}
 
 -- want of memory loses the piece; a bad frame is told of all bytes fed
 pub refused_end : (r : FrameRefused) (left left' : Option (List ℕ)) (start old new : Decoding) (piece : List ℕ) (counted counted' : ℕ)
-    → ((stream : List ℕ) (given : List Frame) → StandsFor start stream given → StandsFor old stream given) → Consumes left left' piece → Refuses old piece new r → counted' ≡ counted
+    → ((stream : List ℕ) (given : List Frame) → HasDecoded start stream given → HasDecoded old stream given) → Consumes left left' piece → Refuses old piece new r → counted' ≡ counted
     → IsNextEnd (end_of_frames r) left left' start new counted counted'
 refused_end (frames.BadFrame at why) left left' start old new piece counted counted' same consumed h steady = record {
   bytes = piece;
@@ -44,7 +44,7 @@ refused_end frames.NoMemory left left' start old new piece counted counted' same
   lost = piece;
   loses = tt;
   consumed = consumed;
-  fed = λ stream given s. subst (λ bytes. StandsFor new bytes given) (sym (append-nil stream)) (subst (λ d. StandsFor d stream given) (sym h) (same stream given s));
+  fed = λ stream given s. subst (λ bytes. HasDecoded new bytes given) (sym (append-nil stream)) (subst (λ d. HasDecoded d stream given) (sym h) (same stream given s));
   of_read = tt;
   cause = tt;
   counts = steady;
@@ -71,7 +71,7 @@ module _ (o : Opened) (count pass : ℕ) (conn : ConnNo) (rest : List Frame) whe
     done = [];
     read = record {
       consumed = consumes_none left;
-      fed = λ stream given s. subst (λ bytes. StandsFor d bytes (given ++ [])) (sym (append-nil stream)) (subst (StandsFor d stream) (sym (append-nil given)) s);
+      fed = λ stream given s. subst (λ bytes. HasDecoded d bytes (given ++ [])) (sym (append-nil stream)) (subst (HasDecoded d stream) (sym (append-nil given)) s);
     };
     parts = append-nil rest;
     stage = refl;
@@ -91,7 +91,7 @@ module _ (o : Opened) (count pass : ℕ) (conn : ConnNo) (rest : List Frame) whe
     -- what is pending comes in turn
     pub pending_turn : (pending : List Frame) → IsGreeted old rest → IsReading o count pass conn rest pending left left' old new counted counted' front mid → AreInTurn InSession pending
     pending_turn pending g r =
-        let s : StandsFor new (g.stream ++ r.bytes) (Login g.name ∷ (rest ++ r.later)) = r.read.fed g.stream (Login g.name ∷ rest) g.stands in
+        let s : HasDecoded new (g.stream ++ r.bytes) (Login g.name ∷ (rest ++ r.later)) = r.read.fed g.stream (Login g.name ∷ rest) g.stands in
         let all : AreInTurn InSession (r.done ++ pending) = subst (AreInTurn InSession) r.parts s.is.in_turn.2 in
         subst (λ stage. AreInTurn stage pending) r.stage (turn_behind InSession r.done pending all)
 
@@ -185,11 +185,11 @@ module _ (o : Opened) (count pass : ℕ) (conn : ConnNo) (rest : List Frame) whe
   module _ (left mid left' : Option (List ℕ)) (old at new : Decoding) (counted counted_at counted' : ℕ) (front front' : List Event)
       (r : IsReading o count pass conn rest [] left mid old at counted counted_at front front') where
     -- both pieces were fed
-    fed_both : (bytes : List ℕ) (frames : List Frame) → ((stream : List ℕ) (given : List Frame) → StandsFor at stream given → StandsFor new (stream ++ bytes) (given ++ frames))
-        → (stream : List ℕ) (given : List Frame) → StandsFor old stream given → StandsFor new (stream ++ (r.bytes ++ bytes)) (given ++ (r.later ++ frames))
+    fed_both : (bytes : List ℕ) (frames : List Frame) → ((stream : List ℕ) (given : List Frame) → HasDecoded at stream given → HasDecoded new (stream ++ bytes) (given ++ frames))
+        → (stream : List ℕ) (given : List Frame) → HasDecoded old stream given → HasDecoded new (stream ++ (r.bytes ++ bytes)) (given ++ (r.later ++ frames))
     fed_both bytes frames fed stream given s =
-        subst (λ bs. StandsFor new bs (given ++ (r.later ++ frames))) (append_assoc stream r.bytes bytes)
-        (subst (StandsFor new ((stream ++ r.bytes) ++ bytes)) (append_assoc given r.later frames) (fed (stream ++ r.bytes) (given ++ r.later) (r.read.fed stream given s)))
+        subst (λ bs. HasDecoded new bs (given ++ (r.later ++ frames))) (append_assoc stream r.bytes bytes)
+        (subst (HasDecoded new ((stream ++ r.bytes) ++ bytes)) (append_assoc given r.later frames) (fed (stream ++ r.bytes) (given ++ r.later) (r.read.fed stream given s)))
 
     -- one more piece was read
     pub reading_next : (frames : List Frame) → IsNextRead frames mid left' at new counted_at counted' → IsReading o count pass conn rest frames left left' old new counted counted' front front'
@@ -235,7 +235,7 @@ module _ (o : Opened) (count pass : ℕ) (conn : ConnNo) (rest : List Frame) whe
       events = taken pass conn (inputs_of r.done);
       consumed = subst (Consumes left left') (sym (append_assoc r.bytes n.bytes n.lost)) (consumes_then left mid left' r.bytes (n.bytes ++ n.lost) r.read.consumed n.consumed);
       loses = n.loses;
-      fed = λ stream given s. subst (λ bytes. StandsFor new bytes (given ++ r.later)) (append_assoc stream r.bytes n.bytes) (n.fed (stream ++ r.bytes) (given ++ r.later) (r.read.fed stream given s));
+      fed = λ stream given s. subst (λ bytes. HasDecoded new bytes (given ++ r.later)) (append_assoc stream r.bytes n.bytes) (n.fed (stream ++ r.bytes) (given ++ r.later) (r.read.fed stream given s));
       posted = posted_at end n.of_read;
       cause = cause_then end left mid r.bytes n.bytes new r.read.consumed n.cause;
       counts = counts_from end r.counts n.counts;

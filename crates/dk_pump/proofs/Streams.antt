@@ -3,7 +3,7 @@ use Rattle.std.proofs.Common.{◌≡◌, ℕ, List, [], ◌∷◌, ◌++◌, Opt
 use Rattle.std.proofs.lemmas.List.{append-nil, append_cancel_left}
 use Rattle.std.specs.Io.KnownBytes.{Consumes, Appends, Keeps, IsAtEnd}
 use Rattle.dk_model.specs.Frames.{Frame, Fault, Nothing, IsStream}
-use Rattle.dk_frame.specs.Decoding.{Decoding, StandsFor, IsNotBegun, following, following_at}
+use Rattle.dk_frame.specs.Decoding.{Decoding, HasDecoded, IsNotBegun, following, following_at}
 use Rattle.dk_frame.proofs.Apart.{one_reading}
 use Rattle.dk_pump.specs.declared.ends.SessionEnd.{SessionEnd}
 use Rattle.dk_pump.specs.declared.ends.SessionEnd.TheVariants as ends
@@ -63,17 +63,17 @@ appends_then (Some xs) (Some ys) (Some zs) bs cs one two = two ∙ ap (λ l. l +
 -- ---- a decoder that is fed nothing
 
 -- it gives no frame
-pub none_given : (d d' : Decoding) (stream : List ℕ) (given frames : List Frame) → StandsFor d stream given → StandsFor d' (stream ++ []) (given ++ frames) → frames ≡ []
+pub none_given : (d d' : Decoding) (stream : List ℕ) (given frames : List Frame) → HasDecoded d stream given → HasDecoded d' (stream ++ []) (given ++ frames) → frames ≡ []
 none_given d d' stream given frames s s' =
     let now : IsStream stream (given ++ frames) (following d') = subst (λ bytes. IsStream bytes (given ++ frames) (following d')) (append-nil stream) s'.is in
     let same : given ≡ given ++ frames = (one_reading stream given (given ++ frames) (following d) (following d') s.is now).0 in
     append_cancel_left given frames [] (sym same ∙ sym (append-nil given))
 
 -- and stands for the stream as before
-pub stands_as : (d d' : Decoding) (stream : List ℕ) (given frames : List Frame) → StandsFor d stream given → StandsFor d' (stream ++ []) (given ++ frames) → StandsFor d' stream given
+pub stands_as : (d d' : Decoding) (stream : List ℕ) (given frames : List Frame) → HasDecoded d stream given → HasDecoded d' (stream ++ []) (given ++ frames) → HasDecoded d' stream given
 stands_as d d' stream given frames s s' =
-    subst (λ bytes. StandsFor d' bytes given) (append-nil stream)
-    (subst (λ fs. StandsFor d' (stream ++ []) fs) (ap (λ fs. given ++ fs) (none_given d d' stream given frames s s') ∙ append-nil given) s')
+    subst (λ bytes. HasDecoded d' bytes given) (append-nil stream)
+    (subst (λ fs. HasDecoded d' (stream ++ []) fs) (ap (λ fs. given ++ fs) (none_given d d' stream given frames s s') ∙ append-nil given) s')
 
 -- where no bad frame follows and none is begun, nothing follows
 nothing_at : (at : ℕ) (held : List ℕ) (fault : Option Fault) → fault ≡ None → IsNotBegun (following_at at held fault) → following_at at held fault ≡ Nothing

@@ -1,6 +1,6 @@
 -- How a session is read: what its client's frames enter, and how reading ends.
 --
--- A session's stream is what its source gave. The decoder stands for it: `StandsFor` says which whole frames it begins
+-- A session's stream is what its source gave. The decoder stands for it: `HasDecoded` says which whole frames it begins
 -- with and what follows them. Everything that a session enters is told by these frames.
 use Rattle.std.specs.Prelude.{◌≡◌, ℕ, ◌<◌, ◌≤◌, Bool, true, false, List, [], ◌∷◌, ◌++◌, map, Option, Some, None, Result, Ok, Err}
 use Rattle.std.specs.List.{flat_map}
@@ -20,7 +20,7 @@ use Rattle.dk_model.specs.Legal.{Opened}
 use Rattle.dk_connections.specs.declared.answers.PostRefused.{PostRefused}
 use Rattle.dk_connections.specs.declared.answers.PostRefused.TheVariants as refused
 use Rattle.dk_frame.specs.Meanings.{frame_of, fault_of}
-use Rattle.dk_frame.specs.Decoding.{Decoding, StandsFor, following}
+use Rattle.dk_frame.specs.Decoding.{Decoding, HasDecoded, following}
 use Rattle.dk_pump.specs.declared.limits.TheConstants.{SESSION_MOST_BYTES}
 use Rattle.dk_pump.specs.declared.ends.SessionEnd.{SessionEnd}
 use Rattle.dk_pump.specs.declared.ends.SessionEnd.TheVariants as ends
@@ -86,7 +86,7 @@ pub record PostsFrames (o : Opened) (count pass : ℕ) (conn : ConnNo) (frames :
 -- these bytes were taken from what was left, and fed to the decoder, which gave these frames of them
 pub record IsRead (left left' : Option (List ℕ)) (old new : Decoding) (bytes : List ℕ) (frames : List Frame) : Type 0 where
   pub consumed : Consumes left left' bytes
-  pub fed : (stream : List ℕ) (given : List Frame) → StandsFor old stream given → StandsFor new (stream ++ bytes) (given ++ frames)
+  pub fed : (stream : List ℕ) (given : List Frame) → HasDecoded old stream given → HasDecoded new (stream ++ bytes) (given ++ frames)
 
 -- the bytes are all that was left, where that is told
 abbrev pub IsWhole : Option (List ℕ) → List ℕ → Type 0
@@ -133,7 +133,7 @@ Loses _ lost = lost ≡ []
 pub record HasStream (d : Decoding) : Type 0 where
   pub stream : List ℕ
   pub given : List Frame
-  pub stands : StandsFor d stream given
+  pub stands : HasDecoded d stream given
 
 -- one more piece was read, and these frames came of it
 pub record IsNextRead (frames : List Frame) (left left' : Option (List ℕ)) (old new : Decoding) (counted counted' : ℕ) : Type 0 where
@@ -148,7 +148,7 @@ pub record IsNextEnd (end : SessionEnd) (left left' : Option (List ℕ)) (old ne
   pub lost : List ℕ
   pub loses : Loses end lost
   pub consumed : Consumes left left' (bytes ++ lost)
-  pub fed : (stream : List ℕ) (given : List Frame) → StandsFor old stream given → StandsFor new (stream ++ bytes) given
+  pub fed : (stream : List ℕ) (given : List Frame) → HasDecoded old stream given → HasDecoded new (stream ++ bytes) given
   pub of_read : IsOfRead end
   pub cause : IsCause end left bytes new
   pub counts : Counts end counted counted'
@@ -159,7 +159,7 @@ pub record IsNextEnd (end : SessionEnd) (left left' : Option (List ℕ)) (old ne
 pub record IsFirstRead (frames : List Frame) (left left' : Option (List ℕ)) (new : Decoding) (counted counted' : ℕ) : Type 0 where
   pub bytes : List ℕ
   pub consumed : Consumes left left' bytes
-  pub stands : StandsFor new bytes frames
+  pub stands : HasDecoded new bytes frames
   pub counts : counted' ≡ counted
 
 -- reading ended, and no frame had come
@@ -168,7 +168,7 @@ pub record IsFirstEnd (end : SessionEnd) (left left' : Option (List ℕ)) (new :
   pub lost : List ℕ
   pub loses : Loses end lost
   pub consumed : Consumes left left' (bytes ++ lost)
-  pub stands : StandsFor new bytes []
+  pub stands : HasDecoded new bytes []
   pub of_read : IsOfRead end
   pub cause : IsCause end left bytes new
   pub counts : Counts end counted counted'
@@ -177,7 +177,7 @@ pub record IsFirstEnd (end : SessionEnd) (left left' : Option (List ℕ)) (new :
 pub record IsGreeted (d : Decoding) (rest : List Frame) : Type 0 where
   pub stream : List ℕ
   pub name : List ℕ
-  pub stands : StandsFor d stream (Login name ∷ rest)
+  pub stands : HasDecoded d stream (Login name ∷ rest)
   pub few : d.fed ≤ SESSION_MOST_BYTES
 
 -- what greeting entered once the LOGIN frame was whole
@@ -209,7 +209,7 @@ pub record Greets (o : Opened) (count pass : ℕ) (r : Result Greeted SessionEnd
   pub events : List Event
   pub consumed : Consumes left left' (bytes ++ lost)
   pub loses : OfEnd r (λ end. Loses end lost) (lost ≡ [])
-  pub stands : StandsFor new bytes frames
+  pub stands : HasDecoded new bytes frames
   pub few : new.fed ≤ SESSION_MOST_BYTES
   pub connects : ConnectsBy pass frames r events
   pub cause : OfEnd r (λ end. IsCause end left bytes new) (Unit {0})
@@ -239,7 +239,7 @@ pub record ReadsTo (o : Opened) (count pass : ℕ) (conn : ConnNo) (end : Sessio
   pub events : List Event
   pub consumed : Consumes left left' (bytes ++ lost)
   pub loses : Loses end lost
-  pub fed : (stream : List ℕ) (given : List Frame) → StandsFor old stream given → StandsFor new (stream ++ bytes) (given ++ later)
+  pub fed : (stream : List ℕ) (given : List Frame) → HasDecoded old stream given → HasDecoded new (stream ++ bytes) (given ++ later)
   pub posted : IsPosted pass conn (rest ++ later) end events
   pub cause : IsCause end left bytes new
   pub counts : Counts end counted counted'

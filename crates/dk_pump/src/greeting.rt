@@ -1,6 +1,6 @@
 //! The begin of a session: its client's LOGIN.
 ghost use Rattle.std.specs.Prelude.{◌≡◌, ◌<◌, ◌≤◌, [], map, length, IfOk, IfErr};
-ghost use Rattle.dk_frame.specs.Decoding.{StandsFor};
+ghost use Rattle.dk_frame.specs.Decoding.{HasDecoded};
 ghost use Rattle.dk_frame.specs.Meanings.{frame_of};
 ghost use Rattle.dk_pump.specs.Reading.{Greets, IsFirstEnd, IsFirstRead, IsGreeted};
 
@@ -31,7 +31,7 @@ pub fn greet<W: Hosting, J: Naming, M: Home, R: Wait, S: Source>(
     source: &mut S,
     decoder: &mut Decoder,
 ) -> Result<Greeted, SessionEnd>
-    requires new { StandsFor decoder.old [] [] }
+    requires new { HasDecoded decoder.old [] [] }
     ensures number { pass.new.number ≡ pass.old.number }
     ensures greets { Greets W.opened J.name.passes pass.old.number result (S.remaining source.old) (S.remaining source.new) decoder.new (S.counted source.old) (S.counted source.new) pass.old.front pass.new.front }
     ensures ready { IfOk result (λ greeted. IsGreeted decoder.new (map frame_of greeted.rest.items)) }
@@ -49,7 +49,7 @@ fn first_frames<S: Source>(
     source: &mut S,
     decoder: &mut Decoder,
 ) -> Result<Vec<ClientFrame>, SessionEnd>
-    requires new { StandsFor decoder.old [] [] }
+    requires new { HasDecoded decoder.old [] [] }
     ensures read { IfOk result (λ frames. IsFirstRead (map frame_of frames.items) (S.remaining source.old) (S.remaining source.new) decoder.new (S.counted source.old) (S.counted source.new)) }
     ensures some { IfOk result (λ frames. 0 < length frames.items) }
     ensures ended { IfErr result (λ end. IsFirstEnd end (S.remaining source.old) (S.remaining source.new) decoder.new (S.counted source.old) (S.counted source.new)) }

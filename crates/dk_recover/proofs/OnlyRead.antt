@@ -4,7 +4,7 @@ use Rattle.std.proofs.lemmas.Bool.{cases_lt}
 use Rattle.dk_types.specs.declared.side.Side.{Side}
 use Rattle.dk_types.specs.declared.side.Side.TheVariants.{Zero, One}
 use Rattle.dk_disk.specs.Disk.{Disk, settled}
-use Rattle.dk_disk.specs.Past.{Past, now}
+use Rattle.dk_disk.specs.DiskHistories.{DiskHistory, now}
 use Rattle.dk_journal.specs.Moments.{Runs, Looks, IsAsRead}
 use Rattle.dk_recover.specs.Files.{OnlyReads, Settles}
 
@@ -14,10 +14,10 @@ as_read_then d e f first second = ⊎_elim
     (λ synced. ⊎_elim (λ (kept : f ≡ e). inr (kept ∙ synced)) (λ (again : f ≡ settled e.reads). inr (again ∙ ap (λ (x : Disk). settled x.reads) synced)) second)
     first
 
-pub none_read : (past : Past) → OnlyReads past past
+pub none_read : (past : DiskHistory) → OnlyReads past past
 none_read past = record { later = omega arith; kept = λ t s le. refl; each = λ t s from to. inl (ap (λ k. past.disks k s) (omega (arith, from, to))) }
 
-module _ (old mid new : Past) (so_far : OnlyReads old mid) where
+module _ (old mid new : DiskHistory) (so_far : OnlyReads old mid) where
   pub reads_looked : Looks mid new → OnlyReads old new
   reads_looked looks = record {
     later = omega (arith, so_far.later, looks.later);
@@ -45,7 +45,7 @@ module _ (old mid new : Past) (so_far : OnlyReads old mid) where
       at_side One One t run from to = run.each t from to
 
 -- both files synced, and then looked at
-pub settled_since : (old first second new : Past) → old.clock ≤ first.clock → first.clock ≤ second.clock → now first Zero ≡ settled (now old Zero).reads → now first One ≡ now old One → now second One ≡ settled (now first One).reads → now second Zero ≡ now first Zero
+pub settled_since : (old first second new : DiskHistory) → old.clock ≤ first.clock → first.clock ≤ second.clock → now first Zero ≡ settled (now old Zero).reads → now first One ≡ now old One → now second One ≡ settled (now first One).reads → now second Zero ≡ now first Zero
     → Looks second new → Settles old new
 settled_since old first second new a b zero one synced same looks = (
   second.clock,
@@ -61,7 +61,7 @@ settled_since old first second new a b zero one synced same looks = (
     is One = synced ∙ ap (λ (d : Disk). settled d.reads) one
 
 -- and then looked at again
-pub settles_looked : (old mid new : Past) → Settles old mid → Looks mid new → Settles old new
+pub settles_looked : (old mid new : DiskHistory) → Settles old mid → Looks mid new → Settles old new
 settles_looked old mid new is looks = (
   is.0,
   record {

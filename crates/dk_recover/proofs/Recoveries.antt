@@ -6,7 +6,7 @@ use Rattle.dk_types.specs.declared.side.Side.{Side}
 use Rattle.dk_types.specs.declared.side.Side.TheVariants.{Zero, One}
 use Rattle.dk_types.specs.declared.durable.Durable.{Durable}
 use Rattle.dk_disk.specs.Disk.{Disk, settled}
-use Rattle.dk_disk.specs.Past.{Past, now, other_side}
+use Rattle.dk_disk.specs.DiskHistories.{DiskHistory, now, other_side}
 use Rattle.dk_model.specs.DurableWorlds.{DurableWorld, empty_world}
 use Rattle.dk_model.specs.Images.{world_lists}
 use Rattle.dk_model.specs.Validity.{IsValid}
@@ -31,10 +31,10 @@ use Rattle.dk_recover.specs.declared.recovery.Recovered.{Recovered}
 use Rattle.dk_recover.proofs.Undamaged.{not_damaged}
 
 -- both files as they are in the end
-pub settled_now : (old new : Past) → Settles old new → (s : Side) → now new s ≡ settled (now old s).reads
+pub settled_now : (old new : DiskHistory) → Settles old new → (s : Side) → now new s ≡ settled (now old s).reads
 settled_now old new is s = is.1.since new.clock s is.1.to (omega arith)
 
-pub side_file : (past : Past) (s : Side) → file_on s (now past Zero).reads (now past One).reads ≡ (now past s).reads
+pub side_file : (past : DiskHistory) (s : Side) → file_on s (now past Zero).reads (now past One).reads ≡ (now past s).reads
 side_file past Zero = refl
 side_file past One = refl
 
@@ -82,7 +82,7 @@ module _ (z o game : List ℕ) (header : Header) (scan : Scan) (is : IsStanding 
   damaged : (side : Side) (at : ℕ) → side ≡ scan.side → IsDamaged (file_on scan.side z o) (store_header header) at → Recovers z o (files.Damaged side at)
   damaged side at same bad = subst (λ (s : Side). Recovers z o (files.Damaged s at)) (sym same) (store_header header, is.stands, bad)
 
-module _ (z o game : List ℕ) (header : Header) (scan : Scan) (is : IsStanding z o header scan) (same : header.game ≡ game) (past : Past) where
+module _ (z o game : List ℕ) (header : Header) (scan : Scan) (is : IsStanding z o header scan) (same : header.game ≡ game) (past : DiskHistory) where
   pub refused : (fault : OpenFault) → IsWhole (file_on scan.side z o) (store_header header) (Err fault) → ((side : Side) (at : ℕ) → fault ≡ Damaged side at → side ≡ scan.side) → IsAnswer z o game past (Err fault)
   refused (Damaged side at) bad here = (ours z o game header scan is same, damaged z o game header scan is side at (here side at refl) bad)
   refused NoMemory bad here = ours z o game header scan is same
@@ -122,7 +122,7 @@ module _ (z o game : List ℕ) (header : Header) (scan : Scan) (is : IsStanding 
       } in
       subst (λ (s : Side). IsStore z o game past (record { durable = durable; store = Some journal; side = s; format = format }) journal) (sym side_is) store
 
-module _ (z o game : List ℕ) (past : Past) where
+module _ (z o game : List ℕ) (past : DiskHistory) where
   pub none_stands : (fault : OpenFault) → IsStood z o (Err fault) → IsStandingFault fault → IsAnswer z o game past (Err fault)
   none_stands (NotAStore side at) is only = is
   none_stands DiskFault is only = tt
@@ -172,7 +172,7 @@ module _ (z o : List ℕ) (d : DurableWorld) where
       (λ empty. let both : NoneStands side at ≡ NoStore = sym none ∙ empty.0 in absurd cc)
       has
 
-  module _ (game : List ℕ) (past : Past) (has : HasDurable z o d) (our : IsOurs z o game) where
+  module _ (game : List ℕ) (past : DiskHistory) (has : HasDurable z o d) (our : IsOurs z o game) where
     found_lists : (found : Recovered) (store : Option Journal) → IsFound z o game past found store → found.durable ≡ world_lists d
     found_lists found None is = is.durable ∙ ap world_lists (sym (none_held has is.not_yet))
     found_lists found (Some journal) is = is.durable ∙ ap world_lists (one_held (file_on found.side z o) is.header is.world d is.holds (held_on has found.side is.header is.stands))
@@ -185,7 +185,7 @@ module _ (z o : List ℕ) (d : DurableWorld) where
     accepts (Err NoMemory) is = tt
     accepts (Err DiskFault) is = tt
 
-module _ (z o game : List ℕ) (past : Past) where
+module _ (z o game : List ℕ) (past : DiskHistory) where
   found_holds : (found : Recovered) (store : Option Journal) → IsFound z o game past found store → (d : DurableWorld) × HasDurable z o d × IsValid d × (found.durable ≡ world_lists d)
   found_holds found None is = (empty_world, inr (is.not_yet, refl), empty_valid, is.durable)
   found_holds found (Some journal) is = (is.world, inl (found.side, (is.header, is.stands, is.holds)), world_valid is.header is.holds.payloads is.world is.holds.world, is.durable)
@@ -200,7 +200,7 @@ handed_on fault (Ok found) err same = absurd (false≢true err)
 handed_on fault (Err f) err same = ap Err same
 
 -- files that were settled read as before
-module _ (P : List ℕ → List ℕ → Type 0) (old new : Past) (is : Settles old new) where
+module _ (P : List ℕ → List ℕ → Type 0) (old new : DiskHistory) (is : Settles old new) where
   same_reads : (s : Side) → (now new s).reads ≡ (now old s).reads
   same_reads s = ap (λ (d : Disk). d.reads) (settled_now old new is s)
 
@@ -210,5 +210,5 @@ module _ (P : List ℕ → List ℕ → Type 0) (old new : Past) (is : Settles o
   pub backward : P (now new Zero).reads (now new One).reads → P (now old Zero).reads (now old One).reads
   backward has = subst (λ (o : List ℕ). P (now old Zero).reads o) (same_reads One) (subst (λ (z : List ℕ). P z (now new One).reads) (same_reads Zero) has)
 
-pub at_rest : (old new : Past) → Settles old new → (s : Side) → now new s ≡ settled (now new s).reads
+pub at_rest : (old new : DiskHistory) → Settles old new → (s : Side) → now new s ≡ settled (now new s).reads
 at_rest old new is s = settled_now old new is s ∙ ap settled (sym (ap (λ (d : Disk). d.reads) (settled_now old new is s)))

@@ -2,7 +2,7 @@
 use Rattle.std.specs.Prelude.{◌≡◌, ◌≢◌, ⊤, ℕ, ◌≤◌, List, length, Option, Some, None, Result, Ok, Err}
 use Rattle.dk_types.specs.declared.side.Side.{Side}
 use Rattle.dk_types.specs.declared.side.Side.TheVariants.{Zero, One}
-use Rattle.dk_disk.specs.Past.{Past, now}
+use Rattle.dk_disk.specs.DiskHistories.{DiskHistory, now}
 use Rattle.dk_model.specs.DurableWorlds.{DurableWorld, empty_world}
 use Rattle.dk_model.specs.Images.{world_lists}
 use Rattle.dk_model.specs.Stores.{StoreHeader, StandsOn, standing}
@@ -25,7 +25,7 @@ abbrev pub IsOfOther : List ℕ → List ℕ → List ℕ → List ℕ → Type 
 IsOfOther zero one game found = (side : Side) × (header : StoreHeader) × (standing zero one ≡ StandsOn side header) × (header.game ≡ found) × (found ≢ game)
 
 -- THE STORE that was found. A header of this game stands on its side, its file has its world, the journal stands behind that file's records, and nothing is pending.
-pub record IsStore (zero one game : List ℕ) (past : Past) (found : Recovered) (journal : Journal) : Type 0 where
+pub record IsStore (zero one game : List ℕ) (past : DiskHistory) (found : Recovered) (journal : Journal) : Type 0 where
   pub header : StoreHeader
   pub world : DurableWorld
   pub stands : standing zero one ≡ StandsOn found.side header
@@ -36,7 +36,7 @@ pub record IsStore (zero one game : List ℕ) (past : Past) (found : Recovered) 
   pub store : HasStore past found.side journal header holds.payloads world
 
 -- NO STORE YET: the empty world. A store is to be made in the first file; that is blank and short, the other is blank, and nothing is pending.
-pub record IsNoStore (zero one : List ℕ) (past : Past) (found : Recovered) : Type 0 where
+pub record IsNoStore (zero one : List ℕ) (past : DiskHistory) (found : Recovered) : Type 0 where
   pub not_yet : Recovers zero one NotYet
   pub durable : found.durable ≡ world_lists empty_world
   pub side : found.side ≡ Zero
@@ -46,12 +46,12 @@ pub record IsNoStore (zero one : List ℕ) (past : Past) (found : Recovered) : T
   pub beside : IsBlankBeside past One
 
 -- a store, or none yet, by whether there is a journal
-abbrev pub IsFound : List ℕ → List ℕ → List ℕ → Past → Recovered → Option Journal → Type 0
+abbrev pub IsFound : List ℕ → List ℕ → List ℕ → DiskHistory → Recovered → Option Journal → Type 0
 IsFound zero one game past found None = IsNoStore zero one past found
 IsFound zero one game past found (Some journal) = IsStore zero one game past found journal
 
 -- THE ANSWER: what the two files hold, or the first thing that is wrong with them. Which game the store is of comes after whether it is one, and before its records.
-abbrev pub IsAnswer : List ℕ → List ℕ → List ℕ → Past → Result Recovered OpenFault → Type 0
+abbrev pub IsAnswer : List ℕ → List ℕ → List ℕ → DiskHistory → Result Recovered OpenFault → Type 0
 IsAnswer zero one game past (Ok found) = IsFound zero one game past found found.store
 IsAnswer zero one game past (Err (NotAStore side at)) = Recovers zero one (files.NotAStore side at)
 IsAnswer zero one game past (Err (WrongGame found)) = IsOfOther zero one game found

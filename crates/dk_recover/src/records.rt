@@ -2,7 +2,7 @@
 ghost use Rattle.std.specs.Prelude.{◌≡◌, ◌<◌, ℕ, List, [], length, IfOk, IsErrOf, IsTrue, true, false};
 ghost use Rattle.dk_types.specs.Faults.{HasRisen};
 ghost use Rattle.dk_disk.specs.Opening.{IsOpen};
-ghost use Rattle.dk_disk.specs.Past.{now};
+ghost use Rattle.dk_disk.specs.DiskHistories.{now};
 ghost use Rattle.dk_model.specs.Entries.{IsFormat};
 ghost use Rattle.dk_model.specs.Recovered.{HasWorld};
 ghost use Rattle.dk_model.specs.Stores.{StoreHeader, header_spelling};

@@ -3,7 +3,7 @@ ghost use Rattle.std.specs.Prelude.{◌≡◌, length, IfOk, IfErr, MatchResult,
 ghost use Rattle.dk_types.specs.Faults.{HasRisen};
 ghost use Rattle.dk_types.specs.declared.side.Side.TheVariants.{Zero as First, One as Second};
 ghost use Rattle.dk_disk.specs.Opening.{IsOpen};
-ghost use Rattle.dk_disk.specs.Past.{now};
+ghost use Rattle.dk_disk.specs.DiskHistories.{now};
 ghost use Rattle.dk_model.specs.DurableWorlds.{DurableWorld, empty_world};
 ghost use Rattle.dk_model.specs.Images.{world_lists};
 ghost use Rattle.dk_model.specs.Recovered.{HasDurable};

@@ -4,7 +4,7 @@ ghost use Rattle.dk_types.specs.Faults.{HasRisen};
 ghost use Rattle.dk_types.specs.declared.side.Side.TheVariants.{Zero as First, One as Second};
 ghost use Rattle.dk_disk.specs.Disk.{settled};
 ghost use Rattle.dk_disk.specs.Opening.{IsOpen};
-ghost use Rattle.dk_disk.specs.Past.{now};
+ghost use Rattle.dk_disk.specs.DiskHistories.{now};
 ghost use Rattle.dk_journal.specs.Moments.{Runs, IsAsRead};
 ghost use Rattle.dk_model.specs.Stores.{look, Blank as IsBlank};
 ghost use Rattle.dk_recover.specs.Scanned.{IsSeen};

@@ -2,7 +2,7 @@
 use Rattle.std.proofs.Common.{◌≡◌, ℕ, List, Result, Ok, Err, IfErr, refl, sym, ap, subst}
 use Rattle.std.proofs.lemmas.Bool.{false≢true}
 use Rattle.std.specs.Result.{IsErr, IsErrAnd}
-use Rattle.dk_disk.specs.Past.{Past}
+use Rattle.dk_disk.specs.DiskHistories.{DiskHistory}
 use Rattle.dk_recover.specs.Recovery.{IsAnswer, IsOfDevice}
 use Rattle.dk_recover.specs.declared.fault.OpenFault.{OpenFault}
 use Rattle.dk_recover.specs.declared.fault.OpenFault.TheVariants as opened
@@ -11,7 +11,7 @@ use Rattle.dk_reports.specs.Causes as reports
 use Rattle.dk_reports.specs.declared.fault.ReportFault.{ReportFault}
 use Rattle.dk_reports.specs.declared.fault.ReportFault.TheVariants.{WriteFault, DiskFault}
 
-pub cause_of : (z o game : List ℕ) (past : Past) (fault : OpenFault) → IsAnswer z o game past (Err fault) → IsCause z o game (fault_of fault)
+pub cause_of : (z o game : List ℕ) (past : DiskHistory) (fault : OpenFault) → IsAnswer z o game past (Err fault) → IsCause z o game (fault_of fault)
 cause_of z o game past opened.NoMemory is = is
 cause_of z o game past opened.DiskFault is = tt
 cause_of z o game past (opened.NotAStore side at) is = is

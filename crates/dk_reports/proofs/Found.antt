@@ -1,7 +1,7 @@
 -- What is written of a store that was found.
 use Rattle.std.proofs.Common.{◌≡◌, ◌⊎◌, inl, inr, ℕ, List, Option, Some, None, refl, sym, ap, ◌∙◌, subst}
 use Rattle.dk_types.specs.declared.side.Side.{Side}
-use Rattle.dk_disk.specs.Past.{Past}
+use Rattle.dk_disk.specs.DiskHistories.{DiskHistory}
 use Rattle.dk_model.specs.Stores.{StoreHeader, NoStore, StandsOn, standing, header_spelling, end_of}
 use Rattle.dk_model.specs.Recovered.{file_on}
 use Rattle.dk_journal.proofs.Readings.{one_reading}
@@ -11,7 +11,7 @@ use Rattle.dk_recover.specs.declared.recovery.Recovered.{Recovered}
 use Rattle.dk_recover.proofs.Recoveries.{one_side}
 use Rattle.dk_reports.specs.Lines.{IsCheckLine, line_of, ok_line}
 
-module _ (z o game : List ℕ) (past : Past) (found : Recovered) where
+module _ (z o game : List ℕ) (past : DiskHistory) (found : Recovered) where
   -- it is of this game
   pub found_ours : (store : Option Journal) → IsFound z o game past found store → IsOurs z o game
   found_ours None is side header stands = let no : NoStore ≡ StandsOn side header = sym is.not_yet ∙ stands in absurd cc

@@ -2,7 +2,7 @@
 use Rattle.std.proofs.Common.{◌≡◌, ◌⊎◌, inl, ⊎_elim, ℕ, ◌≤◌, List, refl, sym, ap, subst, ◌∙◌, arith}
 use Rattle.std.proofs.lemmas.Bool.{cases_lt}
 use Rattle.dk_disk.specs.Disk.{Disk}
-use Rattle.dk_disk.specs.Past.{Past, now, Elapses, Stays}
+use Rattle.dk_disk.specs.DiskHistories.{DiskHistory, now, Elapses, Stays}
 use Rattle.dk_types.specs.declared.side.Side.{Side}
 use Rattle.dk_types.specs.declared.side.Side.TheVariants.{Zero, One}
 use Rattle.dk_disk.specs.Opening.{Opening, NotCalled, Refused, Opened}
@@ -13,10 +13,10 @@ use Rattle.dk_recover.proofs.OnlyRead.{none_read, reads_looked}
 use Rattle.dk_reports.specs.Causes.{IsOpenedAt}
 
 -- a call after which both files are what they were
-pub stays_reads : (old new : Past) → Elapses old new → Stays old new → OnlyReads old new
+pub stays_reads : (old new : DiskHistory) → Elapses old new → Stays old new → OnlyReads old new
 stays_reads old new time stays = reads_looked old old new (none_read old) (looks_once old new time stays)
 
-looks_reads : (old mid new : Past) → Looks old mid → OnlyReads mid new → OnlyReads old new
+looks_reads : (old mid new : DiskHistory) → Looks old mid → OnlyReads mid new → OnlyReads old new
 looks_reads old mid new looks reads = record {
   later = omega (arith, looks.later, reads.later);
   kept = λ t s le. reads.kept t s (omega (arith, le, looks.later)) ∙ looks.kept t s le;
@@ -27,10 +27,10 @@ looks_reads old mid new looks reads = record {
 }
 
 -- and then only read
-pub stays_then_reads : (old mid new : Past) → Elapses old mid → Stays old mid → OnlyReads mid new → OnlyReads old new
+pub stays_then_reads : (old mid new : DiskHistory) → Elapses old mid → Stays old mid → OnlyReads mid new → OnlyReads old new
 stays_then_reads old mid new time stays reads = looks_reads old mid new (looks_once old mid time stays) reads
 
-module _ (P : List ℕ → List ℕ → Type 0) (old new : Past) (stays : Stays old new) where
+module _ (P : List ℕ → List ℕ → Type 0) (old new : DiskHistory) (stays : Stays old new) where
   same_reads : (s : Side) → (now new s).reads ≡ (now old s).reads
   same_reads s = ap (λ (d : Disk). d.reads) (stays s)
 

@@ -5,7 +5,7 @@ ghost use Rattle.dk_types.specs.Faults.{HasRisen};
 ghost use Rattle.dk_types.specs.declared.side.Side.TheVariants.{Zero as First, One as Second};
 ghost use Rattle.dk_edge.specs.Streams.{AppendsPrefix};
 ghost use Rattle.dk_disk.specs.Opening.{NotCalled, Opened};
-ghost use Rattle.dk_disk.specs.Past.{now};
+ghost use Rattle.dk_disk.specs.DiskHistories.{now};
 ghost use Rattle.dk_model.specs.DurableWorlds.{DurableWorld};
 ghost use Rattle.dk_model.specs.Recovered.{HasDurable};
 ghost use Rattle.dk_inspect.specs.Texts.{world_text};

@@ -1,6 +1,6 @@
 //! Whole jobs of a game that tells a bystander of each.
 ghost use Rattle.std.specs.Prelude.{◌≡◌, true};
-ghost use Rattle.dk_txn.specs.Knowing.{JobFits};
+ghost use Rattle.dk_txn.specs.Knowing.{HasTaskLimits};
 
 use crate::crier::Crier;
 use crate::ends::{job, outcome, told};
@@ -52,7 +52,7 @@ impl<'a> Plays<'a> {
 
 /// Whether the moments of a task are within their limits.
 fn fits(job: &Job) -> bool
-    ensures { result ≡ true → JobFits job.now }
+    ensures { result ≡ true → HasTaskLimits job.now }
 {
     match job {
         Job::Task { due, period, .. } => { *due <= MOMENT_MOST_MS && *period <= PERIOD_MOST_MS }

@@ -7,7 +7,7 @@ use Rattle.dk_map.specs.Entries.{find, put, without, IsChanged, IsOrdered}
 use Rattle.dk_model.specs.Keys.{key_cmp}
 use Rattle.dk_tasks.specs.Places.{held_count, place_cmp, place_of, due_at, IsInStep, IsKeyed, IsMoved}
 use Rattle.dk_tasks.specs.declared.stored.Stored.{Stored}
-use Rattle.dk_tasks.specs.declared.stored.Place.{Place}
+use Rattle.dk_tasks.specs.declared.stored.TaskRank.{TaskRank}
 use Rattle.dk_tasks.proofs.Found.{found_of_all}
 use Rattle.dk_tasks.proofs.Orders.{key_same}
 use Rattle.dk_tasks.proofs.Spares.{place_out, place_in, spare_kept}
@@ -21,7 +21,7 @@ moved due k P es es' (Some a) h f =
     (h.0, h.2, is.1, h.4 ∙ ap (λ y. put key_cmp k y es) is.0)
 moved due k P es es' None h f = h.0
 
-module _ (t : List (TaskKey × Stored)) (p : List (Place × Unit {0})) (i : IsInStep t p) (k : TaskKey) (s : Stored) (f : find key_cmp k t ≡ Some s) (due : ℕ) (t' : List (TaskKey × Stored)) (e : t' ≡ put key_cmp k (due_at due s) t) (a b n : ℕ) (v : min a (b - held_count t) ≡ n) (fits : held_count t ≤ b) (a' : ℕ) (d : a' ≡ a) where
+module _ (t : List (TaskKey × Stored)) (p : List (TaskRank × Unit {0})) (i : IsInStep t p) (k : TaskKey) (s : Stored) (f : find key_cmp k t ≡ Some s) (due : ℕ) (t' : List (TaskKey × Stored)) (e : t' ≡ put key_cmp k (due_at due s) t) (a b n : ℕ) (v : min a (b - held_count t) ≡ n) (fits : held_count t ≤ b) (a' : ℕ) (d : a' ≡ a) where
   key : s.task.key ≡ k
   key = found_of_all key_same IsKeyed t i.keyed k s f
 
@@ -35,7 +35,7 @@ module _ (t : List (TaskKey × Stored)) (p : List (Place × Unit {0})) (i : IsIn
         room.1,
       )
 
-  module _ (free : s.claimed ≡ false) (q : Place) (at : q ≡ place_of k s) (r : Option (Place × Unit {0})) (was : option_map (λ e. e.1) r ≡ find place_cmp q p) (b1 : ℕ) (g : b1 ≡ b + (if is_some r then 1 else 0)) where
+  module _ (free : s.claimed ≡ false) (q : TaskRank) (at : q ≡ place_of k s) (r : Option (TaskRank × Unit {0})) (was : option_map (λ e. e.1) r ≡ find place_cmp q p) (b1 : ℕ) (g : b1 ≡ b + (if is_some r then 1 else 0)) where
     -- the old place leaves room
     out : b1 ≡ b + 1
     out = place_out t p i k s f a b n v fits free q at r was b1 g
@@ -44,7 +44,7 @@ module _ (t : List (TaskKey × Stored)) (p : List (Place × Unit {0})) (i : IsIn
     moved_room = omega (arith, out)
 
     -- which the new one takes
-    pub moved_free : (less p' : List (Place × Unit {0})) → less ≡ without place_cmp q p → IsOrdered place_cmp less → (r' : Option (Unit {0})) → r' ≡ find place_cmp (record { due = due; key = k }) less
+    pub moved_free : (less p' : List (TaskRank × Unit {0})) → less ≡ without place_cmp q p → IsOrdered place_cmp less → (r' : Option (Unit {0})) → r' ≡ find place_cmp (record { due = due; key = k }) less
         → p' ≡ put place_cmp (record { due = due; key = k }) tt less → IsOrdered place_cmp p' → (b2 : ℕ) → b2 + (if is_some r' then 0 else 1) ≡ b1
         → IsInStep t' p' × (min a' (b2 - held_count t') ≡ n) × (held_count t' ≤ b2)
     moved_free less p' gone less_ordered r' found more ordered b2 into =

@@ -8,7 +8,7 @@ use Rattle.dk_types.specs.declared.number.TaskKey.{TaskKey}
 use Rattle.dk_map.proofs.Keys.{then-IsAntisymmetric}
 use Rattle.dk_model.specs.Keys.{key_cmp}
 use Rattle.dk_model.specs.DurableWorlds.{Task}
-use Rattle.dk_tasks.specs.declared.stored.Place.{Place}
+use Rattle.dk_tasks.specs.declared.stored.TaskRank.{TaskRank}
 use Rattle.dk_tasks.specs.Places.{place_cmp}
 
 pub key_total : IsTotalOrder key_cmp
@@ -28,10 +28,10 @@ pub moment_same : IsAntisymmetric moment_cmp
 moment_same = then-IsAntisymmetric (λ (d : ℕ × TaskKey). d.0) (λ (d : ℕ × TaskKey). d.1) nat_cmp-IsAntisymmetric key_same (λ x y p q i. (p i, q i))
 
 pub place_total : IsTotalOrder place_cmp
-place_total = on_total (λ (p : Place). (p.due, p.key)) moment_total
+place_total = on_total (λ (p : TaskRank). (p.due, p.key)) moment_total
 
 pub place_same : IsAntisymmetric place_cmp
-place_same = then-IsAntisymmetric (λ (p : Place). p.due) (λ (p : Place). p.key) nat_cmp-IsAntisymmetric key_same (λ x y p q i. record { due = p i; key = q i })
+place_same = then-IsAntisymmetric (λ (p : TaskRank). p.due) (λ (p : TaskRank). p.key) nat_cmp-IsAntisymmetric key_same (λ x y p q i. record { due = p i; key = q i })
 
 -- the order of tasks that `is_sooner` tests
 abbrev pub sooner_cmp : TaskKey × Task → TaskKey × Task → Ordering

@@ -21,7 +21,7 @@ use Rattle.dk_tasks.specs.Tasks.{Kept, bare}
 use Rattle.dk_tasks.specs.Due.{is_due, due_tasks, least_due, HasTasks, job_at}
 use Rattle.dk_tasks.specs.Places.{kept_of, kept_tasks, place_cmp, place_of, is_placed, IsInStep}
 use Rattle.dk_tasks.specs.declared.stored.Stored.{Stored}
-use Rattle.dk_tasks.specs.declared.stored.Place.{Place}
+use Rattle.dk_tasks.specs.declared.stored.TaskRank.{TaskRank}
 use Rattle.dk_tasks.proofs.Durable.{entries-durable}
 use Rattle.dk_tasks.proofs.Found.{tied, all_of_found}
 use Rattle.dk_tasks.proofs.Kept.{kept_get}
@@ -143,9 +143,9 @@ free_and : (claimed b : Bool) → (not claimed && b) ≡ true → (claimed ≡ f
 free_and true b e = cc
 free_and false b e = (refl, e)
 
-module _ (t : List (TaskKey × Stored)) (p : List (Place × Unit {0})) (i : IsInStep t p) where
+module _ (t : List (TaskKey × Stored)) (p : List (TaskRank × Unit {0})) (i : IsInStep t p) where
   -- what stands at a place that is there: no run has it
-  standing : (q : Place) → is_some (find place_cmp q p) ≡ true → (s : Stored) × (find key_cmp q.key t ≡ Some s) × (s.claimed ≡ false) × (q ≡ place_of q.key s)
+  standing : (q : TaskRank) → is_some (find place_cmp q p) ≡ true → (s : Stored) × (find key_cmp q.key t ≡ Some s) × (s.claimed ≡ false) × (q ≡ place_of q.key s)
   standing q e =
       elim (find key_cmp q.key t) as (λ r. find key_cmp q.key t ≡ r → is_placed q r ≡ true → (s : Stored) × (find key_cmp q.key t ≡ Some s) × (s.claimed ≡ false) × (q ≡ place_of q.key s)) [
         | None ↦ λ _ b. cc
@@ -180,7 +180,7 @@ module _ (t : List (TaskKey × Stored)) (p : List (Place × Unit {0})) (i : IsIn
         let there = sym (ap is_some absent) ∙ placed_there t p i k s.0 s.1 s.3 in
         cc)
 
-    module _ (q : Place) (v : Unit {0}) (e : first_entry p ≡ Some (q, v)) where
+    module _ (q : TaskRank) (v : Unit {0}) (e : first_entry p ≡ Some (q, v)) where
       -- no task's place is before the front
       front : (k : TaskKey) (s : Stored) → find key_cmp k t ≡ Some s → s.claimed ≡ false → is_lt (place_cmp (place_of k s) q) ≡ false
       front k s f free =
@@ -197,7 +197,7 @@ module _ (t : List (TaskKey × Stored)) (p : List (Place × Unit {0})) (i : IsIn
       soonest_at_front b =
           let s = at_front in
           let there = sym (kept_get t refl i.ordered q.key) ∙ ap (option_map kept_of) s.1 in
-          let due : q.due ≡ s.0.task.due = ap (λ (p : Place). p.due) s.3 in
+          let due : q.due ≡ s.0.task.due = ap (λ (p : TaskRank). p.due) s.3 in
           let is : is_due at (q.key, kept_of s.0) ≡ true = (λ j. nat_le (sym due j) at && not (s.2 j)) ∙ ap (λ c. c && true) (le_true _ _ b) in (
             kept_of s.0,
             there,

@@ -7,17 +7,17 @@ use Rattle.dk_map.proofs.Counts.{found_of}
 use Rattle.dk_model.specs.Keys.{key_cmp}
 use Rattle.dk_tasks.specs.Places.{held_count, place_cmp, place_of, IsInStep}
 use Rattle.dk_tasks.specs.declared.stored.Stored.{Stored}
-use Rattle.dk_tasks.specs.declared.stored.Place.{Place}
+use Rattle.dk_tasks.specs.declared.stored.TaskRank.{TaskRank}
 use Rattle.dk_tasks.proofs.Held.{one_held, held_without, held_changed}
 use Rattle.dk_tasks.proofs.Rooms.{free_out, held_out, held_now, free_now, as_before}
 use Rattle.dk_tasks.proofs.Steps.{placed_there}
 
-module _ (t : List (TaskKey × Stored)) (p : List (Place × Unit {0})) (i : IsInStep t p) (k : TaskKey) (s : Stored) (f : find key_cmp k t ≡ Some s) (a b n : ℕ) (v : min a (b - held_count t) ≡ n) (fits : held_count t ≤ b) where
+module _ (t : List (TaskKey × Stored)) (p : List (TaskRank × Unit {0})) (i : IsInStep t p) (k : TaskKey) (s : Stored) (f : find key_cmp k t ≡ Some s) (a b n : ℕ) (v : min a (b - held_count t) ≡ n) (fits : held_count t ≤ b) where
   -- room that a place leaves
-  pub place_out : s.claimed ≡ false → (q : Place) → q ≡ place_of k s → (r : Option (Place × Unit {0})) → option_map (λ e. e.1) r ≡ find place_cmp q p → (b' : ℕ) → b' ≡ b + (if is_some r then 1 else 0) → b' ≡ b + 1
+  pub place_out : s.claimed ≡ false → (q : TaskRank) → q ≡ place_of k s → (r : Option (TaskRank × Unit {0})) → option_map (λ e. e.1) r ≡ find place_cmp q p → (b' : ℕ) → b' ≡ b + (if is_some r then 1 else 0) → b' ≡ b + 1
   place_out free q at r was b' e =
       let there : is_some (find place_cmp q p) ≡ true = ap (λ x. is_some (find place_cmp x p)) at ∙ placed_there t p i k s f free in
-      let some : is_some r ≡ true = sym (found_of (λ (e : Place × Unit {0}). e.1) r was refl) ∙ there in
+      let some : is_some r ≡ true = sym (found_of (λ (e : TaskRank × Unit {0}). e.1) r was refl) ∙ there in
       subst (λ x. b' ≡ b + (if x then 1 else 0)) some e
 
   counted_out : (t' : List (TaskKey × Stored)) → t' ≡ without key_cmp k t → held_count t' + one_held s.claimed ≡ held_count t

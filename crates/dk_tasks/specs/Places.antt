@@ -12,7 +12,7 @@ use Rattle.dk_model.specs.Keys.{key_cmp}
 use Rattle.dk_model.specs.Effects.{task_of}
 use Rattle.dk_tasks.specs.Tasks.{Kept}
 use Rattle.dk_tasks.specs.declared.stored.Stored.{Stored}
-use Rattle.dk_tasks.specs.declared.stored.Place.{Place}
+use Rattle.dk_tasks.specs.declared.stored.TaskRank.{TaskRank}
 
 -- what is kept of a task, but for its key
 abbrev pub kept_of : Stored → Kept
@@ -27,11 +27,11 @@ abbrev pub kept_tasks : List (TaskKey × Stored) → FinMap key_cmp Kept
 kept_tasks es = map_of key_cmp (map kept_entry es)
 
 -- by due moment and key, as the derive compares
-abbrev pub place_cmp : Place → Place → Ordering
+abbrev pub place_cmp : TaskRank → TaskRank → Ordering
 place_cmp = then_cmp (on (λ p. p.due) nat_cmp) (on (λ p. p.key) key_cmp)
 
 -- where a task stands
-abbrev pub place_of : TaskKey → Stored → Place
+abbrev pub place_of : TaskKey → Stored → TaskRank
 place_of key s = record { due = s.task.due; key = key }
 
 -- a task with another due moment, and with another mark of whether a run has it
@@ -48,7 +48,7 @@ IsMoved key due d e (Some was) = (s : Stored) × (find key_cmp key d ≡ Some s)
 IsMoved key due d e None = find key_cmp key d ≡ None
 
 -- whether what was found at a place's key stands there: what a run has does not
-abbrev pub is_placed : Place → Option Stored → Bool
+abbrev pub is_placed : TaskRank → Option Stored → Bool
 is_placed p None = false
 is_placed p (Some s) = not s.claimed && eq_by_cmp place_cmp p (place_of p.key s)
 
@@ -61,9 +61,9 @@ abbrev pub IsKeyed : TaskKey × Stored → Type 0
 IsKeyed e = e.1.task.key ≡ e.0
 
 -- the one tree keeps the tasks, and the other the places of those that no run has
-pub record IsInStep (tasks : List (TaskKey × Stored)) (places : List (Place × Unit {0})) : Type 0 where
+pub record IsInStep (tasks : List (TaskKey × Stored)) (places : List (TaskRank × Unit {0})) : Type 0 where
   pub ordered : IsOrdered key_cmp tasks
   pub keyed : AllByRecursion IsKeyed tasks
   pub places_ordered : IsOrdered place_cmp places
-  pub placed : (p : Place) → is_some (find place_cmp p places) ≡ is_placed p (find key_cmp p.key tasks)
+  pub placed : (p : TaskRank) → is_some (find place_cmp p places) ≡ is_placed p (find key_cmp p.key tasks)
   pub counted : length places + held_count tasks ≡ length tasks

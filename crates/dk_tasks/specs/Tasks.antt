@@ -16,7 +16,7 @@ pub record Kept : Type 0 where
   pub claimed : Bool
 
 -- the pending tasks by their keys, and how many more fit without memory
-pub record Shown : Type 0 where
+pub record TaskStore : Type 0 where
   pub tasks : FinMap key_cmp Kept
   pub spare : ℕ
 
@@ -35,7 +35,7 @@ abbrev pub kept_code : Coded Kept
 kept_code = code_by (Task × (ℕ × Bool)) (coded× task_code (coded× coded_ℕ coded_bool)) (λ t. (t.task, (t.stamp, t.claimed))) (λ p. record { task = p.0; stamp = p.1.0; claimed = p.1.1 }) (λ _. refl)
 
 -- and what is shown as the pair of its fields
-abbrev pub shown_code : Coded Shown
+abbrev pub shown_code : Coded TaskStore
 shown_code = code_by (FinMap key_cmp Kept × ℕ) (coded× (code key_code kept_code) coded_ℕ) (λ s. (s.tasks, s.spare)) (λ p. record { tasks = p.0; spare = p.1 }) (λ _. refl)
 
 -- a task that no run has

@@ -12,7 +12,7 @@ pub struct Stored {
 
 /// The place of a task that no run has: the sooner ones come first, then those of lesser keys.
 #[derive(Clone, Copy, PartialEq, Eq, PartialOrd, Ord)]
-pub struct Place {
+pub struct TaskRank {
     pub due: u64,
     pub key: TaskKey,
 }
@@ -22,10 +22,10 @@ impl Stored {
     ghost use Rattle.dk_tasks.specs.Places.{place_of};
 
     /// Where the task stands among those that no run has.
-    pub fn place(&self) -> Place
+    pub fn place(&self) -> TaskRank
         ensures { result ≡ place_of self.now.task.key self.now }
     {
-        Place {
+        TaskRank {
             due: self.task.due,
             key: self.task.key,
         }

@@ -12,7 +12,7 @@ ghost use Rattle.dk_tasks.specs.declared.stored.Stored.{Stored};
 ghost use Rattle.dk_map.specs.Entries.{find, put};
 ghost use Rattle.dk_model.specs.Keys.{key_cmp};
 
-use crate::stored::{Place, Stored};
+use crate::stored::{Stored, TaskRank};
 use dk_map::OrderedMap;
 use dk_types::{NoMemory, Pending, TaskKey};
 use std::alloc::Global;
@@ -23,15 +23,15 @@ use std::marker::Model;
 #[derive(Drop)]
 pub struct Tasks {
     tasks: OrderedMap<TaskKey, Stored>,
-    places: OrderedMap<Place, ()>,
+    places: OrderedMap<TaskRank, ()>,
 }
 
 impl Model for Tasks {
     ghost use Rattle.std.specs.Prelude.{◌-◌, ◌≤◌, min};
-    ghost use Rattle.dk_tasks.specs.Tasks.{Shown, shown_code};
+    ghost use Rattle.dk_tasks.specs.Tasks.{TaskStore, shown_code};
     ghost use Rattle.dk_tasks.specs.Places.{kept_tasks, held_count, IsInStep};
 
-    ghost Value = { Shown };
+    ghost Value = { TaskStore };
 
     ghost coded = { shown_code };
 
@@ -210,8 +210,8 @@ impl Tasks {
         if held {
             return;
         }
-        self.places.remove(&Place { due: was, key });
-        self.places.insert(Place { due, key }, ());
+        self.places.remove(&TaskRank { due: was, key });
+        self.places.insert(TaskRank { due, key }, ());
     }
 
     /// Gives a task another stamp, if it is pending. It takes no memory, and the task is not copied.

@@ -7,9 +7,9 @@
 
 mod blank;
 mod book;
-mod desk;
 mod empty_step;
 mod ghost_list;
+mod guarded;
 mod lending;
 mod naming;
 mod pass;

@@ -6,7 +6,7 @@ ghost use Rattle.dk_turn.specs.Rule.{dealer};
 
 use crate::blank::Blank;
 use crate::book::{Book, Step};
-use crate::desk::Desk;
+use crate::guarded::Guarded;
 use crate::naming::Naming;
 use crate::pass::Pass;
 use crate::rule::{Deals, Ordered, Place, View, Words};
@@ -27,7 +27,7 @@ pub struct TurnRefused<O> {
 #[derive(Drop)]
 pub struct Turn<O: Book, J: Naming> {
     table: Table<O, View<O::Entry>, (), Ordered, Global>,
-    desk: Mutex<Desk<O, J>>,
+    desk: Mutex<Guarded<O, J>>,
     // How many threads are in `wait`.
     waiting: AtomicU64,
 }
@@ -67,7 +67,7 @@ impl<O: Book, J: Naming> Turn<O, J> {
             return Err(TurnRefused { book });
         };
         let given = deal(&table.shared, &mut seat, passes, room);
-        let desk = Desk {
+        let desk = Guarded {
             book,
             seat,
             of: PhantomData,
@@ -173,7 +173,7 @@ impl<O: Book, J: Naming> Turn<O, J> {
             desk.see(&table.shared, &mut pass);
         }
         table.close().free();
-        let Desk {
+        let Guarded {
             book,
             seat: _,
             of: _,
@@ -198,7 +198,7 @@ impl<O: Book, J: Naming> Turn<O, J> {
             inner.see(&table.shared, &mut pass);
         }
         table.close().free();
-        let Desk {
+        let Guarded {
             book,
             seat: _,
             of: _,

@@ -15,7 +15,7 @@ use Rattle.dk_overlay.specs.declared.change.TaskChange.TheVariants.{Moved}
 use Rattle.dk_txn.specs.declared.finished.Finished.{Finished}
 use Rattle.dk_overlay.specs.Logged.{Logged, nothing_done}
 use Rattle.dk_txn.specs.Current.{current}
-use Rattle.dk_txn.specs.Knowing.{IsSound, MovesAlone, MovesOwn, JobFits, OwnIsAsked}
+use Rattle.dk_txn.specs.Knowing.{IsSound, MovesAlone, MovesOwn, HasTaskLimits, OwnIsAsked}
 use Rattle.dk_txn.specs.Finishes.{told, TellsEnd}
 use Rattle.dk_txn.proofs.Layers.{at_empty}
 use Rattle.dk_txn.proofs.Sound.{sound_start}
@@ -46,7 +46,7 @@ moved_own run at key due p start k = k.moves key due p (subst (MovesAlone key du
 pub law_kept : {P : TaskKey → ℕ → Type 0} {S E : Type 0} {sights : Sights S} {told_by : E → Option AppFault} {a b : Txn S Logged} {r : Result (Unit {0}) E}
     (rules : Job → Act (Unit {0})) (job : Job) (run : RunNo) (at : ℕ) (end : Result (Unit {0}) AppFault) (f : Finished)
     → a.log ≡ nothing_done run at → DoesFor P sights told_by a b (work (game_part rules) job) r → outcome_told told_by r ≡ Some end
-    → OwnIsAsked job b.log → MovesOwn job b.log → JobFits job → f.reads.items ≡ b.log.reads → TellsEnd b.log job end f → KeepsLaw rules job run at f.reads.items (told f)
+    → OwnIsAsked job b.log → MovesOwn job b.log → HasTaskLimits job → f.reads.items ≡ b.log.reads → TellsEnd b.log job end f → KeepsLaw rules job run at f.reads.items (told f)
 law_kept {a = a} {b = b} rules job run at end f start p is asked own fits reads tells = record {
   keeps = λ d valid agrees new stands.
       let agrees_then : Agrees d b.log.reads = subst (Agrees d) reads agrees in

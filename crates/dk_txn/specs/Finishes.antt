@@ -9,7 +9,7 @@ use Rattle.dk_model.specs.Finishes.{Told, told_step, IsNew, HasOwnTask}
 use Rattle.dk_txn.specs.declared.finished.Finished.{Finished}
 use Rattle.dk_overlay.specs.Logged.{Logged}
 use Rattle.dk_txn.specs.Current.{current}
-use Rattle.dk_txn.specs.Knowing.{IsSound, KnowsBefore, MovesStand, MovesOwn, JobFits, OwnIsAsked}
+use Rattle.dk_txn.specs.Knowing.{IsSound, KnowsBefore, MovesStand, MovesOwn, HasTaskLimits, OwnIsAsked}
 
 -- what a finished run tells
 abbrev pub told : Finished → Told
@@ -28,7 +28,7 @@ pub record IsLogOf (t : Logged) (job : Job) : Type 0 where
   pub sound : IsSound t
   pub asked : OwnIsAsked job t
   pub own : MovesOwn job t
-  pub fits : JobFits job
+  pub fits : HasTaskLimits job
 
 -- in every world in which the run may be, it tells what the definitions tell of a run that comes to this end
 abbrev pub TellsEnd : Logged → Job → Result (Unit {0}) AppFault → Finished → Type 0

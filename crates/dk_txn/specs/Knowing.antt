@@ -59,10 +59,10 @@ pub record Fits (due period : ℕ) : Type 0 where
   pub period_most : period ≤ PERIOD_MOST_MS
 
 -- those of the job, where it is a task
-abbrev pub JobFits : Job → Type 0
-JobFits (job.Task key due period kind arg) = Fits due period
-JobFits job.Initialize = Unit {0}
-JobFits (job.Login conn name) = Unit {0}
-JobFits (job.Message conn name body) = Unit {0}
-JobFits (job.Channel conn name channel body) = Unit {0}
-JobFits (job.Disconnect conn name graceful) = Unit {0}
+abbrev pub HasTaskLimits : Job → Type 0
+HasTaskLimits (job.Task key due period kind arg) = Fits due period
+HasTaskLimits job.Initialize = Unit {0}
+HasTaskLimits (job.Login conn name) = Unit {0}
+HasTaskLimits (job.Message conn name body) = Unit {0}
+HasTaskLimits (job.Channel conn name channel body) = Unit {0}
+HasTaskLimits (job.Disconnect conn name graceful) = Unit {0}

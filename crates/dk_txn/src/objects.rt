@@ -9,7 +9,7 @@ use crate::refusal::Refusal;
 use crate::txn::Txn;
 use crate::view::View;
 use dk_model::limits::OBJECTS_MOST_COUNT;
-use dk_overlay::{Change, copy_value, says_object};
+use dk_overlay::{Change, copy_value, object_of_answer};
 use dk_types::{Blob, Item, NoMemory, Object, ObjectId};
 
 impl<'a, V: View> Txn<'a, V> {
@@ -26,7 +26,7 @@ impl<'a, V: View> Txn<'a, V> {
         match self.log.object(id)? {
             Some(change) => Ok(change),
             None => {
-                let after = says_object(self.ask(Item::Object(id))?);
+                let after = object_of_answer(self.ask(Item::Object(id))?);
                 let before = copy_value(&after)?;
                 Ok(Change { before, after })
             }

@@ -15,17 +15,17 @@ use Rattle.dk_model.specs.Sights.{grants, IsHonestRead}
 use Rattle.dk_laws.proofs.ClaimedOnce.{claimed_once}
 use Rattle.dk_txn.specs.declared.finished.Finished.{Finished}
 use Rattle.dk_txn.specs.Finishes.{told}
-use Rattle.dk_txn.specs.Knowing.{JobFits}
+use Rattle.dk_txn.specs.Knowing.{HasTaskLimits}
 use Rattle.dk_core.specs.StampedWorlds.{Stamped, read_now, seen_now}
-use Rattle.dk_core.specs.Changes.{IsFirstChanged}
-use Rattle.dk_core.specs.declared.durable.changed.Changed.{Changed}
+use Rattle.dk_core.specs.Changes.{IsFirstConflict}
+use Rattle.dk_core.specs.declared.durable.conflicts.Conflict.{Conflict}
 use Rattle.dk_game.proofs.Lent.{job_fits}
 use Rattle.dk_core.specs.declared.world.Core.{Core}
 use Rattle.dk_core.specs.declared.claimed.Claimed.{Claimed}
-use Rattle.dk_core.specs.Cores.{world_of, StandsFor, IsStanding, IsGranted, Adds, AddsBy}
+use Rattle.dk_core.specs.Cores.{world_of, Represents, IsStanding, IsGranted, Adds, AddsBy}
 use Rattle.dk_core.proofs.Opened.{read_at}
 use Rattle.dk_core.proofs.Standing.{sound_of}
-use Rattle.dk_workers.specs.Working.{AreReadsNow, IsStandingFor}
+use Rattle.dk_workers.specs.Working.{AreReadsNow, RepresentsSome}
 
 -- a read of the world as it stands does not differ from what is seen
 none_differs : (w : Stamped) (before : List (Item × Read)) (item : Item) (read : Read) (behind : List (Item × Read)) → AreReadsNow w (before ++ (item, read) ∷ behind) → read.seen ≡ seen_now w item
@@ -33,7 +33,7 @@ none_differs w [] item read behind all = ap (λ (r : Read). r.seen) all.0
 none_differs w (r ∷ before) item read behind all = none_differs w before item read behind all.1
 
 -- so none is the first that changed
-pub none_changed : (w : Stamped) (reads : List (Item × Read)) (c : Changed) → AreReadsNow w reads → IsFirstChanged w reads c → ⊥
+pub none_changed : (w : Stamped) (reads : List (Item × Read)) (c : Conflict) → AreReadsNow w reads → IsFirstConflict w reads c → ⊥
 none_changed w reads c all f = f.differ (f.found ∙ none_differs w f.before c.item f.read f.behind (subst (AreReadsNow w) f.listed all) ∙ sym f.now)
 
 -- a test that passes once passes for some
@@ -44,17 +44,17 @@ any_once p (x ∷ xs) h = elim (p x) as (λ b. p x ≡ b → 0 < length (if b th
   | false ↦ λ _ g. any_once p xs g
 ] refl h
 
-pub standing_of : (rules : Meaning) (c : Core) → AreLawful rules → IsStandingFor rules c → IsStanding c
+pub standing_of : (rules : Meaning) (c : Core) → AreLawful rules → RepresentsSome rules c → IsStanding c
 standing_of rules c lawful s = record { rules = rules; opened = s.opened; budget = s.budget; events = s.events; lawful = lawful; stands = s.stands }
 
 module _ (rules : Meaning) (lawful : AreLawful rules) (c : Core) (claimed : Claimed) (held : IsGranted c claimed) where
   -- a claimed run is within its limits
-  pub claim_within : IsStandingFor rules c → (JobFits claimed.job) × (claimed.at ≤ MOMENT_MOST_MS)
+  pub claim_within : RepresentsSome rules c → (HasTaskLimits claimed.job) × (claimed.at ≤ MOMENT_MOST_MS)
   claim_within s =
       let sound = (sound_of rules lawful s.opened s.budget s.events c s.stands).claims claimed.run (record { pass = claimed.pass; job = claimed.job; at = claimed.at }) held in
       (job_fits claimed.job sound.job, sound.moment)
 
-  module _ (d : DurableWorld) (budget : Option ℕ) (events : List Event) (s : StandsFor rules d budget events c) where
+  module _ (d : DurableWorld) (budget : Option ℕ) (events : List Event) (s : Represents rules d budget events c) where
     honest_reads : (reads : List (Item × Read)) → AreReadsNow c.world reads → AllByRecursion (λ r. IsHonestRead rules (opening d budget) events claimed.run r.0 r.1) reads
     honest_reads [] all = tt
     honest_reads (r ∷ reads) all = (
@@ -76,10 +76,10 @@ module _ (rules : Meaning) (lawful : AreLawful rules) (c : Core) (claimed : Clai
 -- events one after another
 pub goes_then : (rules : Meaning) (a b c : Core) (first second : Event) → AddsBy rules a b (first ∷ []) → AddsBy rules b c (second ∷ []) → AddsBy rules a c (first ∷ second ∷ [])
 goes_then rules a b c first second g h d budget events s =
-    subst (λ es. StandsFor rules d budget es c) (append_assoc events (first ∷ []) (second ∷ [])) (h d budget (events ++ first ∷ []) (g d budget events s))
+    subst (λ es. Represents rules d budget es c) (append_assoc events (first ∷ []) (second ∷ [])) (h d budget (events ++ first ∷ []) (g d budget events s))
 
 -- the core stands for some history of the rules still
-pub standing_then : (rules : Meaning) (a b : Core) (more : List Event) → IsStandingFor rules a → AddsBy rules a b more → IsStandingFor rules b
+pub standing_then : (rules : Meaning) (a b : Core) (more : List Event) → RepresentsSome rules a → AddsBy rules a b more → RepresentsSome rules b
 standing_then rules a b more s g = record { opened = s.opened; budget = s.budget; events = s.events ++ more; stands = g s.opened s.budget s.events s.stands }
 
 -- what is entered by any lawful rules is entered by these
@@ -87,5 +87,5 @@ pub enters_goes : (rules : Meaning) → AreLawful rules → (old new : Core) (e 
 enters_goes rules lawful old new e enters d budget events s = enters rules d budget events lawful s
 
 -- so the core stands for some history of them still
-pub entered : (rules : Meaning) → AreLawful rules → (old new : Core) (e : Event) → IsStandingFor rules old → Adds old new (e ∷ []) → IsStandingFor rules new
+pub entered : (rules : Meaning) → AreLawful rules → (old new : Core) (e : Event) → RepresentsSome rules old → Adds old new (e ∷ []) → RepresentsSome rules new
 entered rules lawful old new e s enters = standing_then rules old new (e ∷ []) s (enters_goes rules lawful old new e enters)

@@ -16,17 +16,17 @@ use Rattle.dk_core.specs.StampedWorlds.{Stamped, read_now}
 use Rattle.dk_core.specs.declared.world.Core.{Core}
 use Rattle.dk_core.specs.declared.claimed.Claimed.{Claimed}
 use Rattle.dk_core.specs.Answers.{Commits}
-use Rattle.dk_core.specs.Cores.{StandsFor, Adds, AddsBy}
+use Rattle.dk_core.specs.Cores.{Represents, Adds, AddsBy}
 use Rattle.dk_workers.specs.declared.working.Ran.{Ran}
 use Rattle.dk_workers.specs.declared.working.Step.{Step}
 use Rattle.dk_workers.specs.declared.working.Step.TheVariants as step
 
 -- the core stands for some history of these rules
-pub record IsStandingFor (rules : Meaning) (c : Core) : Type 0 where
+pub record RepresentsSome (rules : Meaning) (c : Core) : Type 0 where
   pub opened : DurableWorld
   pub budget : Option ℕ
   pub events : List Event
-  pub stands : StandsFor rules opened budget events c
+  pub stands : Represents rules opened budget events c
 
 -- each read is what the world answers, and what is seen of it
 abbrev pub AreReadsNow : Stamped → List (Item × Read) → Type 0

@@ -3,7 +3,7 @@ ghost use Rattle.std.specs.Prelude.{◌≡◌, IfOk};
 ghost use Rattle.dk_model.specs.Finishes.{KeepsLaw};
 ghost use Rattle.dk_txn.specs.Finishes.{told};
 ghost use Rattle.dk_core.specs.Cores.{IsGranted};
-ghost use Rattle.dk_workers.specs.Working.{AreReadsNow, CommitsOrGivesBack, EndsRun, IsStandingFor, Works};
+ghost use Rattle.dk_workers.specs.Working.{AreReadsNow, CommitsOrGivesBack, EndsRun, RepresentsSome, Works};
 
 use dk_core::{ClaimRefused, Claimed, Core, PrepareRefused};
 use dk_game::{Game, run_over};
@@ -40,7 +40,7 @@ fn run_claimed<G: Game>(
     core: &Core,
     claimed: &Claimed,
 ) -> Result<(Job, Finished), NoMemory>
-    requires standing { IsStandingFor (G.rules game.now) core.now }
+    requires standing { RepresentsSome (G.rules game.now) core.now }
     requires granted { IsGranted core.now claimed.now }
     ensures job { IfOk result (λ ran. ran.0 ≡ claimed.now.job) }
     ensures law { IfOk result (λ ran. KeepsLaw (G.rules game.now) claimed.now.job claimed.now.run claimed.now.at ran.1.reads.items (told ran.1)) }
@@ -75,7 +75,7 @@ fn end_claimed<G: Game>(
     core: &mut Core,
     claimed: Claimed,
 ) -> Result<Ran, NoMemory>
-    requires standing { IsStandingFor (G.rules game.now) core.old }
+    requires standing { RepresentsSome (G.rules game.now) core.old }
     requires granted { IsGranted core.old claimed }
     ensures { EndsRun (G.rules game.now) core.old core.new claimed result }
 {
@@ -104,7 +104,7 @@ pub fn work_once<G: Game>(
     core: &mut Core,
     pass: u32,
 ) -> Result<Step, NoMemory>
-    requires standing { IsStandingFor (G.rules game.now) core.old }
+    requires standing { RepresentsSome (G.rules game.now) core.old }
     ensures { Works (G.rules game.now) core.old core.new pass result }
 {
     let claimed = match core.claim(pass) {

@@ -6,7 +6,7 @@ use Rattle.dk_types.specs.declared.number.ObjectId.{ObjectId}
 use Rattle.dk_types.specs.declared.job.Job.TheVariants as job
 use Rattle.dk_model.specs.Runs.{TOO_LONG}
 use Rattle.dk_model.specs.Records.{is_name_too_long}
-use Rattle.dk_model.specs.Sendings.{SendsAtMost, IsTerse}
+use Rattle.dk_model.specs.Sendings.{SendsAtMost, SendsOneAtMost}
 use Rattle.dk_model.proofs.Sendings.{sends_more, either_sends, each_few, few_sends, then_sends, give_sends, refuse_sends, create_sends, bound_sends, bind_sends, get_as_sends, get_for_update_as_sends, save_as_sends, send_sends}
 use Rattle.sword_world.specs.declared.command.Command.{Command}
 use Rattle.sword_world.specs.declared.command.Command.TheVariants as command
@@ -158,7 +158,7 @@ unfolding disconnect leave
 disconnect_sends name = then_sends (last_scene_sends name) (λ scene. then_sends (save_as_sends ROOM scene.place _) (λ _. let_go_sends scene scene.player.carried))
 
 -- a command is answered by one message, and no other job of the game sends any
-pub sword-is_terse : IsTerse sword_rules
+pub sword-is_terse : SendsOneAtMost sword_rules
 sword-is_terse job.Initialize = sends_more 1 (omega arith) initialize_sends
 sword-is_terse (job.Login conn name) = sends_more 1 (omega arith) (login_sends name)
 sword-is_terse (job.Message conn name body) = message_sends conn name body

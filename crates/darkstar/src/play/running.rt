@@ -1,6 +1,6 @@
 //! Jobs run one after another until none is left.
 ghost use Rattle.std.specs.Prelude.{◌≡◌, ◌∷◌, ◌++◌, [], IfOk, OnOk};
-ghost use Rattle.dk_model.specs.Sendings.{IsTerse};
+ghost use Rattle.dk_model.specs.Sendings.{SendsOneAtMost};
 ghost use Rattle.dk_model.specs.Transcripts.{IsQuiet};
 ghost use Rattle.dk_core.specs.Cores.{world_of};
 ghost use Rattle.dk_workers.specs.Working.{claim_of, commit_of};
@@ -40,7 +40,7 @@ impl Play {
 
     /// Runs the job that comes next. Answers whether there was one.
     fn serve<G: Game>(&mut self, alloc: Global, game: &G) -> Result<bool, NoMemory>
-        requires terse { IsTerse (G.rules game.now) }
+        requires terse { SendsOneAtMost (G.rules game.now) }
         requires going { IsGoing (G.rules game.now) self.old 0 }
         ensures { IfOk result (λ ran. ServesNext (G.rules game.now) ran self.old self.new) }
     {
@@ -56,7 +56,7 @@ impl Play {
 
     /// Runs jobs until none is left.
     pub(crate) fn drain<G: Game>(&mut self, alloc: Global, game: &G) -> Result<(), NoMemory>
-        requires terse { IsTerse (G.rules game.now) }
+        requires terse { SendsOneAtMost (G.rules game.now) }
         requires going { IsGoing (G.rules game.now) self.old 0 }
         ensures serves { OnOk result (Serves (G.rules game.now) self.old self.new) }
         ensures quiet { OnOk result (IsQuiet (world_of self.new.core)) }

@@ -2,7 +2,7 @@
 ghost use Rattle.std.specs.Prelude.{◌≡◌};
 ghost use Rattle.std.specs.FinMap as map;
 ghost use Rattle.dk_model.specs.Deliveries.{closed_by, close_off as closed_off, conn_of as conn_of_job, delivered, ended_by as ended_by_job, for_conn, is_close, takes, with_closed, with_out, with_outs, without_done};
-ghost use Rattle.dk_connections.specs.Linked.{all_of, change, change_some, left, linked, over_now, run_ended, IsAlive, IsSwept, KeepsMarks, KeepsMarksBut};
+ghost use Rattle.dk_connections.specs.MarkedConnections.{all_of, change, change_some, left, linked, over_now, run_ended, IsAlive, IsSwept, KeepsMarks, KeepsMarksBut};
 
 use super::Connections;
 use crate::deliveries::Deliveries;

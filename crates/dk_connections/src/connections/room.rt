@@ -1,10 +1,10 @@
 // Connections in and out of both trees.
 ghost use Rattle.std.specs.Prelude.{◌≡◌, ◌+◌, ◌<◌, false, None, Some, IfSome, OnOk, OnErr, if◌then◌else◌};
 ghost use Rattle.std.specs.FinMap as map;
-ghost use Rattle.dk_connections.specs.Linked.{is_done_at, settled, IsAlive};
+ghost use Rattle.dk_connections.specs.MarkedConnections.{is_done_at, settled, IsAlive};
 
 use super::Connections;
-use crate::slot::Slot;
+use crate::stored_connection::StoredConnection;
 use dk_types::{ConnNo, NoMemory};
 
 impl Connections {
@@ -27,7 +27,7 @@ impl Connections {
     }
 
     /// Takes a connection out of both trees, if it is there.
-    pub(crate) fn take(&mut self, conn: ConnNo) -> Option<Slot>
+    pub(crate) fn take(&mut self, conn: ConnNo) -> Option<StoredConnection>
         ensures found { result ≡ map.get self.old.connections conn }
         ensures connections { self.new.connections ≡ map.remove self.old.connections conn }
         ensures spare { self.new.spare ≡ self.old.spare + (if map.contains_key self.old.connections conn then 1 else 0) }
@@ -41,7 +41,7 @@ impl Connections {
     }
 
     /// Adds a connection to both trees, at a number that is not there.
-    pub(crate) fn add(&mut self, conn: ConnNo, slot: Slot)
+    pub(crate) fn add(&mut self, conn: ConnNo, slot: StoredConnection)
         requires absent { map.get self.old.connections conn ≡ None }
         requires room { 0 < self.old.spare }
         requires alive { is_done_at (Some slot) ≡ false }
@@ -54,7 +54,7 @@ impl Connections {
     }
 
     /// The same, unless it is over and has nothing left to hand: then it is gone.
-    pub(crate) fn settle(&mut self, conn: ConnNo, slot: Slot)
+    pub(crate) fn settle(&mut self, conn: ConnNo, slot: StoredConnection)
         requires absent { map.get self.old.connections conn ≡ None }
         requires room { 0 < self.old.spare }
         ensures connections { self.new.connections ≡ settled conn slot self.old.connections }

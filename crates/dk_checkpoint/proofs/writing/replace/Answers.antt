@@ -1,5 +1,5 @@
 use Rattle.std.proofs.Common.{◌+◌, length}
-use Rattle.dk_disk.specs.Past.{now}
+use Rattle.dk_disk.specs.DiskHistories.{now}
 use Rattle.dk_checkpoint.proofs.Replaced.{closed_only, replaced, room}
 use Rattle.dk_checkpoint.proofs.writing.replace.Goals as goal
 

@@ -1,5 +1,5 @@
-use Rattle.dk_workers.specs.Working.{IsStandingFor}
+use Rattle.dk_workers.specs.Working.{RepresentsSome}
 use Rattle.dk_core_tests.proofs.rows.play.Given as goal
 
 abbrev pub invariant-loop-row : goal.invariant-loop-row
-invariant-loop-row g l = IsStandingFor (g.G.Rules.rules l.fn.game) l.core
+invariant-loop-row g l = RepresentsSome (g.G.Rules.rules l.fn.game) l.core

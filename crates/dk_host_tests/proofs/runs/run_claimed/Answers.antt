@@ -1,7 +1,7 @@
 use Rattle.std.proofs.Common.{rules, sym, subst, ◌∙◌, ◌≤◌}
 use Rattle.dk_types.specs.declared.limits.TheConstants.{MOMENT_MOST_MS}
 use Rattle.dk_model.specs.Lawful.{AreLawful}
-use Rattle.dk_txn.specs.Knowing.{JobFits}
+use Rattle.dk_txn.specs.Knowing.{HasTaskLimits}
 use Rattle.dk_host.specs.Looks.{looking}
 use Rattle.dk_host_tests.proofs.Running.{claim_within, claim_stays, one_number, front_of_claim, honest_by}
 use Rattle.dk_host_tests.proofs.runs.run_claimed.Goals as goal
@@ -14,7 +14,7 @@ run_over-requires-clause-moment g c =
 pub run_over-requires-clause-fits : goal.run_over-requires-clause-fits
 run_over-requires-clause-fits g c =
     let lawful = subst AreLawful (sym c.requires.rules) (g.G.Rules.lawful c.args.game.now) in
-    subst JobFits (sym c.job.ensures) (claim_within g.W.Hosting.opened c.args.pass.now c.args.claimed.now lawful c.requires.claim).0
+    subst HasTaskLimits (sym c.job.ensures) (claim_within g.W.Hosting.opened c.args.pass.now c.args.claimed.now lawful c.requires.claim).0
 
 pub returns-clause-claim : goal.returns-clause-claim
 returns-clause-claim g c =

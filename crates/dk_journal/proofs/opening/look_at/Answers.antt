@@ -1,6 +1,6 @@
 use Rattle.std.proofs.Common.{◌≡◌, ◌≤◌, ◌∷◌, [], ℕ, ⊎_elim, length, take, drop, ap, sym, ◌∙◌, arith}
 use Rattle.dk_disk.specs.Disk.{Disk}
-use Rattle.dk_disk.specs.Past.{now}
+use Rattle.dk_disk.specs.DiskHistories.{now}
 use Rattle.dk_model.specs.Entries.{IsFormat}
 use Rattle.dk_model.specs.Stores.{Faulty}
 use Rattle.dk_journal.specs.Headers.{store_header}

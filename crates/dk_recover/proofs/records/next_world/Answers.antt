@@ -1,5 +1,5 @@
 use Rattle.std.proofs.Common.{◌≡◌, inr, ℕ, Ok, Err, subst, ap, sym, ◌∙◌}
-use Rattle.dk_disk.specs.Past.{now}
+use Rattle.dk_disk.specs.DiskHistories.{now}
 use Rattle.dk_model.specs.Recovered.{Takes, IsDamaged}
 use Rattle.dk_model.specs.Stores.{header_spelling}
 use Rattle.dk_journal.specs.Scanning.{IsCutOff}

@@ -2,7 +2,7 @@ use Rattle.std.proofs.Common.{◌≡◌, ℕ, Bool, List, [], ◌∷◌, ◌++�
 use Rattle.dk_types.specs.declared.side.Side.{Side}
 use Rattle.dk_disk.specs.Disk.{Disk}
 use Rattle.dk_disk.specs.Opening.{IsOpen}
-use Rattle.dk_disk.specs.Past.{now}
+use Rattle.dk_disk.specs.DiskHistories.{now}
 use Rattle.dk_model.specs.Stores.{Reads, header_spelling}
 use Rattle.dk_journal.specs.Scanning.{IsScanned}
 use Rattle.dk_journal.specs.declared.scan.Scan.{Scan}

@@ -1,6 +1,6 @@
 use Rattle.std.proofs.Common.{◌≡◌, ◌-◌, ℕ, List, length, IsTrue}
 use Rattle.dk_disk.specs.Opening.{IsOpen}
-use Rattle.dk_disk.specs.Past.{now}
+use Rattle.dk_disk.specs.DiskHistories.{now}
 use Rattle.dk_model.specs.Recovered.{HasWorld}
 use Rattle.dk_model.specs.Stores.{StoreHeader, header_spelling}
 use Rattle.dk_model.specs.Validity.{IsValid}

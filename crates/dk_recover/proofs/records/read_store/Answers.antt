@@ -1,7 +1,7 @@
 use Rattle.std.proofs.Common.{◌≡◌, inl, ℕ, List, [], ◌∷◌, refl, subst, ap, sym, ◌∙◌, arith}
 use Rattle.dk_types.specs.declared.side.Side.{Side}
 use Rattle.dk_disk.specs.Disk.{Disk}
-use Rattle.dk_disk.specs.Past.{now}
+use Rattle.dk_disk.specs.DiskHistories.{now}
 use Rattle.dk_model.specs.Recovered.{HasWorld}
 use Rattle.dk_model.specs.Stores.{header_spelling}
 use Rattle.dk_model.specs.Validity.{IsValid}

@@ -1,6 +1,6 @@
 use Rattle.std.proofs.Common.{◌≡◌, Option, Ok, Err, ap, sym, subst, ◌∙◌}
 use Rattle.dk_disk.specs.Disk.{settled}
-use Rattle.dk_disk.specs.Past.{now}
+use Rattle.dk_disk.specs.DiskHistories.{now}
 use Rattle.dk_types.specs.declared.side.Side.{Side}
 use Rattle.dk_model.specs.Recovered.{file_on}
 use Rattle.dk_types.specs.declared.side.Side.TheVariants.{Zero, One}

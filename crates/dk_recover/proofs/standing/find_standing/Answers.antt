@@ -2,7 +2,7 @@ use Rattle.std.proofs.Common.{ℕ, List, Option, Some, None, Ok, subst}
 use Rattle.dk_journal.specs.declared.header.Header.{Header}
 use Rattle.dk_journal.specs.declared.scan.Scan.{Scan}
 use Rattle.dk_types.specs.declared.side.Side.TheVariants.{Zero, One}
-use Rattle.dk_disk.specs.Past.{now}
+use Rattle.dk_disk.specs.DiskHistories.{now}
 use Rattle.dk_recover.specs.Placed.{IsPlaced}
 use Rattle.dk_recover.specs.Stood.{IsStood}
 use Rattle.dk_recover.proofs.standing.find_standing.Goals as goal

@@ -1,7 +1,7 @@
 use Rattle.std.proofs.Common.{◌≡◌, List, ℕ, sym, subst, ◌∙◌}
 use Rattle.std.specs.Io.KnownBytes.{Appends}
 use Rattle.dk_types.specs.declared.side.Side.TheVariants.{Zero, One}
-use Rattle.dk_disk.specs.Past.{now}
+use Rattle.dk_disk.specs.DiskHistories.{now}
 use Rattle.dk_edge.specs.Streams.{AppendsPrefix}
 use Rattle.dk_reports.specs.Lines.{IsCheckLine}
 use Rattle.dk_reports.specs.Causes.{IsOfDevice}

@@ -1,6 +1,6 @@
 use Rattle.std.proofs.Common.{ap}
 use Rattle.dk_types.specs.declared.side.Side.TheVariants.{Zero, One}
-use Rattle.dk_disk.specs.Past.{now}
+use Rattle.dk_disk.specs.DiskHistories.{now}
 use Rattle.dk_model.specs.Recovered.{HasDurable}
 use Rattle.dk_inspect.specs.Texts.{world_text}
 use Rattle.dk_recover.specs.Recovery.{IsOurs}

@@ -1,6 +1,6 @@
 use Rattle.std.proofs.Common.{sym, ap, subst, ◌∙◌, ◌≤◌}
 use Rattle.dk_types.specs.declared.limits.TheConstants.{MOMENT_MOST_MS}
-use Rattle.dk_txn.specs.Knowing.{JobFits}
+use Rattle.dk_txn.specs.Knowing.{HasTaskLimits}
 use Rattle.dk_core.specs.declared.durable.look.WorldLook.{WorldLook}
 use Rattle.dk_workers.specs.Working.{AreReadsNow}
 use Rattle.dk_workers.proofs.Honest.{claim_within}
@@ -14,7 +14,7 @@ run_over-requires-clause-moment g c =
 pub run_over-requires-clause-fits : goal.run_over-requires-clause-fits
 run_over-requires-clause-fits g c =
     let within = claim_within (g.G.Rules.rules c.args.game.now) (g.G.Rules.lawful c.args.game.now) c.args.core.now c.args.claimed.now c.requires.granted c.requires.standing in
-    subst JobFits (sym c.in_ok-job.ensures) within.0
+    subst HasTaskLimits (sym c.in_ok-job.ensures) within.0
 
 pub returns-clause-now : goal.returns-clause-now
 returns-clause-now g c =

@@ -2,7 +2,7 @@ use Rattle.std.proofs.Common.{sym, ap, subst, ◌∙◌}
 use Rattle.std.proofs.lemmas.List.{nil_from_length}
 use Rattle.std.specs.Vec.Iter.{into_iter_items}
 use Rattle.dk_model.specs.Deliveries.{with_closed, without_done}
-use Rattle.dk_connections.specs.Linked.{all_of}
+use Rattle.dk_connections.specs.MarkedConnections.{all_of}
 use Rattle.dk_connections.proofs.Sends.{Closing, closing_next, closing_ends}
 use Rattle.dk_connections.proofs.connections.Connections.close_all.Goals as goal
 

@@ -1,5 +1,5 @@
 use Rattle.dk_model.specs.Deliveries.{close_off}
-use Rattle.dk_connections.specs.Linked.{linked}
+use Rattle.dk_connections.specs.MarkedConnections.{linked}
 use Rattle.dk_connections.proofs.Kept.{absent, alive_none, alive_out, left_unchanged, settled_by}
 use Rattle.dk_connections.proofs.connections.Connections.close_off.Goals as goal
 

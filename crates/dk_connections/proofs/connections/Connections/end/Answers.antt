@@ -1,5 +1,5 @@
 use Rattle.std.proofs.Common.{sym, ap, ◌∙◌}
-use Rattle.dk_connections.specs.Linked.{change_some, left, linked, over_now}
+use Rattle.dk_connections.specs.MarkedConnections.{change_some, left, linked, over_now}
 use Rattle.dk_connections.proofs.Changes.{left_alive}
 use Rattle.dk_connections.proofs.Kept.{absent, alive_none, alive_out, left_unchanged, settled_by}
 use Rattle.dk_connections.proofs.connections.Connections.end.Goals as goal

@@ -1,5 +1,5 @@
 use Rattle.std.proofs.Common.{sym, ap, ◌∙◌}
-use Rattle.dk_connections.specs.Linked.{change_some, run_ended}
+use Rattle.dk_connections.specs.MarkedConnections.{change_some, run_ended}
 use Rattle.dk_connections.proofs.Kept.{absent, alive_none, changed_by, unchanged}
 use Rattle.dk_connections.proofs.connections.Connections.end_run.Goals as goal
 

@@ -2,7 +2,7 @@ use Rattle.std.proofs.Common.{refl, sym, ap, ◌∙◌, take, is_none, None}
 use Rattle.std.proofs.Math.Seq.{take-nil}
 use Rattle.dk_model.specs.Deliveries.{without_done}
 use Rattle.dk_model.specs.Events.{outbox_at}
-use Rattle.dk_connections.specs.Linked.{all_of, less_first, linked}
+use Rattle.dk_connections.specs.MarkedConnections.{all_of, less_first, linked}
 use Rattle.dk_connections.proofs.Changes.{all_of-change, all_of-left, swept_alive}
 use Rattle.dk_connections.proofs.Kept.{absent, alive_out, found_in, left_unchanged, restored, settled_by, settled_gone, swept_none}
 use Rattle.dk_connections.proofs.connections.Connections.hand.Goals as goal

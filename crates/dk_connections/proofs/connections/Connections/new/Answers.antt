@@ -4,7 +4,7 @@ use Rattle.dk_map.proofs.Maps.{map_of-empty}
 use Rattle.dk_map.proofs.Values.{values-empty}
 use Rattle.dk_model.specs.Keys.{conn_cmp}
 use Rattle.dk_model.proofs.Maps.{conns_total, exact_conns}
-use Rattle.dk_connections.specs.Linked.{all_of}
+use Rattle.dk_connections.specs.MarkedConnections.{all_of}
 use Rattle.dk_connections.proofs.Changes.{connection_in, empty_swept}
 use Rattle.dk_connections.proofs.connections.Connections.new.Goals as goal
 

@@ -1,6 +1,6 @@
 use Rattle.std.proofs.Common.{ap, ◌∙◌}
 use Rattle.std.specs.FinMap.{insert}
-use Rattle.dk_connections.specs.Linked.{all_of}
+use Rattle.dk_connections.specs.MarkedConnections.{all_of}
 use Rattle.dk_connections.proofs.Changes.{all_of-insert, swept_alive, swept_same}
 use Rattle.dk_connections.proofs.Steps.{alive_seen}
 use Rattle.dk_connections.proofs.connections.Connections.open_ended.Goals as goal

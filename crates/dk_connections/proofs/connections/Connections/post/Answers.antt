@@ -2,7 +2,7 @@ use Rattle.std.proofs.Common.{refl, sym, ap, subst, ◌∙◌}
 use Rattle.std.proofs.lemmas.Result.{on_ok_weaker, on_err_weaker}
 use Rattle.dk_model.specs.declared.waiting.Waiting.TheVariants as waits
 use Rattle.dk_model.specs.Events.{is_open_at, put_last}
-use Rattle.dk_connections.specs.Linked.{all_of, linked}
+use Rattle.dk_connections.specs.MarkedConnections.{all_of, linked}
 use Rattle.dk_connections.specs.Posts.{PostAnswer}
 use Rattle.dk_connections.proofs.Changes.{all_of-change, swept_alive}
 use Rattle.dk_connections.proofs.Kept.{absent, changed_by, found_in, restored, swept_none, untouched}

@@ -1,5 +1,5 @@
 use Rattle.std.proofs.Common.{refl, ap, ◌∙◌}
-use Rattle.dk_connections.specs.Linked.{all_of, released}
+use Rattle.dk_connections.specs.MarkedConnections.{all_of, released}
 use Rattle.dk_connections.proofs.Changes.{all_of-same, swept_alive}
 use Rattle.dk_connections.proofs.Kept.{absent, changed_by, swept_none, unchanged}
 use Rattle.dk_connections.proofs.connections.Connections.release.Goals as goal

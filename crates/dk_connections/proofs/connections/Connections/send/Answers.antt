@@ -1,6 +1,6 @@
 use Rattle.std.proofs.Common.{sym, ap, ◌∙◌}
 use Rattle.dk_model.specs.Deliveries.{takes, with_out}
-use Rattle.dk_connections.specs.Linked.{linked}
+use Rattle.dk_connections.specs.MarkedConnections.{linked}
 use Rattle.dk_connections.proofs.Kept.{absent, alive_none, changed_by, found_in, unchanged}
 use Rattle.dk_connections.proofs.connections.Connections.send.Goals as goal
 

@@ -1,4 +1,4 @@
-use Rattle.dk_connections.specs.Linked.{less_first, linked}
+use Rattle.dk_connections.specs.MarkedConnections.{less_first, linked}
 use Rattle.dk_core.proofs.Drawn.{numbers_handed}
 use Rattle.dk_core.proofs.Entering.{hands, hands_short}
 use Rattle.dk_core.proofs.world.Core.hand.Goals as goal

@@ -1,5 +1,5 @@
 use Rattle.std.proofs.Common.{None, subst, ◌∙◌}
-use Rattle.dk_core.specs.Changes.{TellsChanged}
+use Rattle.dk_core.specs.Changes.{TellsConflict}
 use Rattle.dk_core.proofs.Committed.{more_room, stays_with, stand_with}
 use Rattle.dk_core.proofs.world.Core.make_ready.Goals as goal
 
@@ -9,9 +9,9 @@ returns-in_err-reserve_for-clause-stays c = stays_with c.args.self.now _ (more_r
 pub returns-clause-ready : goal.returns-clause-ready
 returns-clause-ready c =
     let same = c.reserve_for.ensures.same in
-    let all = subst (TellsChanged c.args.self.now.world c.reads.result.now) c.in_default.is c.in_ok-changed.ensures in (
+    let all = subst (TellsConflict c.args.self.now.world c.reads.result.now) c.in_default.is c.in_ok-changed.ensures in (
       record {
-        stand = stand_with c.args.self.now.world c.reserve_for.new.self c.args.finished.now.reads.items same (subst (λ rs. TellsChanged c.args.self.now.world rs None) c.reads.ensures all);
+        stand = stand_with c.args.self.now.world c.reserve_for.new.self c.args.finished.now.reads.items same (subst (λ rs. TellsConflict c.args.self.now.world rs None) c.reads.ensures all);
         messages = c.in_ok-deliveries.ensures ∙ c.outs.ensures;
       },
       c.in_ok-reserve_for.ensures.room,

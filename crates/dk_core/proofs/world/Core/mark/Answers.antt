@@ -1,4 +1,4 @@
-use Rattle.dk_connections.specs.Linked.{with_turn}
+use Rattle.dk_connections.specs.MarkedConnections.{with_turn}
 use Rattle.dk_core.proofs.Drawn.{numbers_change}
 use Rattle.dk_core.proofs.world.Core.mark.Goals as goal
 

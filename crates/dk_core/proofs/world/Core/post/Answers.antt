@@ -1,6 +1,6 @@
 use Rattle.dk_model.specs.declared.waiting.Waiting.TheVariants as waits
 use Rattle.dk_model.specs.Events.{put_last}
-use Rattle.dk_connections.specs.Linked.{linked}
+use Rattle.dk_connections.specs.MarkedConnections.{linked}
 use Rattle.dk_core.proofs.Drawn.{numbers_posted}
 use Rattle.dk_core.proofs.Entering.{posts}
 use Rattle.dk_core.proofs.world.Core.post.Goals as goal

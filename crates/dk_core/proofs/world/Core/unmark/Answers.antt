@@ -1,4 +1,4 @@
-use Rattle.dk_connections.specs.Linked.{released}
+use Rattle.dk_connections.specs.MarkedConnections.{released}
 use Rattle.dk_core.proofs.Drawn.{numbers_change}
 use Rattle.dk_core.proofs.world.Core.unmark.Goals as goal
 

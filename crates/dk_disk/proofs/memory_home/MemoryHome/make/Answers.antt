@@ -1,7 +1,7 @@
 use Rattle.std.proofs.Common.{rules, refl, inl, inr}
 use Rattle.dk_disk.specs.Memory.{past_of, memory_of}
 use Rattle.dk_disk.specs.Step.{IsWithin}
-use Rattle.dk_disk.specs.Past.{now}
+use Rattle.dk_disk.specs.DiskHistories.{now}
 use Rattle.dk_disk.proofs.Memories.{refused_elapses, changes_elapses, changes_done, changes_failed}
 use Rattle.dk_disk.proofs.Parts.{refused, recorded}
 use Rattle.dk_disk.proofs.Made.{fits, consistent}

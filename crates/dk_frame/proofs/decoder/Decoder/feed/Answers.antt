@@ -5,7 +5,7 @@ use Rattle.std.proofs.lemmas.Grind.{common_steps}
 use Rattle.dk_model.specs.Frames.{Frame, LoggedOut}
 use Rattle.dk_frame.specs.declared.frame.ClientFrame.{ClientFrame}
 use Rattle.dk_frame.specs.Meanings.{frame_of, fault_of, stage_of}
-use Rattle.dk_frame.specs.Decoding.{Decoding, StandsFor, following_at}
+use Rattle.dk_frame.specs.Decoding.{Decoding, HasDecoded, following_at}
 use Rattle.dk_frame.proofs.Standing.{stands_still, stands_over, fed_more}
 use Rattle.dk_frame.specs.Behind.{behind}
 use Rattle.dk_frame.proofs.Fed.{Gives, gives_read, gives_answer, refuses_answer}
@@ -18,7 +18,7 @@ returns-in-Some-clause-refused c =
     let bad : old.fault ≡ Some (fault_of c.in-Some.why) = ap (option_map fault_of) c.in-Some.is in (
       ap (following_at here.at here.held.items) bad,
       λ stream given s.
-          stands_still old stream c.args.piece.now given (fault_of c.in-Some.why) bad (subst (λ (d : Decoding). StandsFor d stream given) (sym c.self.view_is) s),
+          stands_still old stream c.args.piece.now given (fault_of c.in-Some.why) bad (subst (λ (d : Decoding). HasDecoded d stream given) (sym c.self.view_is) s),
     )
 
 gives : (c : goal.After-answer) → Gives c.args.self.now c.args.piece.now c.read.new.self (map frame_of c.in_ok-read.read.frames.items)
@@ -47,6 +47,6 @@ returns-then-eq-clause-ok c stream given s =
     let old : Decoding = record { fed = here.fed; at = here.at; stage = stage_of here.stage; held = here.held.items; fault = option_map fault_of here.fault } in
     let fine : old.fault ≡ None = ap (option_map fault_of) c.in_default.is in
     let over : stage_of here.stage ≡ LoggedOut = grind (arith, common_steps, c.if-eq.ensures) in
-    let still = stands_over old stream c.args.piece.now given fine over (subst (λ (d : Decoding). StandsFor d stream given) (sym c.self.view_is) s) in
+    let still = stands_over old stream c.args.piece.now given fine over (subst (λ (d : Decoding). HasDecoded d stream given) (sym c.self.view_is) s) in
     let none : given ++ map frame_of c.new.result.items ≡ given = ap (λ (items : List ClientFrame). given ++ map frame_of items) c.new.ensures.items ∙ append-nil given in
-    subst (λ (frames : List Frame). StandsFor (fed_more old (length c.args.piece.now)) (stream ++ c.args.piece.now) frames) (sym none) still
+    subst (λ (frames : List Frame). HasDecoded (fed_more old (length c.args.piece.now)) (stream ++ c.args.piece.now) frames) (sym none) still

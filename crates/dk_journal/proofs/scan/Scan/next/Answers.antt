@@ -1,6 +1,6 @@
 use Rattle.std.proofs.Common.{◌≡◌, ◌+◌, ◌∷◌, ℕ, [], length, take, drop, ap, sym, ◌∙◌, arith, subst}
 use Rattle.dk_disk.specs.Disk.{Disk}
-use Rattle.dk_disk.specs.Past.{now}
+use Rattle.dk_disk.specs.DiskHistories.{now}
 use Rattle.dk_types.specs.Fields.{u32_spelling}
 use Rattle.dk_journal.specs.Scanning.{IsCutOff}
 use Rattle.dk_journal.proofs.Scans.{ended, too_short, too_long, next_one}

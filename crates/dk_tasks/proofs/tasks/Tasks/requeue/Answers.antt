@@ -1,7 +1,7 @@
 use Rattle.std.proofs.Common.{◌≡◌, ◌≤◌, ◌-◌, min, false, refl, sym, ap, ◌∙◌}
 use Rattle.dk_tasks.specs.Places.{place_of, due_at, held_count, IsInStep}
 use Rattle.dk_tasks.specs.Tasks.{with_due}
-use Rattle.dk_tasks.specs.declared.stored.Place.{Place}
+use Rattle.dk_tasks.specs.declared.stored.TaskRank.{TaskRank}
 use Rattle.dk_tasks.proofs.Changes.{kept_changed, pending_found}
 use Rattle.dk_tasks.proofs.Moves.{moved_held, moved_room, moved_free}
 use Rattle.dk_tasks.proofs.tasks.Tasks.requeue.Goals as goal
@@ -29,7 +29,7 @@ pub insert-requires : goal.insert-requires
 insert-requires c =
     let m = c.in-Some.ensures.moved in
     let free : m.0.claimed ≡ false = sym (ap (λ w. w.1) m.2) ∙ c.if-held.false in
-    let q : Place = record { due = c.in-Some.was; key = c.args.key } in
+    let q : TaskRank = record { due = c.in-Some.was; key = c.args.key } in
     let at : q ≡ place_of c.args.key m.0 = λ i. record { due = (m.2 i).0; key = c.args.key } in
     record {
       room = λ _.
@@ -42,7 +42,7 @@ free : (c : After-insert) → IsInStep c.set_due.new.tasks.entries c.insert.new.
 free c =
     let m = c.in-Some.ensures.moved in
     let free : m.0.claimed ≡ false = sym (ap (λ w. w.1) m.2) ∙ c.if-held.false in
-    let q : Place = record { due = c.in-Some.was; key = c.args.key } in
+    let q : TaskRank = record { due = c.in-Some.was; key = c.args.key } in
     let at : q ≡ place_of c.args.key m.0 = λ i. record { due = (m.2 i).0; key = c.args.key } in
     moved_free _ _ c.self.invariant.0 c.args.key m.0 m.1 c.args.due _ m.3 _ _ _ (ap (λ s. s.spare) c.self.view_is) c.self.invariant.1 _ c.in-Some.ensures.spare free q at _ c.remove.ensures.value _ c.remove.ensures.spare
     _ _ c.remove.ensures.entries c.remove.ensures.ordered _ c.insert.ensures.old c.insert.ensures.entries c.insert.ensures.ordered _ c.insert.ensures.spare

@@ -9,6 +9,6 @@ returns-in-Some-clause-known g c = known_changed c.args.self.now.log c.args.id c
 
 pub returns-in_ok-before-in-None-clause-known : goal.returns-in_ok-before-in-None-clause-known
 returns-in_ok-before-in-None-clause-known g c =
-    known_asked c.ask.new.self.log c.args.id c.in_ok-ask-in-None.field-0 c.says_object-after.result c.in_ok-before-in-None.before
+    known_asked c.ask.new.self.log c.args.id c.in_ok-ask-in-None.field-0 c.object_of_answer-after.result c.in_ok-before-in-None.before
     (ap (λ (t : Logged). map.get t.objects c.args.id) c.ask.ensures.same_changes ∙ sym c.in_ok-change.ensures ∙ c.in-None.is)
-    c.says_object-after.ensures c.in_ok-before-in-None.ensures c.in_ok-ask-in-None.ensures.answers
+    c.object_of_answer-after.ensures c.in_ok-before-in-None.ensures c.in_ok-ask-in-None.ensures.answers

@@ -13,13 +13,13 @@ use Rattle.dk_model.specs.Worlds.{Connection}
 use Rattle.dk_model.specs.Deliveries.{Connections, is_done, input_left, without_done}
 
 -- a connection of the world, and whether a claimed run has its first input
-pub record Linked : Type 0 where
+pub record MarkedConnection : Type 0 where
   pub connection : Connection
   pub claimed : Bool
 
 -- the connections by their numbers, and how many more fit without memory
-pub record Shown : Type 0 where
-  pub connections : FinMap conn_cmp Linked
+pub record ConnectionStore : Type 0 where
+  pub connections : FinMap conn_cmp MarkedConnection
   pub spare : ℕ
 
 -- a number is stored as itself
@@ -35,25 +35,25 @@ connection_code waiting out =
     (λ p. record { name = p.0.0; queue = p.1.0.0; outbox = p.1.0.1; turn = p.0.1; closed = p.1.1.0; cut = p.1.1.1.0; over = p.1.1.1.1 }) (λ _. refl)
 
 -- with its mark, as the pair of both
-abbrev pub linked_code : Coded Waiting → Coded Out → Coded Linked
+abbrev pub linked_code : Coded Waiting → Coded Out → Coded MarkedConnection
 linked_code waiting out =
     code_by (Connection × Bool) (coded× (connection_code waiting out) coded_bool) (λ l. (l.connection, l.claimed)) (λ p. record { connection = p.0; claimed = p.1 }) (λ _. refl)
 
 -- and what is shown as the pair of its fields
-abbrev pub shown_code : Coded Waiting → Coded Out → Coded Shown
+abbrev pub shown_code : Coded Waiting → Coded Out → Coded ConnectionStore
 shown_code waiting out =
-    code_by (FinMap conn_cmp Linked × ℕ) (coded× (code conn_code (linked_code waiting out)) coded_ℕ) (λ s. (s.connections, s.spare)) (λ p. record { connections = p.0; spare = p.1 }) (λ _. refl)
+    code_by (FinMap conn_cmp MarkedConnection × ℕ) (coded× (code conn_code (linked_code waiting out)) coded_ℕ) (λ s. (s.connections, s.spare)) (λ p. record { connections = p.0; spare = p.1 }) (λ _. refl)
 
 -- the connections as the world has them: the marks are forgotten
-abbrev pub all_of : FinMap conn_cmp Linked → Connections
+abbrev pub all_of : FinMap conn_cmp MarkedConnection → Connections
 all_of all = values_with (λ l. l.connection) all
 
 -- a connection that no claimed run has an input of
-abbrev pub unclaimed : Connection → Linked
+abbrev pub unclaimed : Connection → MarkedConnection
 unclaimed c = record { connection = c; claimed = false }
 
 -- a change of the connection, which leaves the mark
-abbrev pub linked : (Connection → Connection) → Linked → Linked
+abbrev pub linked : (Connection → Connection) → MarkedConnection → MarkedConnection
 linked f l = record l { connection = f l.connection }
 
 -- the first messages are handed
@@ -65,60 +65,60 @@ abbrev pub over_now : Connection → Connection
 over_now c = record c { over = true }
 
 -- a claimed run has its first input, and gives it its turn
-abbrev pub with_turn : ℕ → Linked → Linked
+abbrev pub with_turn : ℕ → MarkedConnection → MarkedConnection
 with_turn turn l = record { connection = record l.connection { turn = turn }; claimed = true }
 
 -- no claimed run has its first input
-abbrev pub released : Linked → Linked
+abbrev pub released : MarkedConnection → MarkedConnection
 released l = record l { claimed = false }
 
 -- the claimed input has left the queue
-abbrev pub run_ended : Linked → Linked
+abbrev pub run_ended : MarkedConnection → MarkedConnection
 run_ended l = unclaimed (input_left l.connection)
 
 -- the connections with what was found at a number changed
-abbrev pub changed_at : Option Linked → ConnNo → (Linked → Linked) → FinMap conn_cmp Linked → FinMap conn_cmp Linked
+abbrev pub changed_at : Option MarkedConnection → ConnNo → (MarkedConnection → MarkedConnection) → FinMap conn_cmp MarkedConnection → FinMap conn_cmp MarkedConnection
 changed_at None conn f all = all
 changed_at (Some l) conn f all = insert all conn (f l)
 
 -- the connections with one changed, where it is there
-abbrev pub change : ConnNo → (Linked → Linked) → FinMap conn_cmp Linked → FinMap conn_cmp Linked
+abbrev pub change : ConnNo → (MarkedConnection → MarkedConnection) → FinMap conn_cmp MarkedConnection → FinMap conn_cmp MarkedConnection
 change conn f all = changed_at (get all conn) conn f all
 
 -- the same where a number is given
-abbrev pub change_some : Option ConnNo → (Linked → Linked) → FinMap conn_cmp Linked → FinMap conn_cmp Linked
+abbrev pub change_some : Option ConnNo → (MarkedConnection → MarkedConnection) → FinMap conn_cmp MarkedConnection → FinMap conn_cmp MarkedConnection
 change_some None f all = all
 change_some (Some conn) f all = change conn f all
 
 -- what was found is over with nothing left to hand
-abbrev pub is_done_at : Option Linked → Bool
+abbrev pub is_done_at : Option MarkedConnection → Bool
 is_done_at None = false
 is_done_at (Some l) = is_done (Some l.connection)
 
 -- the connections without those that are over and have nothing left to hand
-abbrev pub left : FinMap conn_cmp Linked → FinMap conn_cmp Linked
+abbrev pub left : FinMap conn_cmp MarkedConnection → FinMap conn_cmp MarkedConnection
 left all = retain_keys all (λ conn. not (is_done_at (get all conn)))
 
 -- in the world, none is over with nothing left to hand
-abbrev pub IsSwept : FinMap conn_cmp Linked → Type 0
+abbrev pub IsSwept : FinMap conn_cmp MarkedConnection → Type 0
 IsSwept all = without_done (all_of all) ≡ all_of all
 
 -- none that is found is over with nothing left to hand
-abbrev pub IsAlive : FinMap conn_cmp Linked → Type 0
+abbrev pub IsAlive : FinMap conn_cmp MarkedConnection → Type 0
 IsAlive all = (conn : ConnNo) → is_done_at (get all conn) ≡ false
 
 -- the connections with one more, unless it is over with nothing left to hand
-abbrev pub settled : ConnNo → Linked → FinMap conn_cmp Linked → FinMap conn_cmp Linked
+abbrev pub settled : ConnNo → MarkedConnection → FinMap conn_cmp MarkedConnection → FinMap conn_cmp MarkedConnection
 settled conn l all = if is_done_at (Some l) then all else insert all conn l
 
 -- each connection that is left was there, with this mark
-abbrev pub MarksBy : (ConnNo → Bool → Bool) → FinMap conn_cmp Linked → FinMap conn_cmp Linked → Type 0
-MarksBy mark before after = (conn : ConnNo) (l : Linked) → get after conn ≡ Some l → (k : Linked) × (get before conn ≡ Some k) × (l.claimed ≡ mark conn k.claimed)
+abbrev pub MarksBy : (ConnNo → Bool → Bool) → FinMap conn_cmp MarkedConnection → FinMap conn_cmp MarkedConnection → Type 0
+MarksBy mark before after = (conn : ConnNo) (l : MarkedConnection) → get after conn ≡ Some l → (k : MarkedConnection) × (get before conn ≡ Some k) × (l.claimed ≡ mark conn k.claimed)
 
 -- with the mark that it had
-abbrev pub KeepsMarks : FinMap conn_cmp Linked → FinMap conn_cmp Linked → Type 0
+abbrev pub KeepsMarks : FinMap conn_cmp MarkedConnection → FinMap conn_cmp MarkedConnection → Type 0
 KeepsMarks = MarksBy (λ conn claimed. claimed)
 
 -- the same, but the connection that the job's input is of has none
-abbrev pub KeepsMarksBut : Job → FinMap conn_cmp Linked → FinMap conn_cmp Linked → Type 0
+abbrev pub KeepsMarksBut : Job → FinMap conn_cmp MarkedConnection → FinMap conn_cmp MarkedConnection → Type 0
 KeepsMarksBut job = MarksBy (λ conn claimed. claimed && not (is_of conn job))

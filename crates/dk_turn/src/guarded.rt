@@ -13,7 +13,7 @@ use std::marker::PhantomData;
 
 /// The value, and the seat that knows its history.
 #[derive(Drop)]
-pub(crate) struct Desk<O: Book, J: Naming> {
+pub(crate) struct Guarded<O: Book, J: Naming> {
     pub(crate) book: O,
     pub(crate) seat: Place<O>,
     pub(crate) of: PhantomData<J>,
@@ -22,7 +22,7 @@ pub(crate) struct Desk<O: Book, J: Naming> {
     pub(crate) ghost knows: { seat.me.0 ≡ keeper_of (O.history book) J.name.passes },
 }
 
-impl<O: Book, J: Naming> Desk<O, J> {
+impl<O: Book, J: Naming> Guarded<O, J> {
     // The pass sees the history.
     pub(crate) fn see(&mut self, words: &Words<O>, pass: &mut Pass<O, J>)
         requires { (words.now.table_id ≡ J.name.table) × (0 < words.now.table_id.words) }

@@ -6,13 +6,13 @@ ghost use Rattle.dk_model.specs.Worlds.{new_connection};
 ghost use Rattle.dk_model.specs.Openings.{ended_connection};
 ghost use Rattle.dk_model.specs.Deliveries.{close_off as closed_off, is_disconnect, is_done as is_done_at, takes, with_out};
 ghost use Rattle.dk_model.specs.Events.{put_last};
-ghost use Rattle.dk_connections.specs.Linked.{less_first, linked, over_now, released, run_ended, unclaimed, with_turn};
+ghost use Rattle.dk_connections.specs.MarkedConnections.{less_first, linked, over_now, released, run_ended, unclaimed, with_turn};
 ghost use Rattle.dk_connections.specs.Places.{place_of};
 ghost use Rattle.dk_connections.specs.Posts.{has_no_place_at, PostAnswer};
 ghost use Rattle.dk_connections.specs.Ready.{first_at};
 
 use crate::answers::PostRefused;
-use crate::place::Place;
+use crate::place::ConnectionRank;
 use crate::queue::Queue;
 use dk_outbox::{Outbox, Ready};
 use dk_types::limits::INPUTS_MOST_COUNT;
@@ -22,7 +22,7 @@ use std::marker::Model;
 
 /// A connection, and whether a claimed run has its first input.
 #[derive(Drop)]
-pub(crate) struct Slot {
+pub(crate) struct StoredConnection {
     name: Name,
     queue: Queue,
     outbox: Outbox,
@@ -33,15 +33,15 @@ pub(crate) struct Slot {
     claimed: bool,
 }
 
-impl Model for Slot {
+impl Model for StoredConnection {
     ghost use Rattle.std.specs.Prelude.{◌≡◌, false};
     ghost use Rattle.std.specs.List.{list_any};
     ghost use Rattle.dk_types.specs.contracts.job.Out as out;
     ghost use Rattle.dk_model.specs.contracts.waiting.Waiting as waiting;
     ghost use Rattle.dk_model.specs.Deliveries.{is_disconnect};
-    ghost use Rattle.dk_connections.specs.Linked.{Linked, linked_code};
+    ghost use Rattle.dk_connections.specs.MarkedConnections.{MarkedConnection, linked_code};
 
-    ghost Value = { Linked };
+    ghost Value = { MarkedConnection };
 
     ghost coded = { linked_code waiting.the_row.coded out.the_row.coded };
 
@@ -50,14 +50,18 @@ impl Model for Slot {
     ghost invariant = { λ s. s.closed ≡ false → list_any is_disconnect s.queue ≡ false };
 }
 
-impl Slot {
+impl StoredConnection {
     /// A new connection, whose login waits.
-    pub(crate) fn connected(alloc: Global, name: &Name, turn: u64) -> Result<Slot, NoMemory>
+    pub(crate) fn connected(
+        alloc: Global,
+        name: &Name,
+        turn: u64,
+    ) -> Result<StoredConnection, NoMemory>
         ensures { IfOk result (λ slot. slot ≡ unclaimed (new_connection name.now turn)) }
     {
         let name = name.clone()?;
         let queue = Queue::of_login(alloc)?;
-        Ok(Slot {
+        Ok(StoredConnection {
             name,
             queue,
             outbox: Outbox::new(alloc),
@@ -70,11 +74,11 @@ impl Slot {
     }
 
     /// The connection of a session that a stop cut off, whose end waits.
-    pub(crate) fn ended(alloc: Global, session: &Session) -> Result<Slot, NoMemory>
+    pub(crate) fn ended(alloc: Global, session: &Session) -> Result<StoredConnection, NoMemory>
         ensures { IfOk result (λ slot. slot ≡ unclaimed (ended_connection session.now)) }
     {
         let name = session.name.clone()?;
-        Ok(Slot {
+        Ok(StoredConnection {
             name,
             queue: Queue::of_end(alloc),
             outbox: Outbox::new(alloc),
@@ -86,10 +90,10 @@ impl Slot {
         })
     }
 
-    pub(crate) fn place(&self, conn: ConnNo) -> Place
+    pub(crate) fn place(&self, conn: ConnNo) -> ConnectionRank
         ensures { result ≡ place_of conn self.now }
     {
-        Place {
+        ConnectionRank {
             idle: self.claimed || self.queue.is_empty(),
             turn: self.turn,
             conn,

@@ -8,7 +8,7 @@ ghost use Rattle.dk_model.specs.Finishes.{KeepsLaw};
 ghost use Rattle.dk_overlay.specs.Asked.{IsOnce};
 ghost use Rattle.dk_txn.specs.Asks.{IsAskedOnce};
 ghost use Rattle.dk_txn.specs.Finishes.{told};
-ghost use Rattle.dk_txn.specs.Knowing.{JobFits};
+ghost use Rattle.dk_txn.specs.Knowing.{HasTaskLimits};
 
 use crate::game::Game;
 use crate::run::run_job;
@@ -28,7 +28,7 @@ pub fn run_over<G: Game, V: View>(
     at: u64,
 ) -> Result<Finished, NoMemory>
     requires moment { at ≤ MOMENT_MOST_MS }
-    requires fits { JobFits job.now }
+    requires fits { HasTaskLimits job.now }
     ensures law { IfOk result (λ f. KeepsLaw (G.rules game.now) job.now number at f.reads.items (told f)) }
     ensures becomes { V.sights.becomes view.old view.new }
     ensures given { IfOk result (λ f. AllByRecursion (λ r. V.sights.gave view.new r.0 r.1) f.reads.items) }

@@ -1,7 +1,7 @@
 use Rattle.std.proofs.Common.{ap, ◌∙◌}
 use Rattle.dk_types.specs.declared.mode.Mode.TheVariants as mode
 use Rattle.dk_txn.proofs.Kit.{within_does}
-use Rattle.dk_game.proofs.parts.game_part.Goals as goal
+use Rattle.dk_game.proofs.job_parts.game_part.Goals as goal
 
 pub returns-clause-does : goal.returns-clause-does
 returns-clause-does g c =

@@ -8,29 +8,29 @@ use std::marker::Model;
 
 /// Keeps the folder that `open` was called with.
 #[derive(Drop)]
-pub(crate) struct Entrance {
+pub(crate) struct HomeOpening {
     dir: String,
     was_called: bool,
     is_open: bool,
     fails: bool,
 }
 
-impl Model for Entrance {
+impl Model for HomeOpening {
     ghost use Rattle.std.specs.Prelude.{◌-◌, string_bytes};
     ghost use Rattle.std.specs.String.{string_len, string_capacity};
-    ghost use Rattle.dk_disk.specs.Opening.{Entrance as Seen, opening_of};
+    ghost use Rattle.dk_disk.specs.Opening.{HomeOpening as Seen, opening_of};
 
     ghost Value = { Seen };
 
     ghost view = { λ e. record { opening = opening_of e.was_called e.is_open (string_bytes e.dir); fails = e.fails; room = string_capacity e.dir - string_len e.dir } };
 }
 
-impl Entrance {
-    pub(crate) fn new(alloc: Global, fails: bool) -> Entrance
+impl HomeOpening {
+    pub(crate) fn new(alloc: Global, fails: bool) -> HomeOpening
         ensures opening { result.opening ≡ NotCalled }
         ensures fails { result.fails ≡ fails }
     {
-        Entrance {
+        HomeOpening {
             dir: String::new(alloc),
             was_called: false,
             is_open: false,

@@ -3,14 +3,14 @@ ghost use Rattle.std.specs.Prelude.{◌≡◌, IfOk};
 ghost use Rattle.std.specs.Option.{option_copied};
 ghost use Rattle.dk_types.specs.declared.item.Item.TheVariants as ask;
 ghost use Rattle.dk_core.specs.StampedWorlds.{stamp_in, sight_of, read_now, seen_now};
-ghost use Rattle.dk_core.specs.Changes.{same_seen, TellsChanged};
+ghost use Rattle.dk_core.specs.Changes.{same_seen, TellsConflict};
 
 use crate::durable::world::StampedWorld;
 use dk_types::{Answer, Item, Name, NoMemory, ObjectId, Read, Seen, TaskKey};
 
 /// A read that no longer stands: what it saw of its item, and what is seen of it now.
 #[derive(Debug, Drop, PartialEq, Eq)]
-pub struct Changed {
+pub struct Conflict {
     pub item: Item,
     pub found: Seen,
     pub now: Seen,
@@ -146,12 +146,12 @@ impl StampedWorld {
     }
 
     /// An item, what a read saw of it, and what is seen of it now.
-    fn changed(&self, item: &Item, found: &Seen) -> Result<Changed, NoMemory>
+    fn changed(&self, item: &Item, found: &Seen) -> Result<Conflict, NoMemory>
         ensures item { IfOk result (λ changed. changed.item ≡ item.now) }
         ensures found { IfOk result (λ changed. changed.found ≡ found.now) }
         ensures now { IfOk result (λ changed. changed.now ≡ seen_now self.now item.now) }
     {
-        Ok(Changed {
+        Ok(Conflict {
             item: item.clone()?,
             found: found.clone()?,
             now: self.seen(item)?,
@@ -159,8 +159,8 @@ impl StampedWorld {
     }
 
     /// The first of these reads, in their order, that saw something else than is seen now. Only the answer takes memory.
-    pub fn first_changed(&self, reads: &[(Item, Read)]) -> Result<Option<Changed>, NoMemory>
-        ensures { IfOk result (TellsChanged self.now reads.now) }
+    pub fn first_conflict(&self, reads: &[(Item, Read)]) -> Result<Option<Conflict>, NoMemory>
+        ensures { IfOk result (TellsConflict self.now reads.now) }
     {
         for (item, read) in reads {
             if !self.stands(item, &read.seen) {

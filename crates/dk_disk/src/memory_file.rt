@@ -10,33 +10,33 @@ use std::marker::Model;
 
 /// The bytes of a file. What it held at first is copied before the first change.
 #[derive(Drop)]
-pub(crate) struct Drive {
+pub(crate) struct MemoryFile {
     alloc: Global,
     first: Vec<u8>,
     bytes: Vec<u8>,
     is_kept: bool,
 }
 
-impl Model for Drive {
+impl Model for MemoryFile {
     ghost use Rattle.std.specs.Prelude.{◌-◌, vec_len, if◌then◌else◌};
     ghost use Rattle.std.specs.Vec.{vec_capacity};
-    ghost use Rattle.dk_disk.specs.Drive.{File};
+    ghost use Rattle.dk_disk.specs.MemoryFiles.{File};
 
     ghost Value = { File };
 
     ghost view = { λ d. record { first = if d.is_kept then d.first.items else d.bytes.items; reads = d.bytes.items; is_kept = d.is_kept; room = vec_capacity d.bytes - vec_len d.bytes } };
 }
 
-impl Drive {
-    ghost use Rattle.dk_disk.specs.Drive.{HasPlace, IsReserved, IsChanged};
+impl MemoryFile {
+    ghost use Rattle.dk_disk.specs.MemoryFiles.{HasPlace, IsReserved, IsChanged};
     ghost use Rattle.dk_disk.specs.Step.{IsWithin, step_size, reads_after};
 
-    pub(crate) fn new(alloc: Global, bytes: Vec<u8>) -> Drive
+    pub(crate) fn new(alloc: Global, bytes: Vec<u8>) -> MemoryFile
         ensures first { result.first ≡ bytes.items }
         ensures reads { result.reads ≡ bytes.items }
     {
         let is_kept = bytes.is_empty();
-        Drive {
+        MemoryFile {
             alloc,
             first: Vec::new(alloc),
             bytes,

@@ -1,5 +1,5 @@
 use Rattle.dk_core.proofs.ReadsStand.{stand_more, first_is}
-use Rattle.dk_core.proofs.durable.world.StampedWorld.first_changed.Goals as goal
+use Rattle.dk_core.proofs.durable.world.StampedWorld.first_conflict.Goals as goal
 
 pub returns-then-not-stands : goal.returns-then-not-stands
 returns-then-not-stands c =

@@ -1,6 +1,6 @@
 use Rattle.std.proofs.Common.{rules}
 use Rattle.dk_game.proofs.Lent.{begun_so, law_so, given_back, asked_back}
-use Rattle.dk_game.proofs.over.run_over.Goals as goal
+use Rattle.dk_game.proofs.job_runs.run_over.Goals as goal
 
 pub run_job-requires-clause-begun : goal.run_job-requires-clause-begun
 run_job-requires-clause-begun g c = begun_so c.begin-txn.result.log c.args.number c.args.at c.begin-txn.ensures.nothing_done

@@ -1,6 +1,6 @@
 use Rattle.dk_txn.proofs.Kit.{then_does, halts, give_does, if_true_does, if_false_does, does_for}
 use Rattle.dk_game.proofs.Owning.{own_halts, own_asked, none_changed}
-use Rattle.dk_game.proofs.parts.occurrence.Goals as goal
+use Rattle.dk_game.proofs.job_parts.occurrence.Goals as goal
 
 pub returns-in_err-own_task-clause-does : goal.returns-in_err-own_task-clause-does
 returns-in_err-own_task-clause-does g c = halts _ c.in_err-own_task.ensures.does c.from_residual.ensures.1
