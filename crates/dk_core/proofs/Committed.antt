@@ -35,7 +35,7 @@ use Rattle.dk_tasks.specs.Tasks.{Kept}
 use Rattle.dk_tasks.proofs.Durable.{get-durable}
 use Rattle.dk_txn.specs.declared.finished.Finished.{Finished}
 use Rattle.dk_txn.specs.Finishes.{told}
-use Rattle.dk_connections.specs.MarkedConnections.{Shown, all_of, IsSwept, KeepsMarksBut}
+use Rattle.dk_connections.specs.MarkedConnections.{ConnectionStore, all_of, IsSwept, KeepsMarksBut}
 use Rattle.dk_core.specs.StampedWorlds.{Stamped, Room, with_room, durable_of, seen_now}
 use Rattle.dk_core.specs.Changes.{Stands}
 use Rattle.dk_core.specs.Commits.{CommitsSteps, ComesTo, claimed_at}
@@ -110,7 +110,7 @@ module _ (rules : Meaning) (lawful : AreLawful rules) (d : DurableWorld) (budget
 abbrev pub with_run_ended : (c : Core) (world : Stamped) (claims : Claiming) → HasNumbers world.commits claims c.connections.connections → Core
 with_run_ended c world claims numbers = record c { world = world; claims = claims; numbers = numbers }
 
-module _ (old : Core) (claimed : Claimed) (f : Finished) (seq : ℕ) (mid : Stamped) (claims : Claiming) (ended_numbers : HasNumbers mid.commits claims old.connections.connections) (freed : Core) (shown : Shown)
+module _ (old : Core) (claimed : Claimed) (f : Finished) (seq : ℕ) (mid : Stamped) (claims : Claiming) (ended_numbers : HasNumbers mid.commits claims old.connections.connections) (freed : Core) (shown : ConnectionStore)
     (numbers : HasNumbers freed.world.commits freed.claims shown.connections) (messages : List (ConnNo × Out)) where
   pub commits : IsGranted old claimed → AllByRecursion (Stands old.world) f.reads.items → messages ≡ f.outs.items
       → seq ≡ old.world.commits + 1 → CommitsSteps old.world mid claimed.run (told f) → claims ≡ without_run claimed.run old.claims → IsTaskFreed claimed.job (with_run_ended old mid claims ended_numbers) freed
@@ -134,7 +134,7 @@ module _ (old : Core) (claimed : Claimed) (f : Finished) (seq : ℕ) (mid : Stam
       = λ key k g. let x = freed_tasks claimed.job mid.tasks key k (sym (ap (λ m. get m key) t.tasks) ∙ g) in
       x.2 ∙ ap (λ b. b && not (is_task_of key claimed.job)) (claimed_now rules lawful d budget events old s claimed.run claim held mid comes key x.0 x.1) in
       let tracked = tracked_less w claimed.run claim old.connections.connections shown.connections old.world.tasks freed.world.tasks s.tracked held
-      (task_alone rules lawful d budget events old s claimed.run claim held) (subst (λ (n : Shown). KeepsMarksBut claimed.job n.connections shown.connections) same_shown marks) swept left
+      (task_alone rules lawful d budget events old s claimed.run claim held) (subst (λ (n : ConnectionStore). KeepsMarksBut claimed.job n.connections shown.connections) same_shown marks) swept left
       stepped.world (λ zero. let more = goes.commits in absurd (omega (arith, more, zero))) old.claims.budget (all_of shown.connections) in
       entered rules lawful d budget events old s new e tt (
         claim,

@@ -8,7 +8,7 @@ use Rattle.dk_types.specs.declared.limits.TheConstants.{NUMBERS_END}
 use Rattle.dk_types.specs.Keys.{conn_cmp}
 use Rattle.dk_model.specs.Worlds.{Claim}
 use Rattle.dk_model.proofs.Maps.{conns_total, exact_conns, runs_total, get-insert_other}
-use Rattle.dk_connections.specs.MarkedConnections.{MarkedConnection, Shown, change, left, MarksBy}
+use Rattle.dk_connections.specs.MarkedConnections.{MarkedConnection, ConnectionStore, change, left, MarksBy}
 use Rattle.dk_connections.proofs.Changes.{get-change}
 use Rattle.dk_connections.proofs.Marks.{keeps_left}
 use Rattle.dk_core.specs.Claiming.{Claiming, with_grant, without_grant, without_run}
@@ -94,17 +94,17 @@ pub numbers_change : (commits : ℕ) (claiming : Claiming) (old new : FinMap con
 numbers_change commits claiming old new conn f is n = subst (HasNumbers commits claiming) (sym is) (numbers_there commits claiming old (change conn f old) (there_change old conn f) n)
 
 -- one connection is changed, or nothing is
-pub numbers_posted : {A E : Type 0} (r : Result A E) (commits : ℕ) (claiming : Claiming) (old new : Shown) (conn : ConnNo) (f : MarkedConnection → MarkedConnection) → OnOk r (new.connections ≡ change conn f old.connections) → OnErr r (new ≡ old)
+pub numbers_posted : {A E : Type 0} (r : Result A E) (commits : ℕ) (claiming : Claiming) (old new : ConnectionStore) (conn : ConnNo) (f : MarkedConnection → MarkedConnection) → OnOk r (new.connections ≡ change conn f old.connections) → OnErr r (new ≡ old)
     → HasNumbers commits claiming old.connections → HasNumbers commits claiming new.connections
 numbers_posted (Ok x) commits claiming old new conn f is same n = numbers_change commits claiming old.connections new.connections conn f is n
-numbers_posted (Err e) commits claiming old new conn f is same n = subst (λ (s : Shown). HasNumbers commits claiming s.connections) (sym same) n
+numbers_posted (Err e) commits claiming old new conn f is same n = subst (λ (s : ConnectionStore). HasNumbers commits claiming s.connections) (sym same) n
 
 -- the same, and those that are over and have nothing left to hand are gone
-pub numbers_handed : {A E : Type 0} (r : Result A E) (commits : ℕ) (claiming : Claiming) (old new : Shown) (conn : ConnNo) (f : MarkedConnection → MarkedConnection) → OnOk r (new.connections ≡ left (change conn f old.connections)) → OnErr r (new ≡ old)
+pub numbers_handed : {A E : Type 0} (r : Result A E) (commits : ℕ) (claiming : Claiming) (old new : ConnectionStore) (conn : ConnNo) (f : MarkedConnection → MarkedConnection) → OnOk r (new.connections ≡ left (change conn f old.connections)) → OnErr r (new ≡ old)
     → HasNumbers commits claiming old.connections → HasNumbers commits claiming new.connections
 numbers_handed (Ok x) commits claiming old new conn f is same n =
     subst (HasNumbers commits claiming) (sym is) (numbers_there commits claiming old.connections (left (change conn f old.connections)) (there_left old.connections conn f) n)
-numbers_handed (Err e) commits claiming old new conn f is same n = subst (λ (s : Shown). HasNumbers commits claiming s.connections) (sym same) n
+numbers_handed (Err e) commits claiming old new conn f is same n = subst (λ (s : ConnectionStore). HasNumbers commits claiming s.connections) (sym same) n
 
 -- a claim is granted, or nothing is changed
 pub numbers_claimed : {A E : Type 0} (r : Result A E) (commits : ℕ) (claiming new : Claiming) (all : FinMap conn_cmp MarkedConnection) (claim : Claim) → HasNumbers commits claiming all → claiming.next < NUMBERS_END

@@ -18,7 +18,7 @@ use Rattle.dk_model.specs.Events.{Meaning, Happens, with_connection, put_last, o
 use Rattle.dk_model.specs.Lawful.{HasShortBody, IsInput, IsWithinLimits}
 use Rattle.dk_model.specs.Successors.{step_by}
 use Rattle.dk_laws.proofs.ShortBodies.{bodies_short}
-use Rattle.dk_connections.specs.MarkedConnections.{Shown, all_of, change, left, less_first, linked, unclaimed, IsSwept, KeepsMarks}
+use Rattle.dk_connections.specs.MarkedConnections.{ConnectionStore, all_of, change, left, less_first, linked, unclaimed, IsSwept, KeepsMarks}
 use Rattle.dk_connections.specs.Posts.{PostAnswer}
 use Rattle.dk_connections.specs.declared.answers.PostRefused.{PostRefused}
 use Rattle.dk_connections.specs.declared.answers.PostRefused.TheVariants as post_refused
@@ -37,19 +37,19 @@ pub stays_so : (old : Core) (e : Event) → IsWithinLimits e → ((rules : Meani
 stays_so old e within happens none rules d budget events lawful s = entered_still rules lawful d budget events old s old e within (happens rules) s.tracked (none rules) refl (λ _. refl)
 
 -- the core with other connections
-abbrev pub with_connections : (c : Core) (shown : Shown) → HasNumbers c.world.commits c.claims shown.connections → Core
+abbrev pub with_connections : (c : Core) (shown : ConnectionStore) → HasNumbers c.world.commits c.claims shown.connections → Core
 with_connections c shown numbers = record c { connections = shown; numbers = numbers }
 
 -- where they are the same, it is the same core
-same_shown : (c : Core) (shown : Shown) (numbers : HasNumbers c.world.commits c.claims shown.connections) → shown ≡ c.connections → with_connections c shown numbers ≡ c
+same_shown : (c : Core) (shown : ConnectionStore) (numbers : HasNumbers c.world.commits c.claims shown.connections) → shown ≡ c.connections → with_connections c shown numbers ≡ c
 same_shown c shown numbers same =
-    subst (λ (x : Shown). (n : HasNumbers c.world.commits c.claims x.connections) → with_connections c x n ≡ c) (sym same)
+    subst (λ (x : ConnectionStore). (n : HasNumbers c.world.commits c.claims x.connections) → with_connections c x n ≡ c) (sym same)
     (λ n. ap (with_connections c c.connections) (HasNumbers-prop c.world.commits c.claims c.connections.connections n c.numbers)) numbers
 
-abbrev connecting : (c : Core) (shown : Shown) (claims : Claiming) → HasNumbers c.world.commits claims shown.connections → Core
+abbrev connecting : (c : Core) (shown : ConnectionStore) (claims : Claiming) → HasNumbers c.world.commits claims shown.connections → Core
 connecting c shown claims numbers = record c { connections = shown; claims = claims; numbers = numbers }
 
-pub connects : (old : Core) (name : List ℕ) (pass : ℕ) (shown : Shown) (claims : Claiming) (numbers : HasNumbers old.world.commits claims shown.connections) → IsName name → old.claims.next < NUMBERS_END
+pub connects : (old : Core) (name : List ℕ) (pass : ℕ) (shown : ConnectionStore) (claims : Claiming) (numbers : HasNumbers old.world.commits claims shown.connections) → IsName name → old.claims.next < NUMBERS_END
     → claims ≡ record old.claims { next = old.claims.next + 1 }
     → shown.connections ≡ insert old.connections.connections (record { 0 = old.claims.next }) (unclaimed (new_connection name old.claims.next))
     → all_of shown.connections ≡ insert (all_of old.connections.connections) (record { 0 = old.claims.next }) (new_connection name old.claims.next)
@@ -60,7 +60,7 @@ connects old name pass shown claims numbers is few drawn is_linked is_world swep
     (few, refl, λ i. record (with_connection (world_of old) name) { connections = (sym swept ∙ ap without_done is_world) i })
     (tracked_connect (world_of old) name old.connections.connections shown.connections old.world.tasks s.tracked is_linked swept (all_of shown.connections)) refl refl (λ _. refl)) numbers
 
-pub posts : (old : Core) (conn : ConnNo) (input : Input) (shown : Shown) (numbers : HasNumbers old.world.commits old.claims shown.connections) (r : Result (Unit {0}) PostRefused) → IsInput input → PostAnswer (get (all_of old.connections.connections) conn) input r
+pub posts : (old : Core) (conn : ConnNo) (input : Input) (shown : ConnectionStore) (numbers : HasNumbers old.world.commits old.claims shown.connections) (r : Result (Unit {0}) PostRefused) → IsInput input → PostAnswer (get (all_of old.connections.connections) conn) input r
     → OnOk r (shown.connections ≡ change conn (linked (put_last (waits.Input input))) old.connections.connections)
     → OnOk r (all_of shown.connections ≡ change_connection conn (put_last (waits.Input input)) (all_of old.connections.connections))
     → IsSwept shown.connections → OnErr r (shown ≡ old.connections) → Posted old (with_connections old shown numbers) conn input r
@@ -76,7 +76,7 @@ posts old conn input shown numbers (Err (post_refused.QueueFull waiting)) is ans
     (stays_so old (event.Post pass conn input (posted.QueueFull waiting)) is (λ rules. (answer.0, answer.1, answer.2, refl)) (λ rules. refl))
 posts old conn input shown numbers (Err post_refused.NoMemory) is answer is_linked is_world swept same = (same_shown old shown numbers same, answer.2)
 
-pub hands : (old : Core) (conn : ConnNo) (most : ℕ) (shown : Shown) (numbers : HasNumbers old.world.commits old.claims shown.connections) (r : Result Handed NoMemory)
+pub hands : (old : Core) (conn : ConnNo) (most : ℕ) (shown : ConnectionStore) (numbers : HasNumbers old.world.commits old.claims shown.connections) (r : Result Handed NoMemory)
     → IfOk r (λ handed. handed.outs ≡ take most (outbox_at (get (all_of old.connections.connections) conn)))
     → OnOk r (shown.connections ≡ left (change conn (linked (less_first most)) old.connections.connections))
     → OnOk r (all_of shown.connections ≡ without_done (change_connection conn (λ c. record c { outbox = drop most c.outbox }) (all_of old.connections.connections)))
