@@ -8,15 +8,17 @@ use Rattle.dk_types.specs.declared.item.Item.{Item}
 use Rattle.dk_types.specs.declared.item.Read.{Read}
 use Rattle.dk_types.specs.declared.job.Input.{Input}
 use Rattle.dk_types.specs.declared.number.ConnNo.{ConnNo}
-use Rattle.dk_model.specs.Legal.{Opened, IsLegal, IsFront, pass_of}
-use Rattle.dk_laws.proofs.LaterOn.{claims_stand}
+use Rattle.dk_model.specs.Legal.{Opened, opening_of, IsLegal, IsFront, pass_of}
+use Rattle.dk_laws.proofs.LaterOn.{claims_stand, honest_on}
+use Rattle.dk_txn.specs.declared.finished.Finished.{Finished}
+use Rattle.dk_txn.specs.Finishes.{told}
 use Rattle.dk_connections.specs.declared.answers.Handed.{Handed}
 use Rattle.dk_connections.specs.declared.answers.PostRefused.{PostRefused}
 use Rattle.dk_core.specs.declared.claimed.Claimed.{Claimed}
 use Rattle.dk_core.specs.declared.answers.ClaimRefused.{ClaimRefused}
 use Rattle.dk_turn.proofs.Beginnings.{own-append}
 use Rattle.dk_turn.specs.Fronts.{Known, known, own, Continues, Called}
-use Rattle.dk_host.specs.Calls.{Entered, Grants, ReadsAt, IsClaimOf, IsSpared, AreShort, claim_events, post_events, hand_events}
+use Rattle.dk_host.specs.Calls.{Entered, Grants, ReadsAt, IsClaimOf, IsHonestAt, IsSpared, AreShort, claim_events, post_events, hand_events}
 use Rattle.dk_host.specs.Steps.{Adds, Posts, Hands, Claims, Reads, MayEnd}
 
 -- events of which none is the pass's are of others
@@ -38,7 +40,7 @@ pub front_of : (pass : ℕ) (front log : List Event) → Continues pass_of pass 
 front_of pass front log c = record { later = c.begins.0; all = sym c.begins.1; others = others pass c.begins.0 (none_beyond pass front log c) }
 
 module _ (o : Opened) (pass : ℕ) (events old new : List Event) where
-  entered_by : {gives : List Event → List Event → Type 0} → (c : Called pass_of pass gives old new) → Adds o events c.before c.added → Entered o pass events old new
+  pub entered_by : {gives : List Event → List Event → Type 0} → (c : Called pass_of pass gives old new) → Adds o events c.before c.added → Entered o pass events old new
   entered_by c adds = record {
     before = c.before;
     continues = front_of pass old c.before c.continues;
@@ -55,6 +57,12 @@ module _ (o : Opened) (pass : ℕ) (events old new : List Event) where
 pub may_end : (o : Opened) (p : Known Event) (c : Claimed) (log : List Event) → IsClaimOf o p c → Continues pass_of p.number p.front log → MayEnd o p.number log c
 may_end o p c log claim goes =
     (claim.pass, λ legal. claims_stand o p.front log c.run (record { pass = c.pass; job = c.job; at = c.at }) (subst (λ n. IsFront n p.front log) (sym claim.pass) (front_of p.number p.front log goes)) legal claim.stands)
+
+-- a run that is honest at its pass's front is honest wherever the history goes on from there
+pub honest_later : (o : Opened) (p : Known Event) (c : Claimed) (f : Finished) (log : List Event) → IsHonestAt o p.front c f → Continues pass_of p.number p.front log → IsHonestAt o log c f
+honest_later o p c f log honest goes =
+    let front = front_of p.number p.front log goes in
+    subst (λ es. IsHonestAt o es c f) (sym front.all) (honest_on o.rules (opening_of o) p.front front.later c.job c.run c.at f.reads.items (told f) honest)
 
 module _ (o : Opened) (pass : ℕ) (r : Result (Option Claimed) ClaimRefused) (old : List Event) (new : Known Event) (c : Called pass_of pass (λ before added. Claims o pass before r added) old new.front) where
   pub claim_entered : Entered o pass (claim_events pass r) old new.front

@@ -1,4 +1,13 @@
 pub mod Stepping
 pub mod Calling
 pub mod Opening
+pub mod Committing
 pub mod Looking
+pub mod Nexts
+pub mod Storing
+pub mod Looked
+pub mod Published
+pub mod Refusing
+pub mod Begun
+pub mod Dealing
+pub mod Ended

@@ -22,7 +22,8 @@ use Rattle.dk_core.specs.declared.answers.ConnectRefused.TheVariants as connect_
 use Rattle.dk_core.specs.declared.answers.ClaimRefused.{ClaimRefused}
 use Rattle.dk_core.specs.declared.answers.ClaimRefused.TheVariants as claim_refused
 use Rattle.dk_core.specs.Answers as core
-use Rattle.dk_core.specs.Cores.{world_of, Adds as AddsEvents, IsGranted}
+use Rattle.dk_core.specs.Cores.{world_of, Adds as AddsEvents, IsGranted, KeepsReady}
+use Rattle.dk_core.specs.Rooms.{HasPlaces}
 use Rattle.dk_turn.specs.Fronts.{known}
 use Rattle.dk_host.specs.Books.{IsAt, IsKept}
 use Rattle.dk_host.specs.Calls.{connect_events, post_events, claim_events, hand_events, Stands, IsSpared, Grants}
@@ -49,11 +50,11 @@ pub may_granted : (o : Opened) (pass : ℕ) (events : List Event) (c : Core) (cl
 may_granted o pass events c claimed s may = stands_granted o events c claimed s (may.1 (legal o events c s))
 
 -- events of one pass, and none
-all_one : (pass : ℕ) (e : Event) → pass_of e ≡ pass → All (λ x. pass_of x ≡ pass) (e ∷ [])
+pub all_one : (pass : ℕ) (e : Event) → pass_of e ≡ pass → All (λ x. pass_of x ≡ pass) (e ∷ [])
 all_one pass e is zero d lt = is
 all_one pass e is (suc k) d lt = absurd (omega (arith, lt))
 
-all_none : (pass : ℕ) → All (λ x. pass_of x ≡ pass) []
+pub all_none : (pass : ℕ) → All (λ x. pass_of x ≡ pass) []
 all_none pass k d lt = absurd (omega (arith, lt))
 
 -- events that a pass enters and that are no commits
@@ -93,7 +94,7 @@ pub tick_of : (pass moment : ℕ) → AreOf pass (event.Tick pass moment ∷ [])
 tick_of pass moment = record { by = all_one pass _ refl; none = refl }
 
 -- a call of the core, from the history before it to the history after it
-module _ (o : Opened) (before : List Event) (old new : Core) (total : ℕ) (k : IsKept o before old total) where
+module _ (o : Opened) (before : List Event) (old new : Core) (total places : ℕ) (k : IsKept o before old total places) where
   pub more : (events : List Event) → AddsEvents old new events → IsAt o (before ++ events) new
   more events adds = adds o.rules o.durable o.budget before k.0 k.1
 
@@ -140,11 +141,12 @@ module _ (o : Opened) (before : List Event) (old new : Core) (total : ℕ) (k : 
   claim_grants pass (Err refused) h = tt
 
   -- the book is kept
-  pub kept : (pass : ℕ) (events after : List Event) → IsAt o (before ++ events) new → AreOf pass events → after ≡ before ++ events → IsKept o after new total
-  kept pass events after at of noted = (
+  pub kept : (pass : ℕ) (events after : List Event) → IsAt o (before ++ events) new → AreOf pass events → after ≡ before ++ events → KeepsReady old new → IsKept o after new total places
+  kept pass events after at of noted ready = (
     k.0,
     subst (λ es. IsAt o es new) (sym noted) at,
     k.2 ∙ (let both = commits_of-append before events in let none = of.none in let same = ap commits_of noted in omega (arith, both, none, same)),
+    subst (λ r. HasPlaces r places) (sym ready.room) k.3,
   )
 
   pub adds : (events : List Event) → IsAt o (before ++ events) new → Adds o events before events

@@ -1,5 +1,8 @@
 pub mod Openings
 pub mod Books
 pub mod Calls
+pub mod Commits
 pub mod Steps
+pub mod Stores
+pub mod Refusals
 pub mod Looks

@@ -1,18 +1,20 @@
 //! The value behind the world's lock.
 
-use crate::hosting::{CommitLedger, Hosting};
+use crate::hosting::{CommitLedger, Hosting, PlaceLedger};
 use dk_core::Core;
 use dk_turn::{Book, GhostList};
 use dk_types::Event;
 use std::marker::Model;
 use std::sync::ledger;
 
-/// A core, which stands for the history of the events from the opening on. The ledger's total is the number of its commits.
+/// A core, which stands for the history of the events from the opening on. The one ledger's total is the number of its
+/// commits; the other's is how much room its stores have for the next at least.
 #[derive(Drop)]
 pub struct WorldBook<W: Hosting> {
     pub(crate) core: Core,
     pub(crate) events: GhostList<Event>,
     pub(crate) commits: ledger::Book<CommitLedger<W>>,
+    pub(crate) places: ledger::Book<PlaceLedger<W>>,
 }
 
 impl<W: Hosting> Model for WorldBook<W> {
@@ -24,7 +26,7 @@ impl<W: Hosting> Model for WorldBook<W> {
 
     ghost view = { λ b. b.events };
 
-    ghost invariant = { λ b. IsKept W.opened b.events b.core b.commits.total };
+    ghost invariant = { λ b. IsKept W.opened b.events b.core b.commits.total b.places.total };
 }
 
 impl<W: Hosting> Book for WorldBook<W> {

@@ -4,18 +4,37 @@ ghost use Rattle.std.specs.List.{All};
 ghost use Rattle.dk_types.specs.declared.event.Event.TheVariants as event;
 ghost use Rattle.dk_model.specs.Lawful.{IsInput};
 ghost use Rattle.dk_model.specs.Legal.{pass_of};
-ghost use Rattle.dk_host.specs.Calls.{AreShort, Entered, Grants, IsClaimOf, IsSpared, ReadsAt, claim_events, connect_events, hand_events, post_events};
+ghost use Rattle.dk_host.specs.Refusals.{IsBackAt, commit_events};
+ghost use Rattle.dk_host.specs.Calls.{AreShort, Entered, Grants, IsClaimOf, IsHonestAt, IsSpared, ReadsAt, claim_events, connect_events, hand_events, post_events};
 
 use crate::book::WorldBook;
 use crate::host::Host;
 use crate::hosting::Hosting;
+use crate::refused::CommitRefused;
 use crate::steps::{Claim, Connect, Hand, Post, ReadItem, Release, Tick};
 use dk_core::{ClaimRefused, Claimed, ConnectRefused, Handed, PostRefused};
-use dk_turn::{Naming, Pass};
+use dk_disk::Home;
+use dk_turn::{Naming, Pass, Turn};
+use dk_txn::Finished;
 use dk_types::{ConnNo, Input, Item, Name, NoMemory, Read};
 use std::sync::Wait;
 
-impl<W: Hosting, J: Naming> Host<W, J> {
+// What the world answers to an item at the new front, and what is seen of it there.
+pub(crate) fn read_item<W: Hosting, J: Naming, R: Wait>(
+    world: &Turn<WorldBook<W>, J>,
+    rt: &R,
+    pass: &mut Pass<WorldBook<W>, J>,
+    item: &Item,
+) -> Result<Read, NoMemory>
+    ensures number { pass.new.number ≡ pass.old.number }
+    ensures entered { Entered W.opened pass.old.number [] pass.old.front pass.new.front }
+    ensures read { ReadsAt W.opened pass.new.front item.now result }
+    ensures named { All (λ e. pass_of e < J.name.passes) pass.new.front }
+{
+    world.with(rt, pass, ReadItem { item })
+}
+
+impl<W: Hosting, J: Naming, M: Home> Host<W, J, M> {
     /// Makes a connection, whose login waits.
     pub fn connect<R: Wait>(
         &self,
@@ -83,7 +102,7 @@ impl<W: Hosting, J: Naming> Host<W, J> {
         ensures read { ReadsAt W.opened pass.new.front item.now result }
         ensures named { All (λ e. pass_of e < J.name.passes) pass.new.front }
     {
-        self.world.with(rt, pass, ReadItem { item })
+        read_item(&self.world, rt, pass, item)
     }
 
     /// Hands a connection's first messages, `most` of them or all; `end` says whether it is gone.
@@ -110,5 +129,26 @@ impl<W: Hosting, J: Naming> Host<W, J> {
         ensures named { All (λ e. pass_of e < J.name.passes) pass.new.front }
     {
         self.world.with(rt, pass, Tick { moment })
+    }
+
+    /// Commits a finished run where all its reads stand: first its record is on the disk, and then its event is entered.
+    /// Where it is refused the claim comes back, and nothing is entered.
+    pub fn commit<R: Wait>(
+        &self,
+        rt: &R,
+        pass: &mut Pass<WorldBook<W>, J>,
+        claimed: Claimed,
+        finished: Finished,
+    ) -> Result<u64, CommitRefused>
+        requires claim { IsClaimOf W.opened pass.old claimed }
+        requires honest { IsHonestAt W.opened pass.old.front claimed finished }
+        ensures number { pass.new.number ≡ pass.old.number }
+        ensures entered { Entered W.opened pass.old.number (commit_events pass.old.number claimed finished result) pass.old.front pass.new.front }
+        ensures back { IsBackAt W.opened pass.new.front claimed finished result }
+        ensures named { All (λ e. pass_of e < J.name.passes) pass.new.front }
+    {
+        self.store
+            .lock(rt)
+            .commit(rt, &self.world, pass, claimed, finished)
     }
 }

@@ -1,85 +1,139 @@
 //! The host: how it is opened and closed.
-ghost use Rattle.std.specs.Prelude.{◌≡◌, ◌<◌, IfOk};
+ghost use Rattle.std.specs.Prelude.{◌≡◌, ◌<◌, ◌-◌, [], IfOk, IfErr, IsTrue};
 ghost use Rattle.std.specs.List.{All};
 ghost use Rattle.std.specs.FinMap as map;
 ghost use Rattle.dk_model.specs.Lawful.{AreLawful};
 ghost use Rattle.dk_model.specs.Legal.{world_after, pass_of, IsFront, IsLegal};
 ghost use Rattle.dk_model.specs.Validity.{IsValid};
+ghost use Rattle.dk_disk.specs.Opening.{IsOpen};
 ghost use Rattle.dk_turn.specs.Fronts.{IsDealt};
 ghost use Rattle.dk_core.specs.Listings.{world_of};
+ghost use Rattle.dk_host.specs.Stores.{EndsAs, HasRecovered, HoldsNow};
 
 use crate::book::WorldBook;
-use crate::hosting::{CommitLedger, Hosting};
+use crate::commit::FreeStore;
+use crate::hosting::{CommitLedger, Hosting, PlaceLedger};
+use crate::right::CommitRight;
+use crate::store::CommitStore;
 use dk_core::Core;
+use dk_disk::Home;
+use dk_journal::Journal;
 use dk_turn::{Blank, GhostList, Naming, Pass, Turn};
-use dk_types::{Durable, Event, NoMemory};
+use dk_types::{Durable, Event};
 use std::alloc::Global;
-use std::sync::ledger;
+use std::sync::{Mutex, ledger};
 
-/// A world that threads share. `W` tells with what it was opened, `J` which one it is.
+/// A world that threads share, and the store of its commits behind a lock of its own. Who needs both locks takes that of
+/// the store first. `W` tells with what it was opened, `J` which one it is, and `M` where its files are.
 #[derive(Drop)]
-pub struct Host<W: Hosting, J: Naming> {
+pub struct Host<W: Hosting, J: Naming, M: Home> {
     pub(crate) world: Turn<WorldBook<W>, J>,
+    pub(crate) store: Mutex<FreeStore<W, J, M>>,
 }
 
-/// What is left of a host: how many commits its durable world has, and how many tasks are pending.
+/// A host that was not opened, since there was no memory. The home comes back.
 #[derive(Drop)]
-pub struct Closed {
+pub struct OpenRefused<M> {
+    pub home: M,
+}
+
+/// What is left of a host: its home, how many commits its durable world has, and how many tasks are pending.
+#[derive(Drop)]
+pub struct Closed<M> {
+    pub home: M,
+    /// The home's count of faults as it stopped the store, if it did.
+    pub faults: Option<u64>,
     /// The one history, for contracts alone.
     pub events: GhostList<Event>,
     pub commits: u64,
     pub tasks: u64,
 }
 
-impl<W: Hosting, J: Naming> Host<W, J> {
-    /// Opens a durable world, with a budget of claims or without, and deals the passes.
+impl<W: Hosting, J: Naming, M: Home> Host<W, J, M> {
+    /// Opens the durable world of a store that stands, with a budget of claims or without, and deals the passes. The last
+    /// pass is the store's own.
     pub fn open(
         alloc: Global,
         blank: Blank<WorldBook<W>>,
-        counter: ledger::Blank,
+        commits: ledger::Blank,
+        places: ledger::Blank,
+        home: M,
+        journal: Journal,
         durable: Durable,
         budget: Option<u64>,
-    ) -> Result<(Host<W, J>, Vec<Pass<WorldBook<W>, J>>), NoMemory>
+    ) -> Result<(Host<W, J, M>, Vec<Pass<WorldBook<W>, J>>), OpenRefused<M>>
         requires name { blank ≡ J.name }
-        requires ledger { (counter.name ≡ W.ledger) × (counter.parts ≡ W.parts) }
+        requires passes { 0 < J.name.passes }
+        requires commits { (commits.name ≡ W.commits) × (commits.parts ≡ 1) }
+        requires places { (places.name ≡ W.places) × (places.parts ≡ 1) }
         requires lawful { AreLawful W.opened.rules }
         requires valid { IsValid W.opened.durable }
         requires durable { world_of durable ≡ W.opened.durable }
         requires budget { budget ≡ W.opened.budget }
-        ensures passes { IfOk result (λ opened. IsDealt J.name.passes opened.1.items) }
+        requires is_open { IsOpen (M.opening home) }
+        requires format { journal.format ≡ 2 }
+        requires holds { IsTrue M.tells → HoldsNow (M.past home) journal W.opened.durable }
+        requires since { IsTrue M.tells → HasRecovered W.opened W.began (M.past home) [] [] }
+        ensures passes { IfOk result (λ opened. IsDealt (J.name.passes - 1) opened.1.items) }
+        ensures home { IfErr result (λ refused. refused.home ≡ home) }
     {
-        let (commits, _share) = counter.open::<CommitLedger<W>>();
-        let core = Core::open(alloc, durable, budget)?;
+        let (commits, commit_share) = commits.open::<CommitLedger<W>>();
+        let (places, place_share) = places.open::<PlaceLedger<W>>();
+        let Ok(core) = Core::open(alloc, durable, budget) else {
+            return Err(OpenRefused { home });
+        };
         let Ok(events) = GhostList::new(alloc) else {
-            return Err(NoMemory);
+            return Err(OpenRefused { home });
         };
         let book = WorldBook {
             core,
             events,
             commits,
+            places,
         };
-        match Turn::new(alloc, blank, book) {
-            Ok((world, passes)) => Ok((Host { world }, passes)),
-            Err(_) => Err(NoMemory),
-        }
+        let Ok((world, mut passes)) = Turn::<WorldBook<W>, J>::new(alloc, blank, book) else {
+            return Err(OpenRefused { home });
+        };
+        let Some(pass) = passes.pop() else {
+            return Err(OpenRefused { home });
+        };
+        let right = CommitRight::new(commit_share, place_share);
+        let store = CommitStore::new(home, journal, pass, right, alloc);
+        let store = Mutex::new(FreeStore { store });
+        Ok((Host { world, store }, passes))
     }
 
     /// Ends the sharing. The one history begins with the front of each pass that is handed in, and has no event of such
     /// a pass beyond it.
-    pub fn close(self, passes: Vec<Pass<WorldBook<W>, J>>) -> Closed
+    pub fn close(self, passes: Vec<Pass<WorldBook<W>, J>>) -> Closed<M>
         ensures fronts { All (λ p. IsFront p.number p.front result.events) passes.items }
         ensures named { All (λ e. pass_of e < J.name.passes) result.events }
         ensures legal { IsLegal W.opened result.events }
+        ensures ended { IsTrue M.tells → EndsAs W.opened W.began (M.past result.home) result.events result.faults }
         ensures commits { result.commits ≡ (world_after W.opened result.events).durable.commits }
         ensures tasks { result.tasks ≡ map.len (world_after W.opened result.events).durable.tasks }
     {
-        let Host { world } = self;
+        let Host { world, store } = self;
+        let FreeStore { store } = store.into_inner();
+        let CommitStore {
+            home,
+            journal: _,
+            pass,
+            mut right,
+            waiting: _,
+            faults,
+            alloc: _,
+        } = store;
         let WorldBook {
             core,
             events,
-            commits: _,
-        } = world.close(passes);
+            mut commits,
+            mut places,
+        } = world.close_with(passes, pass);
+        right.audit(&mut commits, &mut places);
         Closed {
+            home,
+            faults,
             events,
             commits: core.commits(),
             tasks: core.pending_len(),

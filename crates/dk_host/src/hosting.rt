@@ -6,31 +6,48 @@ ghost use Rattle.dk_host.specs.Openings.{nothing_opened};
 use std::marker::{Brand, PhantomData};
 use std::sync::ledger::Ledger;
 
-/// What a host was opened with, and its ledger of commits. A program picks it once, when it opens the host.
+/// What a host was opened with and when, and its two ledgers. A program picks it once, when it opens the host.
 pub trait Hosting {
     ghost opened: { Opened };
 
-    // The name of the ledger, and how many parts it has.
-    ghost ledger: { ℕ };
+    // The home's moment as it was opened.
+    ghost began: { ℕ };
 
-    ghost parts: { ℕ };
+    // The name of the ledger of its commits.
+    ghost commits: { ℕ };
+
+    // The name of the ledger of the room that is kept for its next commit.
+    ghost places: { ℕ };
 }
 
 impl Hosting for Brand {
     ghost opened = { nothing_opened };
 
-    ghost ledger = { 0 };
+    ghost began = { 0 };
 
-    ghost parts = { 1 };
+    ghost commits = { 0 };
+
+    ghost places = { 0 };
 }
 
-/// The ledger of a host's commits. No value of it is made.
+/// The ledger of a host's commits: one share. No value of it is made.
 pub struct CommitLedger<W: Hosting> {
     of: PhantomData<W>,
 }
 
 impl<W: Hosting> Ledger for CommitLedger<W> {
-    ghost name = { W.ledger };
+    ghost name = { W.commits };
 
-    ghost parts = { W.parts };
+    ghost parts = { 1 };
+}
+
+/// The ledger of the room that is kept for a host's next commit: one share. No value of it is made.
+pub struct PlaceLedger<W: Hosting> {
+    of: PhantomData<W>,
+}
+
+impl<W: Hosting> Ledger for PlaceLedger<W> {
+    ghost name = { W.places };
+
+    ghost parts = { 1 };
 }

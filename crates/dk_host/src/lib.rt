@@ -8,12 +8,21 @@
 
 mod book;
 mod calls;
+mod commit;
 mod host;
 mod hosting;
 mod look;
+mod prepared;
+mod refused;
+mod right;
 mod steps;
+mod store;
 
 pub use book::WorldBook;
-pub use host::{Closed, Host};
-pub use hosting::{CommitLedger, Hosting};
+pub use host::{Closed, Host, OpenRefused};
+pub use hosting::{CommitLedger, Hosting, PlaceLedger};
 pub use look::HostLook;
+pub use prepared::PreparedCommit;
+pub use refused::{CommitRefused, Why};
+pub use right::CommitRight;
+pub use store::CommitStore;

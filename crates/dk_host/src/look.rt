@@ -6,10 +6,12 @@ ghost use Rattle.dk_model.specs.Sights.{grants};
 ghost use Rattle.dk_host.specs.Calls.{IsClaimOf};
 
 use crate::book::WorldBook;
+use crate::calls::read_item;
 use crate::host::Host;
 use crate::hosting::Hosting;
 use dk_core::Claimed;
-use dk_turn::{Naming, Pass};
+use dk_disk::Home;
+use dk_turn::{Naming, Pass, Turn};
 use dk_txn::View;
 use dk_types::{Item, NoMemory, Read, RunNo};
 use std::sync::Wait;
@@ -18,7 +20,7 @@ use std::sync::Wait;
 pub struct HostLook<'a, W: Hosting, J: Naming, R: Wait> {
     pub(crate) pass: &'a mut Pass<WorldBook<W>, J>,
     pub(crate) rt: &'a R,
-    pub(crate) host: &'a Host<W, J>,
+    pub(crate) world: &'a Turn<WorldBook<W>, J>,
     pub(crate) run: RunNo,
     pub(crate) ghost claimed: { list_any (grants run) pass.now.front ≡ true },
 }
@@ -30,7 +32,7 @@ impl<W: Hosting, J: Naming, R: Wait> Drop for HostLook<'_, W, J, R> {
         let HostLook {
             pass: _,
             rt: _,
-            host: _,
+            world: _,
             run: _,
         } = self;
     }
@@ -42,11 +44,11 @@ impl<W: Hosting, J: Naming, R: Wait> View for HostLook<'_, W, J, R> {
     ghost sights = { sights_by W.opened (λ look. looking look.run look.pass.now) (λ look. look.pass.ghost_name) };
 
     fn read(&mut self, item: &Item) -> Result<Read, NoMemory> {
-        self.host.read(self.rt, self.pass, item)
+        read_item(self.world, self.rt, self.pass, item)
     }
 }
 
-impl<W: Hosting, J: Naming> Host<W, J> {
+impl<W: Hosting, J: Naming, M: Home> Host<W, J, M> {
     /// The world as a claimed run reads it. Each of its reads is honest at the pass's front as the look leaves it.
     pub fn look<'a, R: Wait>(
         &'a self,
@@ -62,7 +64,7 @@ impl<W: Hosting, J: Naming> Host<W, J> {
         HostLook {
             pass,
             rt,
-            host: self,
+            world: &self.world,
             run: claimed.run(),
         }
     }

@@ -1,9 +1,11 @@
 //! The calls of the core as steps of the turn: each notes its event behind the history, where it has one.
 
+mod commits;
 mod connections;
 mod events;
 mod runs;
 
+pub(crate) use commits::{Prepare, Publish};
 pub(crate) use connections::{Connect, Hand, Post};
 pub(crate) use events::{ReadItem, Tick};
 pub(crate) use runs::{Claim, Release};

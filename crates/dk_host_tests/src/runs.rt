@@ -5,6 +5,7 @@ ghost use Rattle.dk_model.specs.Legal.{IsFront};
 ghost use Rattle.dk_host.specs.Calls.{IsClaimOf, IsHonestAt};
 
 use dk_core::Claimed;
+use dk_disk::Home;
 use dk_game::{Game, run_over};
 use dk_host::{Host, Hosting, WorldBook};
 use dk_turn::{Naming, Pass};
@@ -15,11 +16,11 @@ use std::sync::Wait;
 
 /// Runs a claimed job over a look at the host. The finished run is honest for this claim at the front to which its reads
 /// brought the pass, and the claim still stands there.
-pub fn run_claimed<G: Game, W: Hosting, J: Naming, R: Wait>(
+pub fn run_claimed<G: Game, W: Hosting, J: Naming, M: Home, R: Wait>(
     rt: &R,
     alloc: Global,
     game: &G,
-    host: &Host<W, J>,
+    host: &Host<W, J, M>,
     pass: &mut Pass<WorldBook<W>, J>,
     claimed: &Claimed,
 ) -> Result<Finished, NoMemory>
@@ -42,11 +43,11 @@ pub fn run_claimed<G: Game, W: Hosting, J: Naming, R: Wait>(
 }
 
 /// Claims a job and runs it. None where nothing was granted, or where memory was refused and the claim was given back.
-pub fn claim_and_run<G: Game, W: Hosting, J: Naming, R: Wait>(
+pub fn claim_and_run<G: Game, W: Hosting, J: Naming, M: Home, R: Wait>(
     rt: &R,
     alloc: Global,
     game: &G,
-    host: &Host<W, J>,
+    host: &Host<W, J, M>,
     pass: &mut Pass<WorldBook<W>, J>,
 ) -> Option<(Claimed, Finished)>
     requires rules { W.opened.rules ≡ G.rules game.now }

@@ -3,15 +3,16 @@ ghost use Rattle.std.specs.Prelude.{◌≡◌};
 ghost use Rattle.dk_pump.specs.Passes.{Enters};
 ghost use Rattle.dk_pump.specs.Reading.{Disconnects};
 
+use dk_disk::Home;
 use dk_host::{Host, Hosting, WorldBook};
 use dk_turn::{Naming, Pass};
 use dk_types::{ConnNo, Input};
 use std::sync::Wait;
 
 /// Posts a Disconnect, which has always a place. It takes no memory.
-pub(crate) fn disconnect<W: Hosting, J: Naming, R: Wait>(
+pub(crate) fn disconnect<W: Hosting, J: Naming, M: Home, R: Wait>(
     rt: &R,
-    host: &Host<W, J>,
+    host: &Host<W, J, M>,
     pass: &mut Pass<WorldBook<W>, J>,
     conn: ConnNo,
     graceful: bool,

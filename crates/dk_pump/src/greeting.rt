@@ -7,6 +7,7 @@ ghost use Rattle.dk_pump.specs.Reading.{Greets, IsFirstEnd, IsFirstRead, IsGreet
 use crate::ends::SessionEnd;
 use crate::limits::SESSION_MOST_BYTES;
 use crate::pieces::next_frames;
+use dk_disk::Home;
 use dk_edge::Source;
 use dk_frame::{ClientFrame, Decoder};
 use dk_host::{Host, Hosting, WorldBook};
@@ -23,9 +24,9 @@ pub struct Greeted {
 }
 
 /// Reads up to the LOGIN frame and connects its client.
-pub fn greet<W: Hosting, J: Naming, R: Wait, S: Source>(
+pub fn greet<W: Hosting, J: Naming, M: Home, R: Wait, S: Source>(
     rt: &R,
-    host: &Host<W, J>,
+    host: &Host<W, J, M>,
     pass: &mut Pass<WorldBook<W>, J>,
     source: &mut S,
     decoder: &mut Decoder,

@@ -9,6 +9,7 @@ ghost use Rattle.dk_frame.specs.Meanings.{frame_of};
 ghost use Rattle.dk_pump.specs.Reading.{IsAsked, PostsFrames};
 
 use dk_core::PostRefused;
+use dk_disk::Home;
 use dk_frame::ClientFrame;
 use dk_host::{Host, Hosting, WorldBook};
 use dk_turn::{Naming, Pass};
@@ -24,9 +25,9 @@ pub(crate) enum Progress {
 }
 
 /// Posts what the frames of a session ask, in order, up to a LOGOUT or to the first post that is refused.
-pub(crate) fn post_frames<W: Hosting, J: Naming, R: Wait>(
+pub(crate) fn post_frames<W: Hosting, J: Naming, M: Home, R: Wait>(
     rt: &R,
-    host: &Host<W, J>,
+    host: &Host<W, J, M>,
     pass: &mut Pass<WorldBook<W>, J>,
     conn: ConnNo,
     frames: Vec<ClientFrame>,

@@ -8,6 +8,7 @@ use crate::ends::SessionEnd;
 use crate::greeting::Greeted;
 use crate::pieces::next_frames;
 use crate::posting::{Progress, post_frames};
+use dk_disk::Home;
 use dk_edge::Source;
 use dk_frame::{ClientFrame, Decoder};
 use dk_host::{Host, Hosting, WorldBook};
@@ -17,9 +18,9 @@ use std::sync::Wait;
 
 /// Posts each frame of a session, and then one Disconnect, graceful exactly after a LOGOUT; where a post finds the
 /// connection closed, none. The session, its source and its decoder are as `greet` left them.
-pub fn read_session<W: Hosting, J: Naming, R: Wait, S: Source>(
+pub fn read_session<W: Hosting, J: Naming, M: Home, R: Wait, S: Source>(
     rt: &R,
-    host: &Host<W, J>,
+    host: &Host<W, J, M>,
     pass: &mut Pass<WorldBook<W>, J>,
     greeted: Greeted,
     source: &mut S,
@@ -36,9 +37,9 @@ pub fn read_session<W: Hosting, J: Naming, R: Wait, S: Source>(
 }
 
 /// Posts each frame of a session.
-fn read_frames<W: Hosting, J: Naming, R: Wait, S: Source>(
+fn read_frames<W: Hosting, J: Naming, M: Home, R: Wait, S: Source>(
     rt: &R,
-    host: &Host<W, J>,
+    host: &Host<W, J, M>,
     pass: &mut Pass<WorldBook<W>, J>,
     conn: ConnNo,
     rest: Vec<ClientFrame>,
@@ -64,9 +65,9 @@ fn read_frames<W: Hosting, J: Naming, R: Wait, S: Source>(
 }
 
 /// Posts the Disconnect that this end wants.
-fn close<W: Hosting, J: Naming, R: Wait>(
+fn close<W: Hosting, J: Naming, M: Home, R: Wait>(
     rt: &R,
-    host: &Host<W, J>,
+    host: &Host<W, J, M>,
     pass: &mut Pass<WorldBook<W>, J>,
     conn: ConnNo,
     end: SessionEnd,

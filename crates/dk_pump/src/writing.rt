@@ -6,6 +6,7 @@ use crate::closing::disconnect;
 use crate::ends::WriteEnd;
 use crate::limits::HAND_MOST_COUNT;
 use crate::putting::{PutRefused, put_frames};
+use dk_disk::Home;
 use dk_edge::Sink;
 use dk_host::{Host, Hosting, WorldBook};
 use dk_turn::{Naming, Pass};
@@ -15,10 +16,10 @@ use std::sync::Wait;
 
 /// Puts the frames of what a connection is handed, until it is gone. After the sink failed it posts a Disconnect that is
 /// not graceful, and hands on without putting. After want of memory it posts that Disconnect and returns.
-pub fn write_session<W: Hosting, J: Naming, R: Wait, K: Sink>(
+pub fn write_session<W: Hosting, J: Naming, M: Home, R: Wait, K: Sink>(
     rt: &R,
     alloc: Global,
-    host: &Host<W, J>,
+    host: &Host<W, J, M>,
     pass: &mut Pass<WorldBook<W>, J>,
     conn: ConnNo,
     sink: &mut K,
@@ -54,9 +55,9 @@ pub fn write_session<W: Hosting, J: Naming, R: Wait, K: Sink>(
 }
 
 /// Hands on, and puts nothing, until the connection is gone, as it may be already.
-fn hand_on<W: Hosting, J: Naming, R: Wait>(
+fn hand_on<W: Hosting, J: Naming, M: Home, R: Wait>(
     rt: &R,
-    host: &Host<W, J>,
+    host: &Host<W, J, M>,
     pass: &mut Pass<WorldBook<W>, J>,
     conn: ConnNo,
     gone: bool,

@@ -1,3 +1,5 @@
+//! What recovering gives: of worked stores, of pairs of files, and of each changed byte.
+
 use crate::recovery::{Answer, Held, calls_of, recovered};
 use crate::samples::{File, Records, bytes_of};
 use crate::twin::{cut_to, with_byte};

@@ -1,3 +1,5 @@
+//! A stop after each call, with each torn image and each call failing.
+
 use crate::files::two_records;
 use crate::stops::{Step, is_kept, play, world_after};
 use crate::vectors::{changed, header, image, payload};

@@ -1,5 +1,6 @@
 //! The right to call, and what the calls have seen.
-ghost use Rattle.std.specs.Prelude.{◌≡◌};
+ghost use Rattle.std.specs.Prelude.{◌≡◌, ◌<◌};
+ghost use Rattle.std.specs.List.{All};
 
 use crate::book::Book;
 use crate::naming::Naming;
@@ -39,5 +40,12 @@ impl<O: Book, J: Naming> Pass<O, J> {
         ensures { result ≡ self.now.number }
     {
         self.number
+    }
+
+    /// Every entry that it has seen is of a pass of this turn. It does nothing.
+    pub fn has_named(&self)
+        ensures { All (λ e. O.number e < J.name.passes) self.now.front }
+    {
+        let _ = &self.number;
     }
 }

@@ -180,6 +180,31 @@ impl<O: Book, J: Naming> Turn<O, J> {
         } = desk;
         book
     }
+
+    /// The book, as `close` gives it. One more pass is handed in by itself, so that no list has to grow.
+    pub fn close_with(self, mut passes: Vec<Pass<O, J>>, mut last: Pass<O, J>) -> O
+        ensures fronts { ContinuesAll O.number passes.items (O.history result) }
+        ensures last { Continues O.number last.number last.front (O.history result) }
+        ensures named { All (λ e. O.number e < J.name.passes) (O.history result) }
+    {
+        let Turn {
+            table,
+            desk,
+            waiting: _,
+        } = self;
+        let mut inner = desk.into_inner();
+        inner.see(&table.shared, &mut last);
+        while let Some(mut pass) = passes.pop() {
+            inner.see(&table.shared, &mut pass);
+        }
+        table.close().free();
+        let Desk {
+            book,
+            seat: _,
+            of: _,
+        } = inner;
+        book
+    }
 }
 
 // Makes the passes, for which there is room.

@@ -1,0 +1,5 @@
+pub mod Games
+pub mod Grammar
+pub mod Matches
+pub mod Found
+pub mod Commands

@@ -1,0 +1,27 @@
+-- A store as it is opened.
+use Rattle.std.proofs.Common.{◌≡◌, ℕ, Bool, IsTrue, List, [], ◌++◌, None, refl, sym, ap, subst, ◌∙◌}
+use Rattle.dk_types.specs.declared.event.Event.{Event}
+use Rattle.dk_disk.specs.Past.{Past}
+use Rattle.dk_disk.specs.Opening.{Opening, IsOpen}
+use Rattle.dk_model.specs.Lawful.{AreLawful}
+use Rattle.dk_model.specs.Legal.{Opened, opening_of, world_after, IsLegal, commits_of}
+use Rattle.dk_model.specs.Openings.{opening}
+use Rattle.dk_model.specs.Validity.{IsValid}
+use Rattle.dk_journal.specs.declared.journal.Journal.{Journal}
+use Rattle.dk_host.specs.Stores.{HasRecovered, HoldsNow, IsStored}
+
+-- it stands on the opened world, and its pass has seen nothing
+pub store_begins : (o : Opened) (began : ℕ) (tells : Bool) (past : Past) (opens : Opening) (journal : Journal) (front : List Event) (commits places : ℕ) → AreLawful o.rules → IsValid o.durable → front ≡ [] → commits ≡ 0 → IsOpen opens → journal.format ≡ 2
+    → (IsTrue tells → HoldsNow past journal o.durable) → (IsTrue tells → HasRecovered o began past [] []) → IsStored o began tells past opens journal front commits places None None
+unfolding opening
+store_begins o began tells past opens journal front commits places lawful valid none zero_commits is_open format holds since = record {
+  lawful = lawful;
+  legal = subst (IsLegal o) (sym none) (record { valid = valid; within = tt; history = record { last = opening_of o; leads = refl } });
+  counted = zero_commits ∙ sym (ap commits_of none);
+  is_open = is_open;
+  format = format;
+  tail = [];
+  waits = refl;
+  since = λ h. subst (λ (es : List Event). HasRecovered o began past es []) (sym none) (since h);
+  holds = λ h running. subst (HoldsNow past journal) (ap (λ (es : List Event). (world_after o (es ++ [])).durable) (sym none)) (holds h);
+}

@@ -1,0 +1,302 @@
+-- What the store keeps over its calls.
+use Rattle.std.proofs.Common.{◌≡◌, ◌⊎◌, ⊎_elim, inl, inr, ℕ, ◌+◌, ◌≤◌, Bool, IsTrue, List, [], ◌∷◌, ◌++◌, Option, Some, None, Result, Ok, Err, OnOk, OnErr, IfErr, IsErrOf, refl, sym, ap, subst, ◌∙◌, arith}
+use Rattle.std.proofs.lemmas.List.{append-nil}
+use Rattle.dk_types.specs.declared.event.Event.{Event}
+use Rattle.dk_types.specs.declared.event.Event.TheVariants as event
+use Rattle.dk_types.specs.declared.side.Side.{Side}
+use Rattle.dk_types.specs.Faults.{HasRisen}
+use Rattle.dk_disk.specs.Disk.{Disk, settled}
+use Rattle.dk_disk.specs.Past.{Past, now, other_side}
+use Rattle.dk_disk.specs.Opening.{Opening, IsOpen}
+use Rattle.dk_model.specs.DurableWorlds.{DurableWorld}
+use Rattle.dk_model.specs.Effects.{after}
+use Rattle.dk_model.specs.Entries.{entries_spelling}
+use Rattle.dk_model.specs.Legal.{Opened, opening_of, world_after, IsLegal, commits_of}
+use Rattle.dk_model.specs.Recovered.{Takes, HasWorld}
+use Rattle.dk_model.specs.Stores.{header_spelling}
+use Rattle.dk_model.specs.Tails.{IsAfterSome, IsAfterSomeOrTail}
+use Rattle.dk_model.proofs.Tails.{after_all, after_more}
+use Rattle.dk_laws.proofs.Between.{commits_of-append, commits_change}
+use Rattle.dk_laws.proofs.LaterOn.{fronts_legal}
+use Rattle.dk_journal.specs.declared.journal.Journal.{Journal}
+use Rattle.dk_journal.specs.declared.refused.JournalRefused.{JournalRefused}
+use Rattle.dk_journal.specs.declared.refused.JournalRefused.TheVariants as journal_refused
+use Rattle.dk_journal.specs.Refusals.{IsAppendFault}
+use Rattle.dk_journal.specs.Moments.{Runs, HasOrNot, NeverFalls}
+use Rattle.dk_journal.specs.Ranks.{IsLesser, IsOutranked}
+use Rattle.dk_journal.specs.Recoveries.{Recovering}
+use Rattle.dk_journal.specs.Standing.{Stands as StandsAt, IsAtRest}
+use Rattle.dk_journal.proofs.Readings.{reads_within}
+use Rattle.dk_journal.proofs.Recoveries.{all_weakened, since_on, held_on}
+use Rattle.dk_journal.proofs.Standings.{appended}
+use Rattle.dk_image.proofs.Worlds.{next_world}
+use Rattle.dk_checkpoint.proofs.Held.{append_held}
+use Rattle.dk_txn.specs.declared.finished.Finished.{Finished}
+use Rattle.dk_core.specs.declared.claimed.Claimed.{Claimed}
+use Rattle.dk_core.specs.declared.prepared.Prepared.{Prepared}
+use Rattle.dk_core.specs.Rooms.{places_of}
+use Rattle.dk_host.specs.Calls.{Stands}
+use Rattle.dk_host.specs.Stores.{IsNextCommit, commit_of, HasRecovered, HoldsNow, IsStored, Stored, Appends, waiting_after, faults_after}
+use Rattle.dk_host.proofs.Nexts.{next_commit, durable_on, prepared_on, tells_on, takes}
+
+-- what a list begins with, where it ends with one more
+snoc_split : {A : Type 0} (front later xs : List A) (x : A) → xs ++ x ∷ [] ≡ front ++ later → ((m : List A) × (xs ≡ front ++ m)) ⊎ (front ≡ xs ++ x ∷ [])
+snoc_split [] later xs x same = inl (xs, refl)
+snoc_split (y ∷ front) later [] x same =
+    let head : x ≡ y = cc in
+    let rest : [] ≡ front ++ later = cc in
+    inr (only front later y x head rest)
+  where
+    only : {A : Type 0} (front later : List A) (y x : A) → x ≡ y → [] ≡ front ++ later → y ∷ front ≡ x ∷ []
+    only [] later y x head rest = ap (λ z. z ∷ []) (sym head)
+    only (z ∷ front) later y x head rest = absurd cc
+snoc_split (y ∷ front) later (z ∷ xs) x same =
+    let head : z ≡ y = cc in
+    let rest : xs ++ x ∷ [] ≡ front ++ later = cc in
+    ⊎_elim
+    (λ (h : (m : List _) × (xs ≡ front ++ m)). inl (h.0, (λ i. head i ∷ h.1 i)))
+    (λ (h : front ≡ xs ++ x ∷ []). inr ((λ i. sym head i ∷ h i)))
+    (snoc_split front later xs x rest)
+
+-- after some first ones, or after all
+some_or_all : (o : Opened) (events : List Event) (e : Event) (d : DurableWorld) → IsAfterSome o (events ++ e ∷ []) d → IsAfterSome o events d ⊎ (d ≡ (world_after o (events ++ e ∷ [])).durable)
+some_or_all o events e d some = ⊎_elim
+    (λ (h : (m : List Event) × (events ≡ some.front ++ m)). inl (record { front = some.front; later = h.0; parts = h.1; world = some.world }))
+    (λ (h : some.front ≡ events ++ e ∷ []). inr (some.world ∙ ap (λ (es : List Event). (world_after o es).durable) h))
+    (snoc_split some.front some.later events e some.parts)
+
+-- the same, where a history had no tail
+untailed : (o : Opened) (events : List Event) (d : DurableWorld) → IsAfterSomeOrTail o events [] d → IsAfterSome o events d
+untailed o events d some = subst (λ (es : List Event). IsAfterSome o es d) (append-nil events) some
+
+module _ (o : Opened) (began : ℕ) (tells : Bool) (past : Past) (opening : Opening) (journal : Journal) (front more : List Event) (commits places : ℕ) (faults : Option ℕ) where
+  -- the store's pass goes on, while nothing waits and no commit comes
+  pub store_on : IsStored o began tells past opening journal front commits places None faults → commits_of (front ++ more) ≡ commits → IsLegal o (front ++ more) → (room : ℕ) → IsStored o began tells past opening journal (front ++ more) commits room None faults
+  store_on s same legal room =
+      let both = commits_of-append front more in
+      let none : commits_of more ≡ 0 = omega (arith, both, same, s.counted) in
+      let durable : (world_after o (front ++ s.tail)).durable ≡ (world_after o ((front ++ more) ++ [])).durable
+      = ap (λ (es : List Event). (world_after o (front ++ es)).durable) s.waits ∙ ap (λ (es : List Event). (world_after o es).durable) (append-nil front)
+      ∙ sym (durable_any none) ∙ ap (λ (es : List Event). (world_after o es).durable) (sym (append-nil (front ++ more))) in record {
+        lawful = s.lawful;
+        legal = legal;
+        counted = sym same;
+        is_open = s.is_open;
+        format = s.format;
+        tail = [];
+        waits = refl;
+        since = λ h.
+            let was : HasRecovered o began past front [] = subst (HasRecovered o began past front) s.waits (s.since h) in record {
+              begun = was.begun;
+              recovers = λ t from to. all_weakened (IsAfterSomeOrTail o front []) (IsAfterSomeOrTail o (front ++ more) []) past t
+                  (λ d some. after_more o (front ++ more) [] d (after_more o front more d (untailed o front d some))) (was.recovers t from to);
+              held = was.held;
+            };
+        holds = λ h running. subst (HoldsNow past journal) durable (s.holds h running);
+      }
+    where
+      durable_any : commits_of more ≡ 0 → (world_after o (front ++ more)).durable ≡ (world_after o front).durable
+      durable_any none = (commits_change o.rules (opening_of o) front more s.lawful none).durable
+
+  -- the commit of the record that waits is entered
+  module _ (claimed : Claimed) (f : Finished) (p : Prepared) (s : IsStored o began tells past opening journal front commits places (Some p) faults) (next : IsNextCommit o front claimed f p)
+      (same : commits_of (front ++ more) ≡ commits) (pass seq : ℕ) (by : claimed.pass ≡ pass) (number : seq ≡ (world_after o (front ++ more)).durable.commits + 1)
+      (legal : IsLegal o ((front ++ more) ++ event.Commit pass claimed.run seq f.outcome ∷ [])) (stands : Stands o (front ++ more) claimed) where
+    abbrev before : List Event
+    before = front ++ more
+
+    abbrev e : Event
+    e = event.Commit pass claimed.run seq f.outcome
+
+    none : commits_of more ≡ 0
+    none = let both = commits_of-append front more in omega (arith, both, same, s.counted)
+
+    unchanged : (world_after o before).durable ≡ (world_after o front).durable
+    unchanged = durable_on o front more claimed f p s.lawful none
+
+    now_next : IsNextCommit o before claimed f p
+    now_next = next_commit o before claimed f p s.lawful (fronts_legal o before (e ∷ []) legal) stands (tells_on o front more claimed f p s.lawful none next.tells) (prepared_on o front more claimed f p s.lawful none next.prepared)
+
+    event_is : commit_of claimed f p ≡ e
+    event_is =
+        let same_seq : p.entry.seq ≡ seq = now_next.next.seq ∙ sym number in
+        λ i. event.Commit (by i) claimed.run (same_seq i) f.outcome
+
+    entered : (world_after o (before ++ e ∷ [])).durable ≡ after p.entry (world_after o front).durable
+    entered = ap (λ (x : Event). (world_after o (before ++ x ∷ [])).durable) (sym event_is) ∙ now_next.world ∙ ap (after p.entry) unchanged
+
+    waited : (world_after o (front ++ s.tail)).durable ≡ after p.entry (world_after o front).durable
+    waited = ap (λ (es : List Event). (world_after o (front ++ es)).durable) s.waits.1.1.is_tail ∙ s.waits.1.1.next.world
+
+    pub store_published : (room : ℕ) → IsStored o began tells past opening journal (before ++ e ∷ []) (commits + 1) room None faults
+    store_published room =
+        let both = commits_of-append before (e ∷ []) in
+        let durable : (world_after o (front ++ s.tail)).durable ≡ (world_after o ((before ++ e ∷ []) ++ [])).durable
+        = waited ∙ sym entered ∙ ap (λ (es : List Event). (world_after o es).durable) (sym (append-nil (before ++ e ∷ []))) in record {
+          lawful = s.lawful;
+          legal = legal;
+          counted = omega (arith, both, same);
+          is_open = s.is_open;
+          format = s.format;
+          tail = [];
+          waits = refl;
+          since = λ h.
+              let was : HasRecovered o began past front (commit_of s.waits.0 s.waits.1.0 p ∷ []) = subst (HasRecovered o began past front) s.waits.1.1.is_tail (s.since h) in record {
+                begun = was.begun;
+                recovers = λ t from to. all_weakened (IsAfterSomeOrTail o front (commit_of s.waits.0 s.waits.1.0 p ∷ [])) (IsAfterSomeOrTail o (before ++ e ∷ []) []) past t (λ d some. after_more o (before ++ e ∷ []) [] d (⊎_elim
+                    (λ first. after_more o before (e ∷ []) d (after_more o front more d first))
+                    (λ (last : d ≡ (world_after o (front ++ commit_of s.waits.0 s.waits.1.0 p ∷ [])).durable).
+                    subst (IsAfterSome o (before ++ e ∷ [])) (sym (last ∙ s.waits.1.1.next.world ∙ sym entered)) (after_all o (before ++ e ∷ [])))
+                    (some_or_all o front (commit_of s.waits.0 s.waits.1.0 p) d some))) (was.recovers t from to);
+                held = was.held;
+              };
+          holds = λ h running. subst (HoldsNow past journal) durable (s.holds h running);
+        }
+
+-- what the journal asks for
+pub at_rest : (past : Past) (journal : Journal) (d : DurableWorld) → HoldsNow past journal d → IsAtRest journal.side journal.length past
+at_rest past journal d h = subst (λ (x : Side). IsAtRest x journal.length past) (sym h.store.here) (record {
+  settled = h.store.stands.settled;
+  within = let inside = reads_within (now past h.side).reads (header_spelling h.header) h.payloads h.store.stands.reads in omega (arith, h.store.stands.place, inside);
+})
+
+-- where the store runs
+pub runs_not : {A : Type 0} (n : ℕ) → Some n ≡ None → A
+runs_not n same = absurd cc
+
+-- a record is put behind the last one
+module _ (o : Opened) (began : ℕ) (tells : Bool) (old new : Past) (opening opening_after : Opening) (journal after_journal : Journal) (front : List Event) (commits places : ℕ) (claimed : Claimed) (f : Finished) (p : Prepared) (payload : List ℕ)
+    (s : IsStored o began tells old opening journal front commits places None None) (next : IsNextCommit o front claimed f p) (room : places ≡ places_of f.effects) (bytes : payload ≡ entries_spelling (p.entry ∷ []))
+    (run : IsTrue tells → (header : List ℕ) (payloads : List (List ℕ)) → StandsAt journal.side journal.length old header payloads → Runs journal.side (HasOrNot header payloads payload) old new)
+    (falls : IsTrue tells → (header : List ℕ) (payloads : List (List ℕ)) → StandsAt journal.side journal.length old header payloads → NeverFalls header journal.side old.clock new)
+    (opened : opening_after ≡ opening) (side_is : after_journal.side ≡ journal.side) (epoch_is : after_journal.epoch ≡ journal.epoch) (format_is : after_journal.format ≡ journal.format) where
+  abbrev last : Event
+  last = commit_of claimed f p
+
+  abbrev d : DurableWorld
+  d = (world_after o front).durable
+
+  abbrev w : DurableWorld
+  w = (world_after o (front ++ last ∷ [])).durable
+
+  held_now : IsTrue tells → HoldsNow old journal d
+  held_now h = subst (HoldsNow old journal) (ap (λ (es : List Event). (world_after o (front ++ es)).durable) s.waits ∙ ap (λ (es : List Event). (world_after o es).durable) (append-nil front)) (s.holds h refl)
+
+  module _ (h : IsTrue tells) where
+    abbrev held : HoldsNow old journal d
+    held = held_now h
+
+    here : StandsAt journal.side journal.length old (header_spelling held.header) held.payloads
+    here = subst (λ (x : Side). StandsAt x journal.length old (header_spelling held.header) held.payloads) (sym held.store.here) held.store.stands
+
+    outranked : IsOutranked held.header old (other_side journal.side)
+    outranked = subst (λ (x : Side). IsOutranked held.header old (other_side x)) (sym held.store.here) held.store.outranked
+
+    next_is : HasWorld held.header (held.payloads ++ payload ∷ []) w
+    next_is = next_world held.header held.payloads payload d w held.store.world (subst (λ (n : ℕ). Takes n d payload w) (sym s.format ∙ held.store.format) (takes o front claimed f p next payload bytes))
+
+    grows : d.commits ≤ w.commits
+    grows = let more : w.commits ≡ d.commits + 1 = ap (λ (x : DurableWorld). x.commits) next.world ∙ next.next.seq in omega (arith, more)
+
+    recovering : Recovering (IsAfterSomeOrTail o front (last ∷ [])) old new
+    recovering = let r = run h (header_spelling held.header) held.payloads here in record {
+      later = r.later;
+      kept = r.kept;
+      each = λ t from to zero one left. ⊎_elim
+          (λ was. (d, inl was, after_more o front (last ∷ []) d (after_all o front)))
+          (λ is. (w, inl is, after_all o (front ++ last ∷ [])))
+          (appended journal.side held.header held.payloads payload d w old new held.store.fits outranked held.store.world next_is r t from to zero one left);
+    }
+
+    since_appended : HasRecovered o began new front (last ∷ [])
+    since_appended =
+        let was : HasRecovered o began old front [] = subst (HasRecovered o began old front) s.waits (s.since h) in
+        let r = run h (header_spelling held.header) held.payloads here in record {
+          begun = omega (arith, was.begun, r.later);
+          recovers = since_on (IsAfterSomeOrTail o front (last ∷ [])) began old new
+              (λ t from to. all_weakened (IsAfterSomeOrTail o front []) (IsAfterSomeOrTail o front (last ∷ [])) old t (λ x some. after_more o front (last ∷ []) x (untailed o front x some)) (was.recovers t from to)) recovering;
+          held = held_on began old new was.begun r.later r.kept was.held
+              (append_held journal.side held.header held.payloads payload d w old new held.store.fits outranked held.store.world next_is grows r (falls h (header_spelling held.header) held.payloads here));
+        }
+
+    -- acknowledged, it has the world of the record
+    holds_appended : StandsAt after_journal.side after_journal.length new (header_spelling held.header) (held.payloads ++ payload ∷ []) → HoldsNow new after_journal w
+    holds_appended stands =
+        let r = run h (header_spelling held.header) held.payloads here in
+        let other : now new (other_side journal.side) ≡ now old (other_side journal.side) = r.other new.clock r.later (omega arith) in record {
+          side = after_journal.side;
+          header = held.header;
+          payloads = held.payloads ++ payload ∷ [];
+          store = record {
+            fits = held.store.fits;
+            here = refl;
+            epoch = epoch_is ∙ held.store.epoch;
+            format = format_is ∙ held.store.format;
+            stands = stands;
+            outranked = subst (λ (x : Side). IsOutranked held.header new (other_side x)) (sym side_is) (record {
+              settled = other ∙ outranked.settled ∙ ap (λ (x : Disk). settled x.reads) (sym other);
+              lesser = subst (λ (x : Disk). IsLesser held.header x.reads) (sym other) outranked.lesser;
+            });
+            world = next_is;
+          };
+        }
+
+  -- with the record waiting, or its tail where the disk failed
+  pub store_appended : (faults : Option ℕ) → (IsTrue tells → faults ≡ None → (header : List ℕ) (payloads : List (List ℕ)) → StandsAt journal.side journal.length old header payloads → StandsAt after_journal.side after_journal.length new header (payloads ++ payload ∷ []))
+      → IsStored o began tells new opening_after after_journal front commits places (Some p) faults
+  store_appended faults acknowledged = record {
+    lawful = s.lawful;
+    legal = s.legal;
+    counted = s.counted;
+    is_open = subst IsOpen (sym opened) s.is_open;
+    format = format_is ∙ s.format;
+    tail = last ∷ [];
+    waits = (claimed, (f, record { next = next; kept = room; is_tail = refl }));
+    since = λ h. since_appended h;
+    holds = λ h running. holds_appended h (acknowledged h running (header_spelling (held h).header) (held h).payloads (here h));
+  }
+
+  -- whatever the journal answered
+  pub store_settled : (r : Result (Unit {0}) JournalRefused) (n : ℕ) → (IsTrue tells → OnOk r ((header : List ℕ) (payloads : List (List ℕ)) → StandsAt journal.side journal.length old header payloads → StandsAt after_journal.side after_journal.length new header (payloads ++ payload ∷ [])))
+      → ((m : ℕ) → IsErrOf r (journal_refused.Full m) → new ≡ old) → OnErr r (after_journal ≡ journal) → IfErr r IsAppendFault → IsStored o began tells new opening_after after_journal front commits places (waiting_after r p) (faults_after r n)
+  store_settled (Ok x) n acknowledged untouched same only = store_appended None (λ h running. acknowledged h)
+  store_settled (Err journal_refused.DiskFault) n acknowledged untouched same only = store_appended (Some n) (λ h stopped. runs_not n stopped)
+  store_settled (Err (journal_refused.Full m)) n acknowledged untouched same only =
+      subst (λ (j : Journal). IsStored o began tells new opening_after j front commits places None None) (sym same)
+      (subst (λ (x : Past). IsStored o began tells x opening_after journal front commits places None None) (sym (untouched m refl))
+      (subst (λ (x : Opening). IsStored o began tells old x journal front commits places None None) (sym opened) s))
+  store_settled (Err (journal_refused.NotAStore at)) n acknowledged untouched same only = absurd only
+  store_settled (Err (journal_refused.Damaged at)) n acknowledged untouched same only = absurd only
+  store_settled (Err journal_refused.NoMemory) n acknowledged untouched same only = absurd only
+
+-- what waits is this
+pub as_waiting : {o : Opened} {began : ℕ} {tells : Bool} {past : Past} {opening : Opening} {journal : Journal} {front : List Event} {commits places : ℕ} {faults : Option ℕ} (v w : Option Prepared) → v ≡ w
+    → IsStored o began tells past opening journal front commits places v faults → IsStored o began tells past opening journal front commits places w faults
+as_waiting {o = o} {began = began} {tells = tells} {past = past} {opening = opening} {journal = journal} {front = front} {commits = commits} {places = places} {faults = faults} v w same s =
+    subst (λ (x : Option Prepared). IsStored o began tells past opening journal front commits places x faults) same s
+
+pub as_faults : {o : Opened} {began : ℕ} {tells : Bool} {past : Past} {opening : Opening} {journal : Journal} {front : List Event} {commits places : ℕ} {waiting : Option Prepared} (v w : Option ℕ) → v ≡ w
+    → IsStored o began tells past opening journal front commits places waiting v → IsStored o began tells past opening journal front commits places waiting w
+as_faults {o = o} {began = began} {tells = tells} {past = past} {opening = opening} {journal = journal} {front = front} {commits = commits} {places = places} {waiting = waiting} v w same s =
+    subst (λ (x : Option ℕ). IsStored o began tells past opening journal front commits places waiting x) same s
+
+-- what an answer tells, where it is known
+pub ok_tells : {P : Type 0} (r : Result (Unit {0}) JournalRefused) (x : Unit {0}) → r ≡ Ok x → OnOk r P → P
+ok_tells {P = P} r x is h = subst (λ (q : Result (Unit {0}) JournalRefused). OnOk q P) is h
+
+-- what an append leaves
+pub appends : (old new : Stored) (p : Prepared) (r : Result (Unit {0}) JournalRefused) → new.pass ≡ old.pass → new.room ≡ old.room → old.waiting ≡ None → old.faults ≡ None → new.waiting ≡ waiting_after r p → new.faults ≡ faults_after r new.counted
+    → (IsErrOf r journal_refused.DiskFault → HasRisen old.counted new.counted) → OnOk r (new.counted ≡ old.counted) → ((m : ℕ) → IsErrOf r (journal_refused.Full m) → (new.counted ≡ old.counted) × (new.journal_length ≡ old.journal_length)) → IfErr r IsAppendFault → Appends old new p r
+appends old new p (Ok x) pass room none running waits faults risen steady untouched only = (waits, faults, steady)
+appends old new p (Err journal_refused.DiskFault) pass room none running waits faults risen steady untouched only = (faults, risen refl)
+appends old new p (Err (journal_refused.Full m)) pass room none running waits faults risen steady untouched only =
+    let u = untouched m refl in
+    λ i. record { pass = pass i; waiting = (waits ∙ sym none) i; room = room i; faults = (faults ∙ sym running) i; counted = u.0 i; journal_length = u.1 i }
+appends old new p (Err (journal_refused.NotAStore at)) pass room none running waits faults risen steady untouched only = absurd only
+appends old new p (Err (journal_refused.Damaged at)) pass room none running waits faults risen steady untouched only = absurd only
+appends old new p (Err journal_refused.NoMemory) pass room none running waits faults risen steady untouched only = absurd only
+
+pub as_front : {o : Opened} {began : ℕ} {tells : Bool} {past : Past} {opening : Opening} {journal : Journal} {commits places : ℕ} {waiting : Option Prepared} {faults : Option ℕ} (v w : List Event) → v ≡ w
+    → IsStored o began tells past opening journal v commits places waiting faults → IsStored o began tells past opening journal w commits places waiting faults
+as_front {o = o} {began = began} {tells = tells} {past = past} {opening = opening} {journal = journal} {commits = commits} {places = places} {waiting = waiting} {faults = faults} v w same s =
+    subst (λ (x : List Event). IsStored o began tells past opening journal x commits places waiting faults) same s

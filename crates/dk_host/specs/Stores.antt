@@ -1,0 +1,154 @@
+-- What the store behind the commit lock keeps.
+use Rattle.std.specs.Prelude.{◌≡◌, ℕ, ◌<◌, ◌≤◌, ◌^◌, Bool, IsTrue, List, [], ◌∷◌, ◌++◌, length, Option, None, Some, Result, Ok, Err}
+use Rattle.dk_types.specs.Faults.{HasRisen}
+use Rattle.dk_types.specs.declared.event.Event.{Event}
+use Rattle.dk_types.specs.declared.event.Event.TheVariants as event
+use Rattle.dk_types.specs.declared.side.Side.{Side}
+use Rattle.dk_disk.specs.Past.{Past}
+use Rattle.dk_disk.specs.Opening.{Opening, IsOpen}
+use Rattle.dk_model.specs.DurableWorlds.{DurableWorld}
+use Rattle.dk_model.specs.Effects.{after}
+use Rattle.dk_model.specs.Entries.{AreEntries, entries_spelling}
+use Rattle.dk_model.specs.Lawful.{AreLawful}
+use Rattle.dk_model.specs.Legal.{Opened, opening_of, IsLegal, commits_of, world_after}
+use Rattle.dk_model.specs.Recovered.{IsNext}
+use Rattle.dk_model.specs.Retries.{IsFirstStale}
+use Rattle.dk_model.specs.Stores.{StoreHeader}
+use Rattle.dk_model.specs.Tails.{MayCommit, IsTail, IsAfterSomeOrTail}
+use Rattle.dk_journal.specs.declared.journal.Journal.{Journal}
+use Rattle.dk_journal.specs.declared.refused.JournalRefused.{JournalRefused}
+use Rattle.dk_journal.specs.declared.refused.JournalRefused.TheVariants as journal_refused
+use Rattle.dk_journal.specs.Recoveries.{AllRecover, RecoverSince, HeldNeverFalls, IsWorld}
+use Rattle.dk_journal.specs.Stores.{HasStore}
+use Rattle.dk_txn.specs.declared.finished.Finished.{Finished}
+use Rattle.dk_core.specs.declared.claimed.Claimed.{Claimed}
+use Rattle.dk_core.specs.declared.prepared.Prepared.{Prepared}
+use Rattle.dk_core.specs.declared.answers.PrepareRefused.{PrepareRefused}
+use Rattle.dk_core.specs.declared.answers.PrepareRefused.TheVariants as prepare_refused
+use Rattle.dk_core.specs.Changes.{stale_of}
+use Rattle.dk_core.specs.Rooms.{places_of}
+use Rattle.dk_turn.specs.Fronts.{Known}
+use Rattle.dk_host.specs.declared.prepared.PreparedCommit.{PreparedCommit}
+use Rattle.dk_host.specs.Commits.{IsPreparedAt}
+use Rattle.dk_host.specs.Steps.{TellsStep}
+
+-- what contracts see of a store: its pass, the record that waits, how much room is kept, the kept count of faults where it is stopped, the home's count, and the journal's length
+pub record Stored : Type 0 where
+  pub pass : Known Event
+  pub waiting : Option Prepared
+  pub room : ℕ
+  pub faults : Option ℕ
+  pub counted : ℕ
+  pub journal_length : ℕ
+
+abbrev pub stored : Known Event → Option Prepared → ℕ → Option ℕ → ℕ → ℕ → Stored
+stored pass waiting room faults counted journal_length = record { pass = pass; waiting = waiting; room = room; faults = faults; counted = counted; journal_length = journal_length }
+
+-- the commit of a prepared run, as the event that it is
+abbrev pub commit_of : Claimed → Finished → Prepared → Event
+commit_of c f p = event.Commit c.pass c.run p.entry.seq f.outcome
+
+-- THE NEXT COMMIT: after these events all is prepared for it. It may happen there, and leads to the world of its entry, which comes next in the journal and has a spelling that a record can hold
+pub record IsNextCommit (o : Opened) (events : List Event) (claimed : Claimed) (f : Finished) (p : Prepared) : Type 0 where
+  pub prepared : IsPreparedAt o events claimed f p
+  pub tells : TellsStep o events claimed f
+  pub may : MayCommit o events (commit_of claimed f p)
+  pub world : (world_after o (events ++ commit_of claimed f p ∷ [])).durable ≡ after p.entry (world_after o events).durable
+  pub next : IsNext (world_after o events).durable p.entry
+  pub spelled : AreEntries 2 (p.entry ∷ [])
+  pub short : length (entries_spelling (p.entry ∷ [])) < 2 ^ 32
+
+-- the commit of this run comes next, its room is kept, and it is the history's tail
+pub record WaitsFor (o : Opened) (events : List Event) (places : ℕ) (claimed : Claimed) (f : Finished) (p : Prepared) (tail : List Event) : Type 0 where
+  pub next : IsNextCommit o events claimed f p
+  pub kept : places ≡ places_of f.effects
+  pub is_tail : tail ≡ commit_of claimed f p ∷ []
+
+-- the tail is that of the record that waits; there is none where none waits
+abbrev pub Waits : Opened → List Event → ℕ → Option Prepared → List Event → Type 0
+Waits o events places None tail = tail ≡ []
+Waits o events places (Some p) tail = (claimed : Claimed) × ((f : Finished) × WaitsFor o events places claimed f p tail)
+
+-- since this moment each image recovers to the world after some first commits, or after all of them and then the tail's; and what is held does not fall
+pub record HasRecovered (o : Opened) (began : ℕ) (past : Past) (events tail : List Event) : Type 0 where
+  pub begun : began ≤ past.clock
+  pub recovers : RecoverSince (IsAfterSomeOrTail o events tail) began past
+  pub held : HeldNeverFalls began past
+
+-- a store stands on the home's files, and has this world
+pub record HoldsNow (past : Past) (journal : Journal) (d : DurableWorld) : Type 0 where
+  pub side : Side
+  pub header : StoreHeader
+  pub payloads : List (List ℕ)
+  pub store : HasStore past side journal header payloads d
+
+-- What the store keeps: its right counts the commits that its pass has seen; at every moment since this one what a stop leaves recovers to a beginning; and unless it is stopped
+-- the files now recover to the world after all that the pass has seen, followed by the record that waits
+pub record IsStored (o : Opened) (began : ℕ) (tells : Bool) (past : Past) (opening : Opening) (journal : Journal) (front : List Event) (commits places : ℕ) (waiting : Option Prepared) (faults : Option ℕ) : Type 0 where
+  pub lawful : AreLawful o.rules
+  pub legal : IsLegal o front
+  pub counted : commits ≡ commits_of front
+  pub is_open : IsOpen opening
+  pub format : journal.format ≡ 2
+  pub tail : List Event
+  pub waits : Waits o front places waiting tail
+  pub since : IsTrue tells → HasRecovered o began past front tail
+  pub holds : IsTrue tells → faults ≡ None → HoldsNow past journal (world_after o (front ++ tail)).durable
+
+-- what a prepare of the store finds: the commit comes next, and its room is kept; or the first stale read
+abbrev pub FindsNext : Opened → List Event → Claimed → Finished → ℕ → Result PreparedCommit PrepareRefused → Type 0
+FindsNext o events claimed f room (Ok c) = IsNextCommit o events claimed f c.prepared × (room ≡ places_of f.effects)
+FindsNext o events claimed f room (Err (prepare_refused.Retry changed)) = IsFirstStale o.rules (opening_of o) events f.reads.items (stale_of changed)
+FindsNext o events claimed f room (Err prepare_refused.NoMemory) = Unit {0}
+
+-- the same of what a look finds, before its record is spelled
+abbrev pub LooksNext : Opened → List Event → Claimed → Finished → ℕ → Result Prepared PrepareRefused → Type 0
+LooksNext o events claimed f room (Ok p) = IsNextCommit o events claimed f p × (room ≡ places_of f.effects)
+LooksNext o events claimed f room (Err (prepare_refused.Retry changed)) = IsFirstStale o.rules (opening_of o) events f.reads.items (stale_of changed)
+LooksNext o events claimed f room (Err prepare_refused.NoMemory) = Unit {0}
+
+-- the commit of some run comes next, and its room is kept
+abbrev pub IsReady : Opened → Stored → Prepared → Type 0
+IsReady o s p = (claimed : Claimed) × ((f : Finished) × (IsNextCommit o s.pass.front claimed f p × (s.room ≡ places_of f.effects)))
+
+-- the record of this run's commit waits
+abbrev pub WaitsOf : Opened → Stored → Claimed → Finished → Type 0
+WaitsOf o s claimed f = (p : Prepared) × ((s.waiting ≡ Some p) × (IsNextCommit o s.pass.front claimed f p × (s.room ≡ places_of f.effects)))
+
+-- what an append leaves: at Ok the record waits; a full journal changes nothing; a fault of the disk stops the store, with its count
+abbrev pub Appends : Stored → Stored → Prepared → Result (Unit {0}) JournalRefused → Type 0
+Appends old new p (Ok done) = (new.waiting ≡ Some p) × (new.faults ≡ None) × (new.counted ≡ old.counted)
+Appends old new p (Err journal_refused.DiskFault) = (new.faults ≡ Some new.counted) × HasRisen old.counted new.counted
+Appends old new p (Err (journal_refused.Full n)) = new ≡ old
+Appends old new p (Err (journal_refused.NotAStore at)) = ⊥
+Appends old new p (Err (journal_refused.Damaged at)) = ⊥
+Appends old new p (Err journal_refused.NoMemory) = ⊥
+
+-- what waits after an append, and the kept count where the disk failed
+abbrev pub waiting_after : Result (Unit {0}) JournalRefused → Prepared → Option Prepared
+waiting_after (Ok done) p = Some p
+waiting_after (Err journal_refused.DiskFault) p = Some p
+waiting_after (Err (journal_refused.Full n)) p = None
+waiting_after (Err (journal_refused.NotAStore at)) p = None
+waiting_after (Err (journal_refused.Damaged at)) p = None
+waiting_after (Err journal_refused.NoMemory) p = None
+
+abbrev pub faults_after : Result (Unit {0}) JournalRefused → ℕ → Option ℕ
+faults_after (Ok done) n = None
+faults_after (Err journal_refused.DiskFault) n = Some n
+faults_after (Err (journal_refused.Full m)) n = None
+faults_after (Err (journal_refused.NotAStore at)) n = None
+faults_after (Err (journal_refused.Damaged at)) n = None
+faults_after (Err journal_refused.NoMemory) n = None
+
+-- HOW A HOST ENDS: at every moment since this one what a stop leaves recovers to the world after some first commits of the history, or after all of them and then the tail's, and what
+-- is held does not fall. Unless the store was stopped, the files now recover to the world after all events. No commit came since the tail was looked for
+pub record EndsAs (o : Opened) (began : ℕ) (past : Past) (events : List Event) (faults : Option ℕ) : Type 0 where
+  pub front : List Event
+  pub later : List Event
+  pub tail : List Event
+  pub all : events ≡ front ++ later
+  pub none : commits_of later ≡ 0
+  pub is_tail : IsTail o front tail
+  pub since : HasRecovered o began past front tail
+  pub now : faults ≡ None → AllRecover (IsWorld (world_after o events).durable) past past.clock

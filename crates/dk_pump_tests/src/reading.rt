@@ -1,0 +1,162 @@
+//! Clients' streams, and how their sessions end.
+
+use crate::hosting::two_sessions;
+use dk_edge::MemorySource;
+use dk_frame::FrameFault::{Field, Length, Opcode};
+use dk_pump::{BadFrame, SessionEnd};
+use std::alloc::Global;
+use std::test::*;
+
+// A stream, and how its session ends.
+struct Row(&'static [u8], SessionEnd);
+
+// alice logs in.
+const LOGIN: &[u8] = b"\x00\x00\x00\x07\x01\x05alice";
+
+// She looks and logs out.
+const SESSION: &[u8] = b"\x00\x00\x00\x07\x01\x05alice\x00\x00\x00\x05\x02look\x00\x00\x00\x01\x04";
+
+const ROWS: [Row; 17] = [
+    Row(b"", SessionEnd::End { at: 0 }),
+    Row(b"\x00", SessionEnd::Truncated { at: 0 }),
+    Row(b"\x00\x00\x00", SessionEnd::Truncated { at: 0 }),
+    Row(
+        b"\x00\x00\x00\x00",
+        SessionEnd::Bad(BadFrame { at: 0, why: Length }),
+    ),
+    Row(
+        b"\x00\x10\x01\x02",
+        SessionEnd::Bad(BadFrame { at: 0, why: Length }),
+    ),
+    Row(
+        b"\x00\x00\x00\x01\x02",
+        SessionEnd::Bad(BadFrame { at: 0, why: Opcode }),
+    ),
+    Row(
+        b"\x00\x00\x00\x01\x81",
+        SessionEnd::Bad(BadFrame { at: 0, why: Opcode }),
+    ),
+    Row(
+        b"\x00\x00\x00\x02\x01\x00",
+        SessionEnd::Bad(BadFrame { at: 0, why: Field }),
+    ),
+    Row(
+        b"\x00\x00\x00\x03\x01\x01\xFF",
+        SessionEnd::Bad(BadFrame { at: 0, why: Field }),
+    ),
+    Row(LOGIN, SessionEnd::End { at: 11 }),
+    Row(
+        b"\x00\x00\x00\x07\x01\x05alice\x00\x00\x00\x07\x01",
+        SessionEnd::Bad(BadFrame {
+            at: 11,
+            why: Opcode,
+        }),
+    ),
+    Row(
+        b"\x00\x00\x00\x07\x01\x05alice\x00\x00\x00\x02\x04\x00",
+        SessionEnd::Bad(BadFrame { at: 11, why: Field }),
+    ),
+    Row(
+        b"\x00\x00\x00\x07\x01\x05alice\x00\x00\x00\x05\x02lo",
+        SessionEnd::Truncated { at: 11 },
+    ),
+    // A whole frame is posted before the bad one behind it is told.
+    Row(
+        b"\x00\x00\x00\x07\x01\x05alice\x00\x00\x00\x05\x02look\x00\x00\x00\x00",
+        SessionEnd::Bad(BadFrame {
+            at: 20,
+            why: Length,
+        }),
+    ),
+    Row(
+        b"\x00\x00\x00\x07\x01\x05alice\x00\x00\x00\x05\x02look",
+        SessionEnd::End { at: 20 },
+    ),
+    Row(SESSION, SessionEnd::Logout),
+    // Bytes behind a logout are not looked at.
+    Row(
+        b"\x00\x00\x00\x07\x01\x05alice\x00\x00\x00\x01\x04\x00\x00\x00\x00",
+        SessionEnd::Logout,
+    ),
+];
+
+// A source of these bytes, in pieces of so many at most.
+fn source(
+    alloc: Global,
+    bytes: &[u8],
+    piece: usize,
+    failing: &[u64],
+) -> Result<MemorySource, Fail> {
+    Ok(MemorySource::in_pieces(
+        Vec::from_slice(alloc, bytes)?,
+        Vec::from_slice(alloc, failing)?,
+        piece.max(1),
+    ))
+}
+
+#[test]
+fn a_stream_ends_its_session_in_any_pieces(rt: HostRuntime) -> Result<(), Fail> {
+    let alloc = rt.alloc();
+    for Row(stream, end) in &ROWS {
+        for piece in [1, 1_000] {
+            let first = source(alloc, stream, piece, &[])?;
+            let second = source(alloc, SESSION, piece, &[])?;
+            let (one, other) = two_sessions(&rt, alloc, first, second)?;
+            assert_eq!(rt; one, *end, "{stream:?} in pieces of {piece}");
+            assert_eq!(rt; other, SessionEnd::Logout);
+        }
+    }
+    Ok(())
+}
+
+#[test]
+fn a_source_that_fails_ends_its_session_alone(rt: HostRuntime) -> Result<(), Fail> {
+    let alloc = rt.alloc();
+    for failing in 1..=25 {
+        let first = source(alloc, SESSION, 1, &[failing])?;
+        let second = source(alloc, SESSION, 1, &[])?;
+        let (one, other) = two_sessions(&rt, alloc, first, second)?;
+        assert_eq!(rt; one, SessionEnd::ReadFault, "at call {failing}");
+        assert_eq!(rt; other, SessionEnd::Logout);
+    }
+    Ok(())
+}
+
+#[test]
+fn a_session_floods_its_queue(rt: HostRuntime) -> Result<(), Fail> {
+    let alloc = rt.alloc();
+    // The login waits too, so the last of these has no place.
+    for (count, end) in [
+        (1_023, SessionEnd::End { at: 5_126 }),
+        (1_024, SessionEnd::Flood { waiting: 1_024 }),
+    ] {
+        let mut stream = Vec::from_slice(alloc, LOGIN)?;
+        for _ in 0..count {
+            stream.extend_from_slice(b"\x00\x00\x00\x01\x02")?;
+        }
+        for piece in [1, 100_000] {
+            let first = source(alloc, stream.as_slice(), piece, &[])?;
+            let second = source(alloc, SESSION, piece, &[])?;
+            let (one, other) = two_sessions(&rt, alloc, first, second)?;
+            assert_eq!(rt; one, end, "{count} messages in pieces of {piece}");
+            assert_eq!(rt; other, SessionEnd::Logout);
+        }
+    }
+    Ok(())
+}
+
+#[test]
+fn a_body_that_is_too_long_is_bad(rt: HostRuntime) -> Result<(), Fail> {
+    let alloc = rt.alloc();
+    let mut stream = Vec::from_slice(alloc, LOGIN)?;
+    stream.extend_from_slice(b"\x00\x10\x00\x02\x02")?;
+    for _ in 0..1_048_577 {
+        stream.push(0)?;
+    }
+    let first = source(alloc, stream.as_slice(), 100_000, &[])?;
+    let second = source(alloc, SESSION, 1, &[])?;
+    let (one, other) = two_sessions(&rt, alloc, first, second)?;
+    assert_eq!(rt; one, SessionEnd::Bad(BadFrame { at: 11, why: Field }));
+    assert_eq!(rt; other, SessionEnd::Logout);
+    Ok(())
+}
