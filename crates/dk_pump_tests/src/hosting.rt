@@ -1,15 +1,19 @@
 //! A host of a test's own, and two sessions on it.
-ghost use Rattle.std.specs.Prelude.{◌≡◌, IfOk};
+ghost use Rattle.std.specs.Prelude.{◌≡◌, ◌<◌, IfOk};
+ghost use Rattle.dk_disk.specs.Opening.{IsOpen};
 ghost use Rattle.dk_model.specs.Validity.{IsValid};
 ghost use Rattle.dk_core.specs.Listings.{world_of};
 ghost use Rattle.dk_pump_tests.specs.Hosts.{opened_on};
 
+use crate::quiet_home::QuietHome;
+use dk_disk::{Home, MemoryHome};
 use dk_edge::{MemorySink, MemorySource};
 use dk_frame::Decoder;
 use dk_host::{Host, Hosting, WorldBook};
+use dk_journal::Journal;
 use dk_pump::{SessionEnd, WriteEnd, greet, read_session, write_session};
 use dk_turn::{Blank, Naming, Pass};
-use dk_types::{ConnNo, Durable, Listed};
+use dk_types::{ConnNo, Durable, Listed, Side};
 use std::alloc::Global;
 use std::marker::Brand;
 use std::sync::{Wait, ledger};
@@ -22,8 +26,11 @@ pub(crate) fn two_sessions<R: Wait>(
     first: MemorySource,
     second: MemorySource,
 ) -> Result<(SessionEnd, SessionEnd), Fail> {
+    let home = open_home(alloc)?;
     let durable = nothing(alloc);
-    on_ledger::<Brand, R>(rt, alloc, ledger::Blank::new(1), durable, first, second)
+    let commits = ledger::Blank::new(1);
+    let places = ledger::Blank::new(1);
+    on_ledgers::<Brand, R>(rt, alloc, commits, places, home, durable, first, second)
 }
 
 fn nothing(alloc: Global) -> Durable
@@ -38,39 +45,66 @@ fn nothing(alloc: Global) -> Durable
     }
 }
 
-fn on_ledger<W: Hosting, R: Wait>(
+// A home that is open. No job is run on it, so nothing is written there.
+fn open_home(alloc: Global) -> Result<QuietHome, Fail>
+    ensures { IfOk result (λ home. IsOpen home.inner.opening) }
+{
+    let none = Vec::new(alloc);
+    let inner = MemoryHome::new(alloc, Vec::new(alloc), Vec::new(alloc), none, false);
+    let mut home = QuietHome { inner };
+    if home.open("store").is_err() {
+        return Err(Fail::from("a home"));
+    }
+    Ok(home)
+}
+
+fn on_ledgers<W: Hosting, R: Wait>(
     rt: &R,
     alloc: Global,
-    counter: ledger::Blank,
+    commits: ledger::Blank,
+    places: ledger::Blank,
+    home: QuietHome,
     durable: Durable,
     first: MemorySource,
     second: MemorySource,
 ) -> Result<(SessionEnd, SessionEnd), Fail>
-    requires ledger { (counter.name ≡ W.ledger) × (counter.parts ≡ W.parts) }
+    requires commits { (commits.name ≡ W.commits) × (commits.parts ≡ 1) }
+    requires places { (places.name ≡ W.places) × (places.parts ≡ 1) }
+    requires home { IsOpen home.inner.opening }
     requires valid { IsValid (world_of durable) }
     requires opened { W.opened ≡ opened_on durable }
 {
-    let Ok(blank) = Blank::new(alloc, 1) else {
+    let Ok(blank) = Blank::new(alloc, 2) else {
         return Err(Fail::from("a turn"));
     };
-    on_host::<W, Brand, R>(rt, alloc, blank, counter, durable, first, second)
+    on_host::<W, Brand, R>(
+        rt, alloc, blank, commits, places, home, durable, first, second,
+    )
 }
 
 fn on_host<W: Hosting, J: Naming, R: Wait>(
     rt: &R,
     alloc: Global,
     blank: Blank<WorldBook<W>>,
-    counter: ledger::Blank,
+    commits: ledger::Blank,
+    places: ledger::Blank,
+    home: QuietHome,
     durable: Durable,
     first: MemorySource,
     second: MemorySource,
 ) -> Result<(SessionEnd, SessionEnd), Fail>
     requires name { blank ≡ J.name }
-    requires ledger { (counter.name ≡ W.ledger) × (counter.parts ≡ W.parts) }
+    requires passes { 0 < J.name.passes }
+    requires commits { (commits.name ≡ W.commits) × (commits.parts ≡ 1) }
+    requires places { (places.name ≡ W.places) × (places.parts ≡ 1) }
+    requires home { IsOpen home.inner.opening }
     requires valid { IsValid (world_of durable) }
     requires opened { W.opened ≡ opened_on durable }
 {
-    let opened = Host::<W, J>::open(alloc, blank, counter, durable, None);
+    let journal = Journal::standing(Side::Zero, 0, 65);
+    let opened = Host::<W, J, QuietHome>::open(
+        alloc, blank, commits, places, home, journal, durable, None,
+    );
     let Ok((host, mut passes)) = opened else {
         return Err(Fail::from("a host"));
     };
@@ -81,10 +115,10 @@ fn on_host<W: Hosting, J: Naming, R: Wait>(
     Ok((one, other))
 }
 
-fn session<W: Hosting, J: Naming, R: Wait>(
+fn session<W: Hosting, J: Naming, M: Home, R: Wait>(
     rt: &R,
     alloc: Global,
-    host: &Host<W, J>,
+    host: &Host<W, J, M>,
     pass: &mut Pass<WorldBook<W>, J>,
     mut source: MemorySource,
 ) -> SessionEnd {
@@ -96,10 +130,10 @@ fn session<W: Hosting, J: Naming, R: Wait>(
 }
 
 // Of a connection that is not there nothing is written.
-fn gone<W: Hosting, J: Naming, R: Wait>(
+fn gone<W: Hosting, J: Naming, M: Home, R: Wait>(
     rt: &R,
     alloc: Global,
-    host: &Host<W, J>,
+    host: &Host<W, J, M>,
     pass: &mut Pass<WorldBook<W>, J>,
 ) -> Result<(), Fail> {
     let mut sink = MemorySink::new(alloc, Vec::new(alloc));

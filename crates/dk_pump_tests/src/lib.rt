@@ -7,4 +7,6 @@
 #[cfg(test)]
 mod hosting;
 #[cfg(test)]
+mod quiet_home;
+#[cfg(test)]
 mod reading;
