@@ -1,10 +1,9 @@
-//! Tests of names, fields as bytes, records, scripts, transcripts and command lines, as rows.
+//! Tests of names, fields as bytes, records, scripts and transcripts, as rows.
 //!
 //! Each section of the standard input has rows of calls on values; what a row reads and does not say stands in the rows before it.
 //! The program proves nothing but that it is safe, and that the worked format of `scores` is exact.
 #![tactic(auto)]
 
-mod commands;
 mod events;
 mod fields;
 mod payloads;
@@ -37,7 +36,6 @@ impl Subject for Desk {
                 Some(String::new(alloc))
             }
             "transcript" => scripts::transcript(alloc, self.events.as_slice(), call.number()?),
-            "command" => commands::command(alloc, call),
             "put" => fields::put(alloc, call),
             "take" => fields::take(alloc, self.bytes.as_slice(), call),
             "read" => payloads::read(alloc, self.bytes.as_slice(), call),
