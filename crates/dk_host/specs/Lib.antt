@@ -1,6 +1,7 @@
 pub mod Openings
 pub mod Books
 pub mod Calls
+pub mod Passes
 pub mod Commits
 pub mod Steps
 pub mod Stores
