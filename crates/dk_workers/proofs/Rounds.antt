@@ -9,10 +9,12 @@ use Rattle.dk_types.specs.declared.event.Event.TheVariants as event
 use Rattle.dk_model.specs.Legal.{Opened, IsLegal, pass_of}
 use Rattle.dk_core.specs.declared.claimed.Claimed.{Claimed}
 use Rattle.dk_turn.specs.Fronts.{Known}
-use Rattle.dk_host.specs.Calls.{Entered}
+use Rattle.dk_core.specs.declared.answers.ClaimRefused.{ClaimRefused}
+use Rattle.dk_core.specs.declared.answers.ClaimRefused.TheVariants as claim_refused
+use Rattle.dk_host.specs.Calls.{Entered, claim_events}
 use Rattle.dk_host.specs.Passes.{Enters}
 use Rattle.dk_host.proofs.Entering.{enters_none, enters_one, enters_then, enters_as}
-use Rattle.dk_workers.specs.Refused.{HasCause}
+use Rattle.dk_workers.specs.Refused.{HasCause, unclaimed_by}
 use Rattle.dk_workers.specs.Tries.{EndsClaim}
 use Rattle.dk_workers.specs.Working.{claim_of, commit_of}
 use Rattle.dk_workers.specs.Workers.{committed, EndsBy, EndsWithClaim, EndsWithRelease, HasWorked, Works, WorksNext}
@@ -67,12 +69,15 @@ module _ (o : Opened) (count : ℕ) where
   pub claim_last : (pass : ℕ) (answer : ClaimReply) (old new : List Event) → Entered o pass (event.Claim pass answer ∷ []) old new → EndsWithClaim pass answer (event.Claim pass answer ∷ []) new
   claim_last pass answer old new e = record { claim = refl; before = e.before; last = e.front }
 
+  -- so where nothing was granted
+  pub unclaimed_ends : (pass : ℕ) (refused : ClaimRefused) (old new : List Event) → Entered o pass (claim_events pass (Err refused)) old new → EndsBy o pass (unclaimed_by refused) (claim_events pass (Err refused)) new
+  unclaimed_ends pass (claim_refused.Spent granted) old new e = claim_last pass (reply.Spent granted) old new e
+  unclaimed_ends pass (claim_refused.Exhausted next) old new e = claim_last pass (reply.Exhausted next) old new e
+  unclaimed_ends pass claim_refused.NoMemory old new e = inl refl
+
   -- a claim that was granted, and what was done of it
   module _ (p m q : Known Event) (c : Claimed) (m_is : m.number ≡ p.number) (q_is : q.number ≡ m.number) (claim : Entered o p.number (event.Claim p.number (reply.Granted c.run c.at c.job) ∷ []) p.front m.front)
     (m_named : All (λ e. pass_of e < count) m.front) (q_named : All (λ e. pass_of e < count) q.front) where
-    both : Event → List Event
-    both e = event.Claim p.number (reply.Granted c.run c.at c.job) ∷ e ∷ []
-
     enters_both : (e : Event) → Entered o p.number (e ∷ []) m.front q.front → Enters o count p.number (event.Claim p.number (reply.Granted c.run c.at c.job) ∷ e ∷ []) p.front q.front
     enters_both e h = enters_then o count p.number (event.Claim p.number (reply.Granted c.run c.at c.job) ∷ []) (e ∷ []) p.front m.front q.front (enters_one o count p.number _ p.front m.front claim m_named) (enters_one o count p.number _ m.front q.front h q_named)
 

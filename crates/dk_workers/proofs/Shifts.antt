@@ -32,17 +32,17 @@ first_of_both (worked.NoMemory ∷ xs) ys = refl
 
 module _ (o : Opened) (count : ℕ) where
   pub work_none : WorkAll o count worked.Idle [] []
-  work_none = record { shifts = []; olds = refl; news = refl; each = All-nil (λ (s : Shift). Works o count s.end s.old s.new); first = refl }
+  work_none = record { shifts = []; before = refl; after = refl; each = All-nil (λ (s : Shift). Works o count s.end s.old s.new); first = refl }
 
   pub work_one : (end : Worked) (old new : Known Event) → Works o count end old new → WorkAll o count end (old ∷ []) (new ∷ [])
-  work_one end old new h = record { shifts = record { old = old; new = new; end = end } ∷ []; olds = refl; news = refl; each = All-cons (λ (s : Shift). Works o count s.end s.old s.new) (record { old = old; new = new; end = end }) [] h (All-nil (λ (s : Shift). Works o count s.end s.old s.new)); first = sym (first_alone end) }
+  work_one end old new h = record { shifts = record { old = old; new = new; end = end } ∷ []; before = refl; after = refl; each = All-cons (λ (s : Shift). Works o count s.end s.old s.new) (record { old = old; new = new; end = end }) [] h (All-nil (λ (s : Shift). Works o count s.end s.old s.new)); first = sym (first_alone end) }
 
   -- two rows of passes
   pub work_both : (one other : Worked) (a b c d : List (Known Event)) → WorkAll o count one a c → WorkAll o count other b d → WorkAll o count (first_of (one ∷ other ∷ [])) (a ++ b) (c ++ d)
   work_both one other a b c d f g = record {
     shifts = f.shifts ++ g.shifts;
-    olds = ap₂ ◌++◌ f.olds g.olds ∙ sym (map-append (λ (s : Shift). s.old) f.shifts g.shifts);
-    news = ap₂ ◌++◌ f.news g.news ∙ sym (map-append (λ (s : Shift). s.new) f.shifts g.shifts);
+    before = ap₂ ◌++◌ f.before g.before ∙ sym (map-append (λ (s : Shift). s.old) f.shifts g.shifts);
+    after = ap₂ ◌++◌ f.after g.after ∙ sym (map-append (λ (s : Shift). s.new) f.shifts g.shifts);
     each = All-append (λ (s : Shift). Works o count s.end s.old s.new) f.shifts g.shifts f.each g.each;
     first = ap₂ (λ x y. first_of (x ∷ y ∷ [])) f.first g.first ∙ (sym (first_of_both (map (λ (s : Shift). s.end) f.shifts) (map (λ (s : Shift). s.end) g.shifts)) ∙ ap first_of (sym (map-append (λ (s : Shift). s.end) f.shifts g.shifts)));
   }

@@ -1,10 +1,12 @@
--- Why a claim is given back.
+-- Why no claim was granted, and why one is given back.
 use Rattle.std.specs.Prelude.{List, Option, Some, None}
 use mathlib.Core.List.{IsPrefix}
 use Rattle.dk_types.specs.declared.event.Event.{Event}
 use Rattle.dk_model.specs.Legal.{Opened}
 use Rattle.dk_txn.specs.declared.finished.Finished.{Finished}
 use Rattle.dk_core.specs.declared.claimed.Claimed.{Claimed}
+use Rattle.dk_core.specs.declared.answers.ClaimRefused.{ClaimRefused}
+use Rattle.dk_core.specs.declared.answers.ClaimRefused.TheVariants as claim_refused
 use Rattle.dk_host.specs.Calls.{IsHonestAt}
 use Rattle.dk_host.specs.Refusals.{IsCauseAt}
 use Rattle.dk_host.specs.declared.refused.Why.{Why}
@@ -37,3 +39,9 @@ end_by (why.Stopped faults) = Some (worked.Stopped faults)
 end_by (why.JournalFull length) = Some (worked.JournalFull length)
 end_by why.DiskFault = Some worked.DiskFault
 end_by why.NoMemory = Some worked.NoMemory
+
+-- the answer of a worker to which no claim was granted
+abbrev pub unclaimed_by : ClaimRefused → Worked
+unclaimed_by (claim_refused.Spent granted) = worked.Spent granted
+unclaimed_by (claim_refused.Exhausted next) = worked.Exhausted next
+unclaimed_by claim_refused.NoMemory = worked.NoMemory

@@ -85,7 +85,7 @@ first_of ends = unwrap_or (find (λ end. not (is_idle end)) ends) worked.Idle
 -- each pass had one worker, and the answer is the first of theirs that is not Idle, or Idle
 pub record WorkAll (o : Opened) (count : ℕ) (end : Worked) (olds news : List (Known Event)) : Type 0 where
   pub shifts : List Shift
-  pub olds : olds ≡ map (λ (s : Shift). s.old) shifts
-  pub news : news ≡ map (λ (s : Shift). s.new) shifts
+  pub before : olds ≡ map (λ (s : Shift). s.old) shifts
+  pub after : news ≡ map (λ (s : Shift). s.new) shifts
   pub each : All (λ (s : Shift). Works o count s.end s.old s.new) shifts
   pub first : end ≡ first_of (map (λ (s : Shift). s.end) shifts)

@@ -1,6 +1,6 @@
 //! Workers in threads of their own, one for each pass.
-ghost use Rattle.std.specs.Prelude.{◌≡◌, [], ◌∷◌};
-ghost use Rattle.std.specs.Thread.{IsSync};
+ghost use Rattle.std.specs.Prelude.{◌≡◌, ◌<◌, [], ◌∷◌, ◌++◌, length};
+ghost use Rattle.std.specs.Thread.{IsSend, IsSync};
 ghost use Rattle.dk_workers.specs.Workers.{WorkAll, first_of};
 
 use crate::gate::Gate;
@@ -34,11 +34,12 @@ pub fn work_all<
     requires rules { W.opened.rules ≡ G.rules game.now }
     ensures work { WorkAll W.opened J.name.passes result passes.old passes.new }
 {
-    work_from(rt, alloc, host, game, gate, 0, passes)
+    work_from(rt, &alloc, host, game, gate, 0, passes)
 }
 
 // The same, where the worker of the first pass has this number. The passes are halved at each step, and one half goes to a
 // new thread.
+#[cycle(halves)]
 fn work_from<
     G: Game + Sync,
     W: Hosting + Send + Sync,
@@ -48,7 +49,7 @@ fn work_from<
     R: Threads + Wait + Sync,
 >(
     rt: &R,
-    alloc: Global,
+    alloc: &Global,
     host: &Host<W, J, M>,
     game: &G,
     gate: &T,
@@ -62,22 +63,47 @@ fn work_from<
         return Worked::Idle;
     }
     if passes.len() == 1 {
-        return work(rt, alloc, host, &mut passes[0], game, gate, first);
+        return work(rt, *alloc, host, &mut passes[0], game, gate, first);
     }
     let (front, back) = passes.split_at_mut(passes.len() / 2);
     let next = numbered(first, front.len());
-    let (one, other) = join_mut(
-        rt,
-        &mut || -> Worked
-            requires { IsSync R.row × IsSync G.row × IsSync T.row × (W.opened.rules ≡ G.rules game.now) }
-            ensures { WorkAll W.opened J.name.passes result front.entry.now front.exit.now }
-        { work_from(rt, alloc, host, game, gate, first, front) },
-        &mut || -> Worked
-            requires { IsSync R.row × IsSync G.row × IsSync T.row × (W.opened.rules ≡ G.rules game.now) }
-            ensures { WorkAll W.opened J.name.passes result back.entry.now back.exit.now }
-        { work_from(rt, alloc, host, game, gate, next, back) },
-    );
-    first_end(one, other)
+    work_halves(rt, alloc, host, game, gate, first, front, next, back)
+}
+
+// The same of both halves, each with the number of its first worker.
+#[cycle(halves)]
+fn work_halves<
+    G: Game + Sync,
+    W: Hosting + Send + Sync,
+    J: Naming + Send + Sync,
+    M: Home + Send,
+    T: Gate + Sync,
+    R: Threads + Wait + Sync,
+>(
+    rt: &R,
+    alloc: &Global,
+    host: &Host<W, J, M>,
+    game: &G,
+    gate: &T,
+    first: u32,
+    front: &mut [Pass<WorldBook<W>, J>],
+    next: u32,
+    back: &mut [Pass<WorldBook<W>, J>],
+) -> Worked
+    requires rules { W.opened.rules ≡ G.rules game.now }
+    requires some { (0 < length front.old) × (0 < length back.old) }
+    ensures work { WorkAll W.opened J.name.passes result (front.old ++ back.old) (front.new ++ back.new) }
+{
+    let mut one = || -> Worked
+        requires { IsSync R.row × IsSync G.row × IsSend W.row × IsSync W.row × IsSend J.row × IsSync J.row × IsSend M.row × IsSync T.row × (W.opened.rules ≡ G.rules game.now) }
+        ensures { WorkAll W.opened J.name.passes result front.entry.now front.exit.now }
+    { work_from(rt, alloc, host, game, gate, first, front) };
+    let mut other = || -> Worked
+        requires { IsSync R.row × IsSync G.row × IsSend W.row × IsSync W.row × IsSend J.row × IsSync J.row × IsSend M.row × IsSync T.row × (W.opened.rules ≡ G.rules game.now) }
+        ensures { WorkAll W.opened J.name.passes result back.entry.now back.exit.now }
+    { work_from(rt, alloc, host, game, gate, next, back) };
+    let (first_answer, other_answer) = join_mut(rt, &mut one, &mut other);
+    first_end(first_answer, other_answer)
 }
 
 // The number that lies so many behind.

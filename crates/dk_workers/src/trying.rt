@@ -73,7 +73,7 @@ fn after_refusal<W: Hosting, J: Naming, M: Home, R: Wait>(
     ensures named { All (λ e. pass_of e < J.name.passes) pass.new.front }
 {
     let CommitRefused { claimed, why } = refused;
-    match end_of(&why) {
+    match end_of(why) {
         None => Tried::Again(claimed),
         Some(end) => {
             host.release(rt, pass, claimed);
@@ -83,13 +83,13 @@ fn after_refusal<W: Hosting, J: Naming, M: Home, R: Wait>(
 }
 
 // The end of a worker whose commit was refused. None where the job is to be run again.
-fn end_of(why: &Why) -> Option<Worked>
-    ensures { result ≡ end_by why.now }
+fn end_of(why: Why) -> Option<Worked>
+    ensures { result ≡ end_by why }
 {
     match why {
         Why::Retry { .. } => None,
-        Why::Stopped { faults } => Some(Worked::Stopped { faults: *faults }),
-        Why::JournalFull { length } => Some(Worked::JournalFull { length: *length }),
+        Why::Stopped { faults } => Some(Worked::Stopped { faults }),
+        Why::JournalFull { length } => Some(Worked::JournalFull { length }),
         Why::DiskFault => Some(Worked::DiskFault),
         Why::NoMemory => Some(Worked::NoMemory),
     }

@@ -3,6 +3,7 @@ ghost use Rattle.std.specs.Prelude.{◌≡◌, ◌<◌};
 ghost use Rattle.std.specs.List.{All};
 ghost use Rattle.dk_model.specs.Legal.{pass_of};
 ghost use Rattle.dk_host.specs.Calls.{IsClaimOf};
+ghost use Rattle.dk_workers.specs.Refused.{unclaimed_by};
 ghost use Rattle.dk_workers.specs.Tries.{EndsClaim};
 ghost use Rattle.dk_workers.specs.Workers.{WorksNext, Works};
 
@@ -55,9 +56,18 @@ fn work_next<G: Game, W: Hosting, J: Naming, M: Home, T: Gate, R: Wait>(
     match host.claim(rt, pass) {
         Ok(Some(claimed)) => end_claimed(rt, alloc, host, pass, game, gate, worker, claimed),
         Ok(None) => Err(Worked::Idle),
-        Err(ClaimRefused::Spent { granted }) => Err(Worked::Spent { granted }),
-        Err(ClaimRefused::Exhausted { next }) => Err(Worked::Exhausted { next }),
-        Err(ClaimRefused::NoMemory) => Err(Worked::NoMemory),
+        Err(refused) => Err(unclaimed(refused)),
+    }
+}
+
+// The end of a worker to which nothing was granted.
+fn unclaimed(refused: ClaimRefused) -> Worked
+    ensures { result ≡ unclaimed_by refused }
+{
+    match refused {
+        ClaimRefused::Spent { granted } => Worked::Spent { granted },
+        ClaimRefused::Exhausted { next } => Worked::Exhausted { next },
+        ClaimRefused::NoMemory => Worked::NoMemory,
     }
 }
 
