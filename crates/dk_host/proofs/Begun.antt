@@ -11,10 +11,10 @@ use Rattle.dk_journal.specs.declared.journal.Journal.{Journal}
 use Rattle.dk_host.specs.Stores.{HasRecovered, HoldsNow, IsStored}
 
 -- it stands on the opened world, and its pass has seen nothing
-pub store_begins : (o : Opened) (began : ℕ) (tells : Bool) (past : DiskHistory) (opens : Opening) (journal : Journal) (front : List Event) (commits places : ℕ) → AreLawful o.rules → IsValid o.durable → front ≡ [] → commits ≡ 0 → IsOpen opens → journal.format ≡ 2
-    → (IsTrue tells → HoldsNow past journal o.durable) → (IsTrue tells → HasRecovered o began past [] []) → IsStored o began tells past opens journal front commits places None None
+pub store_begins : (o : Opened) (began : ℕ) (tells : Bool) (past : DiskHistory) (opens : Opening) (game : List ℕ) (journal : Journal) (front : List Event) (commits places : ℕ) → AreLawful o.rules → IsValid o.durable → front ≡ [] → commits ≡ 0 → IsOpen opens → journal.format ≡ 2
+    → (IsTrue tells → HoldsNow past game journal o.durable) → (IsTrue tells → HasRecovered o began past [] []) → IsStored o began tells past opens game journal front commits places None None
 unfolding opening
-store_begins o began tells past opens journal front commits places lawful valid none zero_commits is_open format holds since = record {
+store_begins o began tells past opens game journal front commits places lawful valid none zero_commits is_open format holds since = record {
   lawful = lawful;
   legal = subst (IsLegal o) (sym none) (record { valid = valid; within = tt; history = record { last = opening_of o; leads = refl } });
   counted = zero_commits ∙ sym (ap commits_of none);
@@ -23,5 +23,5 @@ store_begins o began tells past opens journal front commits places lawful valid 
   tail = [];
   waits = refl;
   since = λ h. subst (λ (es : List Event). HasRecovered o began past es []) (sym none) (since h);
-  holds = λ h running. subst (HoldsNow past journal) (ap (λ (es : List Event). (world_after o (es ++ [])).durable) (sym none)) (holds h);
+  holds = λ h running. subst (HoldsNow past game journal) (ap (λ (es : List Event). (world_after o (es ++ [])).durable) (sym none)) (holds h);
 }

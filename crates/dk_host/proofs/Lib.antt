@@ -11,3 +11,5 @@ pub mod Refusing
 pub mod Begun
 pub mod Dealing
 pub mod Ended
+pub mod Copying
+pub mod Rewriting

@@ -1,5 +1,5 @@
 //! The host: how it is opened and closed.
-ghost use Rattle.std.specs.Prelude.{◌≡◌, ◌<◌, ◌-◌, [], IfOk, IfErr, IsTrue};
+ghost use Rattle.std.specs.Prelude.{◌≡◌, ◌<◌, ◌≤◌, ◌-◌, [], IfOk, IfErr, IsTrue};
 ghost use Rattle.std.specs.List.{All};
 ghost use Rattle.std.specs.FinMap as map;
 ghost use Rattle.dk_model.specs.Lawful.{AreLawful};
@@ -19,7 +19,7 @@ use dk_core::Core;
 use dk_disk::Home;
 use dk_journal::Journal;
 use dk_turn::{Blank, GhostList, Naming, Pass, Turn};
-use dk_types::{Durable, Event};
+use dk_types::{Durable, Event, GameId, Side};
 use std::alloc::Global;
 use std::sync::{Mutex, ledger};
 
@@ -47,6 +47,10 @@ pub struct Closed<M> {
     pub events: GhostList<Event>,
     pub commits: u64,
     pub tasks: u64,
+    /// The epoch of the store as it was opened.
+    pub first: u64,
+    /// Unless the store was stopped, the epoch of the store as it stands.
+    pub epoch: u64,
 }
 
 impl<W: Hosting, J: Naming, M: Home> Host<W, J, M> {
@@ -58,6 +62,8 @@ impl<W: Hosting, J: Naming, M: Home> Host<W, J, M> {
         commits: ledger::Blank,
         places: ledger::Blank,
         home: M,
+        game: GameId,
+        side: Side,
         journal: Journal,
         durable: Durable,
         budget: Option<u64>,
@@ -71,8 +77,10 @@ impl<W: Hosting, J: Naming, M: Home> Host<W, J, M> {
         requires durable { world_of durable ≡ W.opened.durable }
         requires budget { budget ≡ W.opened.budget }
         requires is_open { IsOpen (M.opening home) }
+        requires here { journal.side ≡ side }
+        requires first { journal.epoch ≡ W.first }
         requires format { journal.format ≡ 2 }
-        requires holds { IsTrue M.tells → HoldsNow (M.past home) journal W.opened.durable }
+        requires holds { IsTrue M.tells → HoldsNow (M.past home) game journal W.opened.durable }
         requires since { IsTrue M.tells → HasRecovered W.opened W.began (M.past home) [] [] }
         ensures passes { IfOk result (λ opened. IsDealt (J.name.passes - 1) opened.1.items) }
         ensures home { IfErr result (λ refused. refused.home ≡ home) }
@@ -98,7 +106,7 @@ impl<W: Hosting, J: Naming, M: Home> Host<W, J, M> {
             return Err(OpenRefused { home });
         };
         let right = CommitRight::new(commit_share, place_share);
-        let store = CommitStore::new(home, journal, pass, right, alloc);
+        let store = CommitStore::new(home, game, side, journal, pass, right, alloc);
         let store = Mutex::new(FreeStore { store });
         Ok((Host { world, store }, passes))
     }
@@ -109,15 +117,19 @@ impl<W: Hosting, J: Naming, M: Home> Host<W, J, M> {
         ensures fronts { All (λ p. IsFront p.number p.front result.events) passes.items }
         ensures named { All (λ e. pass_of e < J.name.passes) result.events }
         ensures legal { IsLegal W.opened result.events }
-        ensures ended { IsTrue M.tells → EndsAs W.opened W.began (M.past result.home) result.events result.faults }
+        ensures ended { IsTrue M.tells → EndsAs W.opened W.began (M.past result.home) result.events result.faults result.epoch }
         ensures commits { result.commits ≡ (world_after W.opened result.events).durable.commits }
+        ensures first { (result.first ≡ W.first) × (W.first ≤ result.epoch) }
         ensures tasks { result.tasks ≡ map.len (world_after W.opened result.events).durable.tasks }
     {
         let Host { world, store } = self;
         let FreeStore { store } = store.into_inner();
         let CommitStore {
             home,
-            journal: _,
+            game: _,
+            side: _,
+            journal,
+            first,
             pass,
             mut right,
             waiting: _,
@@ -137,6 +149,8 @@ impl<W: Hosting, J: Naming, M: Home> Host<W, J, M> {
             events,
             commits: core.commits(),
             tasks: core.pending_len(),
+            first,
+            epoch: journal.epoch(),
         }
     }
 }

@@ -13,6 +13,9 @@ pub trait Hosting {
     // The home's moment as it was opened.
     ghost began: { ℕ };
 
+    // The store's epoch as it was opened.
+    ghost first: { ℕ };
+
     // The name of the ledger of its commits.
     ghost commits: { ℕ };
 
@@ -24,6 +27,8 @@ impl Hosting for Brand {
     ghost opened = { nothing_opened };
 
     ghost began = { 0 };
+
+    ghost first = { 0 };
 
     ghost commits = { 0 };
 

@@ -8,6 +8,7 @@
 
 mod book;
 mod calls;
+mod checkpointing;
 mod commit;
 mod host;
 mod hosting;
@@ -23,6 +24,6 @@ pub use host::{Closed, Host, OpenRefused};
 pub use hosting::{CommitLedger, Hosting, PlaceLedger};
 pub use look::HostLook;
 pub use prepared::PreparedCommit;
-pub use refused::{CommitRefused, Why};
+pub use refused::{CheckpointRefused, CommitRefused, Why};
 pub use right::CommitRight;
 pub use store::CommitStore;
