@@ -88,6 +88,7 @@ module _ (o : Opened) (began : ℕ) (tells : Bool) (past : DiskHistory) (opening
         since = λ h.
             let was : HasRecovered o began past front [] = subst (HasRecovered o began past front) s.waits (s.since h) in record {
               begun = was.begun;
+              kept = was.kept;
               recovers = λ t from to. all_weakened (IsAfterSomeOrTail o front []) (IsAfterSomeOrTail o (front ++ more) []) past t
                   (λ d some. after_more o (front ++ more) [] d (after_more o front more d (untailed o front d some))) (was.recovers t from to);
               held = was.held;
@@ -143,6 +144,7 @@ module _ (o : Opened) (began : ℕ) (tells : Bool) (past : DiskHistory) (opening
           since = λ h.
               let was : HasRecovered o began past front (commit_of s.waits.0 s.waits.1.0 p ∷ []) = subst (HasRecovered o began past front) s.waits.1.1.is_tail (s.since h) in record {
                 begun = was.begun;
+                kept = was.kept;
                 recovers = λ t from to. all_weakened (IsAfterSomeOrTail o front (commit_of s.waits.0 s.waits.1.0 p ∷ [])) (IsAfterSomeOrTail o (before ++ e ∷ []) []) past t (λ d some. after_more o (before ++ e ∷ []) [] d (⊎_elim
                     (λ first. after_more o before (e ∷ []) d (after_more o front more d first))
                     (λ (last : d ≡ (world_after o (front ++ commit_of s.waits.0 s.waits.1.0 p ∷ [])).durable).
@@ -219,9 +221,10 @@ module _ (o : Opened) (began : ℕ) (tells : Bool) (old new : DiskHistory) (open
         let was : HasRecovered o began old front [] = subst (HasRecovered o began old front) s.waits (s.since h) in
         let r = run h (header_spelling held.header) held.payloads here in record {
           begun = omega (arith, was.begun, r.later);
-          recovers = since_on (IsAfterSomeOrTail o front (last ∷ [])) began old new
+          kept = λ t side le. r.kept t side (omega (arith, le, was.begun)) ∙ was.kept t side le;
+          recovers = since_on (IsAfterSomeOrTail o front (last ∷ [])) began.clock old new
               (λ t from to. all_weakened (IsAfterSomeOrTail o front []) (IsAfterSomeOrTail o front (last ∷ [])) old t (λ x some. after_more o front (last ∷ []) x (untailed o front x some)) (was.recovers t from to)) recovering;
-          held = held_on began old new was.begun r.later r.kept was.held
+          held = held_on began.clock old new was.begun r.later r.kept was.held
               (append_held journal.side held.header held.payloads payload d w old new held.store.fits outranked held.store.world next_is grows r (falls h (header_spelling held.header) held.payloads here));
         }
 

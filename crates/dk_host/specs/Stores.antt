@@ -72,11 +72,12 @@ abbrev pub Waits : Opened → List Event → ℕ → Option Prepared → List Ev
 Waits o events places None tail = tail ≡ []
 Waits o events places (Some p) tail = (claimed : Claimed) × ((f : Finished) × WaitsFor o events places claimed f p tail)
 
--- since this moment each image recovers to the world after some first commits, or after all of them and then the tail's; and what is held does not fall
-pub record HasRecovered (o : Opened) (began : ℕ) (past : DiskHistory) (events tail : List Event) : Type 0 where
-  pub begun : began ≤ past.clock
-  pub recovers : RecoverSince (IsAfterSomeOrTail o events tail) began past
-  pub held : HeldNeverFalls began past
+-- Since the files had this past, what was stays; each image recovers to the world after some first commits, or after all of them and then the tail's; and what is held does not fall.
+pub record HasRecovered (o : Opened) (began past : DiskHistory) (events tail : List Event) : Type 0 where
+  pub begun : began.clock ≤ past.clock
+  pub kept : (t : ℕ) (side : Side) → t ≤ began.clock → past.disks t side ≡ began.disks t side
+  pub recovers : RecoverSince (IsAfterSomeOrTail o events tail) began.clock past
+  pub held : HeldNeverFalls began.clock past
 
 -- this game's store stands on the home's files, the journal on its side, and has this world
 pub record HoldsNow (past : DiskHistory) (game : List ℕ) (journal : Journal) (d : DurableWorld) : Type 0 where
@@ -91,7 +92,7 @@ pub record IsKeptOn (side : Side) (journal : Journal) (begun first : ℕ) : Type
   pub same : first ≡ begun
   pub later : begun ≤ journal.epoch
 
--- What the store keeps: its right counts the commits that its pass has seen; at every moment since this one what a stop leaves recovers to a beginning; and unless it is stopped
+-- What the store keeps: its right counts the commits that its pass has seen; at every moment since its files had this past what a stop leaves recovers to a beginning; and unless it is stopped
 -- the files now recover to the world after all that the pass has seen, followed by the record that waits
 pub record IsStored (o : Opened) (began : ℕ) (tells : Bool) (past : DiskHistory) (opening : Opening) (game : List ℕ) (journal : Journal) (front : List Event) (commits places : ℕ) (waiting : Option Prepared) (faults : Option ℕ) : Type 0 where
   pub lawful : AreLawful o.rules
