@@ -11,7 +11,7 @@ use Rattle.dk_journal.specs.declared.journal.Journal.{Journal}
 use Rattle.dk_host.specs.Stores.{HasRecovered, HoldsNow, IsStored}
 
 -- it stands on the opened world, and its pass has seen nothing
-pub store_begins : (o : Opened) (began : ℕ) (tells : Bool) (past : DiskHistory) (opens : Opening) (game : List ℕ) (journal : Journal) (front : List Event) (commits places : ℕ) → AreLawful o.rules → IsValid o.durable → front ≡ [] → commits ≡ 0 → IsOpen opens → journal.format ≡ 2
+pub store_begins : (o : Opened) (began : DiskHistory) (tells : Bool) (past : DiskHistory) (opens : Opening) (game : List ℕ) (journal : Journal) (front : List Event) (commits places : ℕ) → AreLawful o.rules → IsValid o.durable → front ≡ [] → commits ≡ 0 → IsOpen opens → journal.format ≡ 2
     → (IsTrue tells → HoldsNow past game journal o.durable) → (IsTrue tells → HasRecovered o began past [] []) → IsStored o began tells past opens game journal front commits places None None
 unfolding opening
 store_begins o began tells past opens game journal front commits places lawful valid none zero_commits is_open format holds since = record {

@@ -43,7 +43,7 @@ module _ (o : Opened) (pass : ℕ) (r : Result Durable NoMemory) (old new : List
   copy_at c = subst (λ es. IsCopyAt o es r) (sym c.front) c.given.copied
 
 -- the same for the store, whose pass comes to the same front
-module _ (o : Opened) (began : ℕ) (tells : Bool) (past : DiskHistory) (opening : Opening) (game : List ℕ) (journal : Journal) (front : List Event) (commits places : ℕ) (faults : Option ℕ) (s : IsStored o began tells past opening game journal front commits places None faults)
+module _ (o : Opened) (began : DiskHistory) (tells : Bool) (past : DiskHistory) (opening : Opening) (game : List ℕ) (journal : Journal) (front : List Event) (commits places : ℕ) (faults : Option ℕ) (s : IsStored o began tells past opening game journal front commits places None faults)
     (p : Known Event) (m : ℕ) (new : List Event) (lent kept : ℕ) (whole : lent ≡ commits) (commits_after room parts others : ℕ) (r : Result Durable NoMemory)
     (c : Called pass_of p.number (λ before added. Continues pass_of m front before × ((commits_after ≡ lent) × (room ≡ kept) × IsWhole parts others × CopiesLast o lent before r added)) p.front new) where
   abbrev by : CopiesLast o lent c.before r c.added

@@ -44,7 +44,7 @@ stands_as past journal header payloads d store = record {
   rests = store_settled past journal.side journal header payloads d store;
 }
 
-pub ends : (o : Opened) (began : ℕ) (tells : Bool) (past : DiskHistory) (opens : Opening) (game : List ℕ) (journal : Journal) (front : List Event) (commits places : ℕ) (waiting : Option Prepared) (faults : Option ℕ) → IsStored o began tells past opens game journal front commits places waiting faults
+pub ends : (o : Opened) (began : DiskHistory) (tells : Bool) (past : DiskHistory) (opens : Opening) (game : List ℕ) (journal : Journal) (front : List Event) (commits places : ℕ) (waiting : Option Prepared) (faults : Option ℕ) → IsStored o began tells past opens game journal front commits places waiting faults
     → (faults ≡ None → waiting ≡ None) → (n : ℕ) (log : List Event) → Continues pass_of n front log → commits ≡ commits_of log → IsTrue tells → EndsAs o began past log faults journal.epoch
 ends o began tells past opens game journal front commits places waiting faults s free n log goes same h =
     let both = commits_of-append front goes.begins.0 in

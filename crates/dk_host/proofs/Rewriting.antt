@@ -29,7 +29,7 @@ use Rattle.dk_host.specs.Stores.{HasRecovered, HoldsNow, IsStored, Stored}
 use Rattle.dk_host.proofs.Nexts.{sound}
 use Rattle.dk_host.proofs.Storing.{holds_running}
 
-module _ (o : Opened) (began : ℕ) (tells : Bool) (old : DiskHistory) (opening : Opening) (game : List ℕ) (journal : Journal) (side : Side) (front : List Event) (commits places : ℕ) (lists : Durable)
+module _ (o : Opened) (began : DiskHistory) (tells : Bool) (old : DiskHistory) (opening : Opening) (game : List ℕ) (journal : Journal) (side : Side) (front : List Event) (commits places : ℕ) (lists : Durable)
     (s : IsStored o began tells old opening game journal front commits places None None) (here : journal.side ≡ side) (given : lists ≡ world_lists (world_after o front).durable) where
   abbrev d : DurableWorld
   d = (world_after o front).durable
@@ -59,8 +59,9 @@ module _ (o : Opened) (began : ℕ) (tells : Bool) (old : DiskHistory) (opening 
         let r = run h (held h).header (held h).payloads d d (is_given h) in
         let all : (x : DurableWorld) → x ≡ d → IsAfterSomeOrTail o front [] x = λ x e. after_more o front [] x (subst (IsAfterSome o front) (sym e) (after_all o front)) in record {
           begun = omega (arith, was.begun, r.later);
-          recovers = since_on (IsAfterSomeOrTail o front []) began old new was.recovers (recovering_weakened (IsEither d d) (IsAfterSomeOrTail o front []) old new (λ x either. ⊎_elim (λ (e : x ≡ d). all x e) (λ (e : x ≡ d). all x e) either) r);
-          held = held_on began old new was.begun r.later r.kept was.held (falls h (held h).header (held h).payloads d d (is_given h) refl);
+          kept = λ t at le. r.kept t at (omega (arith, le, was.begun)) ∙ was.kept t at le;
+          recovers = since_on (IsAfterSomeOrTail o front []) began.clock old new was.recovers (recovering_weakened (IsEither d d) (IsAfterSomeOrTail o front []) old new (λ x either. ⊎_elim (λ (e : x ≡ d). all x e) (λ (e : x ≡ d). all x e) either) r);
+          held = held_on began.clock old new was.begun r.later r.kept was.held (falls h (held h).header (held h).payloads d d (is_given h) refl);
         }
 
     -- where the disk failed

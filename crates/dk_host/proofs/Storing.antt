@@ -69,7 +69,7 @@ some_or_all o events e d some = ⊎_elim
 untailed : (o : Opened) (events : List Event) (d : DurableWorld) → IsAfterSomeOrTail o events [] d → IsAfterSome o events d
 untailed o events d some = subst (λ (es : List Event). IsAfterSome o es d) (append-nil events) some
 
-module _ (o : Opened) (began : ℕ) (tells : Bool) (past : DiskHistory) (opening : Opening) (game : List ℕ) (journal : Journal) (front more : List Event) (commits places : ℕ) (faults : Option ℕ) where
+module _ (o : Opened) (began : DiskHistory) (tells : Bool) (past : DiskHistory) (opening : Opening) (game : List ℕ) (journal : Journal) (front more : List Event) (commits places : ℕ) (faults : Option ℕ) where
   -- the store's pass goes on, while nothing waits and no commit comes
   pub store_on : IsStored o began tells past opening game journal front commits places None faults → commits_of (front ++ more) ≡ commits → IsLegal o (front ++ more) → (room : ℕ) → IsStored o began tells past opening game journal (front ++ more) commits room None faults
   store_on s same legal room =
@@ -167,13 +167,13 @@ pub runs_not : {A : Type 0} (n : ℕ) → Some n ≡ None → A
 runs_not n same = absurd cc
 
 -- while it runs and nothing waits, the files hold the world of its pass's front
-pub holds_running : (o : Opened) (began : ℕ) (tells : Bool) (past : DiskHistory) (opening : Opening) (game : List ℕ) (journal : Journal) (front : List Event) (commits places : ℕ) → IsStored o began tells past opening game journal front commits places None None → IsTrue tells
+pub holds_running : (o : Opened) (began : DiskHistory) (tells : Bool) (past : DiskHistory) (opening : Opening) (game : List ℕ) (journal : Journal) (front : List Event) (commits places : ℕ) → IsStored o began tells past opening game journal front commits places None None → IsTrue tells
     → HoldsNow past game journal (world_after o front).durable
 holds_running o began tells past opening game journal front commits places s h =
     subst (HoldsNow past game journal) (ap (λ (es : List Event). (world_after o (front ++ es)).durable) s.waits ∙ ap (λ (es : List Event). (world_after o es).durable) (append-nil front)) (s.holds h refl)
 
 -- a record is put behind the last one
-module _ (o : Opened) (began : ℕ) (tells : Bool) (old new : DiskHistory) (opening opening_after : Opening) (game : List ℕ) (journal after_journal : Journal) (front : List Event) (commits places : ℕ) (claimed : Claimed) (f : Finished) (p : Prepared) (payload : List ℕ)
+module _ (o : Opened) (began : DiskHistory) (tells : Bool) (old new : DiskHistory) (opening opening_after : Opening) (game : List ℕ) (journal after_journal : Journal) (front : List Event) (commits places : ℕ) (claimed : Claimed) (f : Finished) (p : Prepared) (payload : List ℕ)
     (s : IsStored o began tells old opening game journal front commits places None None) (next : IsNextCommit o front claimed f p) (room : places ≡ places_of f.effects) (bytes : payload ≡ entries_spelling (p.entry ∷ []))
     (run : IsTrue tells → (header : List ℕ) (payloads : List (List ℕ)) → StandsAt journal.side journal.length old header payloads → Runs journal.side (HasOrNot header payloads payload) old new)
     (falls : IsTrue tells → (header : List ℕ) (payloads : List (List ℕ)) → StandsAt journal.side journal.length old header payloads → NeverFalls header journal.side old.clock new)
@@ -279,14 +279,14 @@ module _ (o : Opened) (began : ℕ) (tells : Bool) (old new : DiskHistory) (open
   store_settled (Err journal_refused.NoMemory) n acknowledged untouched same only = absurd only
 
 -- what waits is this
-pub as_waiting : {o : Opened} {began : ℕ} {tells : Bool} {past : DiskHistory} {opening : Opening} {journal : Journal} {front : List Event} {commits places : ℕ} {faults : Option ℕ} (v w : Option Prepared) → v ≡ w
+pub as_waiting : {o : Opened} {began : DiskHistory} {tells : Bool} {past : DiskHistory} {opening : Opening} {game : List ℕ} {journal : Journal} {front : List Event} {commits places : ℕ} {faults : Option ℕ} (v w : Option Prepared) → v ≡ w
     → IsStored o began tells past opening game journal front commits places v faults → IsStored o began tells past opening game journal front commits places w faults
-as_waiting {o = o} {began = began} {tells = tells} {past = past} {opening = opening} {journal = journal} {front = front} {commits = commits} {places = places} {faults = faults} v w same s =
+as_waiting {o = o} {began = began} {tells = tells} {past = past} {opening = opening} {game = game} {journal = journal} {front = front} {commits = commits} {places = places} {faults = faults} v w same s =
     subst (λ (x : Option Prepared). IsStored o began tells past opening game journal front commits places x faults) same s
 
-pub as_faults : {o : Opened} {began : ℕ} {tells : Bool} {past : DiskHistory} {opening : Opening} {journal : Journal} {front : List Event} {commits places : ℕ} {waiting : Option Prepared} (v w : Option ℕ) → v ≡ w
+pub as_faults : {o : Opened} {began : DiskHistory} {tells : Bool} {past : DiskHistory} {opening : Opening} {game : List ℕ} {journal : Journal} {front : List Event} {commits places : ℕ} {waiting : Option Prepared} (v w : Option ℕ) → v ≡ w
     → IsStored o began tells past opening game journal front commits places waiting v → IsStored o began tells past opening game journal front commits places waiting w
-as_faults {o = o} {began = began} {tells = tells} {past = past} {opening = opening} {journal = journal} {front = front} {commits = commits} {places = places} {waiting = waiting} v w same s =
+as_faults {o = o} {began = began} {tells = tells} {past = past} {opening = opening} {game = game} {journal = journal} {front = front} {commits = commits} {places = places} {waiting = waiting} v w same s =
     subst (λ (x : Option ℕ). IsStored o began tells past opening game journal front commits places waiting x) same s
 
 -- what an answer tells, where it is known
@@ -305,9 +305,9 @@ appends old new p (Err (journal_refused.NotAStore at)) pass room none running wa
 appends old new p (Err (journal_refused.Damaged at)) pass room none running waits faults risen steady untouched only = absurd only
 appends old new p (Err journal_refused.NoMemory) pass room none running waits faults risen steady untouched only = absurd only
 
-pub as_front : {o : Opened} {began : ℕ} {tells : Bool} {past : DiskHistory} {opening : Opening} {journal : Journal} {commits places : ℕ} {waiting : Option Prepared} {faults : Option ℕ} (v w : List Event) → v ≡ w
+pub as_front : {o : Opened} {began : DiskHistory} {tells : Bool} {past : DiskHistory} {opening : Opening} {game : List ℕ} {journal : Journal} {commits places : ℕ} {waiting : Option Prepared} {faults : Option ℕ} (v w : List Event) → v ≡ w
     → IsStored o began tells past opening game journal v commits places waiting faults → IsStored o began tells past opening game journal w commits places waiting faults
-as_front {o = o} {began = began} {tells = tells} {past = past} {opening = opening} {journal = journal} {commits = commits} {places = places} {waiting = waiting} {faults = faults} v w same s =
+as_front {o = o} {began = began} {tells = tells} {past = past} {opening = opening} {game = game} {journal = journal} {commits = commits} {places = places} {waiting = waiting} {faults = faults} v w same s =
     subst (λ (x : List Event). IsStored o began tells past opening game journal x commits places waiting faults) same s
 
 -- the journal stays on its side, in its epoch

@@ -94,7 +94,7 @@ pub record IsKeptOn (side : Side) (journal : Journal) (begun first : ℕ) : Type
 
 -- What the store keeps: its right counts the commits that its pass has seen; at every moment since its files had this past what a stop leaves recovers to a beginning; and unless it is stopped
 -- the files now recover to the world after all that the pass has seen, followed by the record that waits
-pub record IsStored (o : Opened) (began : ℕ) (tells : Bool) (past : DiskHistory) (opening : Opening) (game : List ℕ) (journal : Journal) (front : List Event) (commits places : ℕ) (waiting : Option Prepared) (faults : Option ℕ) : Type 0 where
+pub record IsStored (o : Opened) (began : DiskHistory) (tells : Bool) (past : DiskHistory) (opening : Opening) (game : List ℕ) (journal : Journal) (front : List Event) (commits places : ℕ) (waiting : Option Prepared) (faults : Option ℕ) : Type 0 where
   pub lawful : AreLawful o.rules
   pub legal : IsLegal o front
   pub counted : commits ≡ commits_of front
@@ -160,9 +160,9 @@ pub record StandsAs (past : DiskHistory) (epoch : ℕ) : Type 0 where
   pub counted : epoch ≡ header.epoch
   pub rests : AreSettled past
 
--- HOW A HOST ENDS: at every moment since this one what a stop leaves recovers to the world after some first commits of the history, or after all of them and then the tail's, and what
+-- HOW A HOST ENDS: at every moment since its files had this past what a stop leaves recovers to the world after some first commits of the history, or after all of them and then the tail's, and what
 -- is held does not fall. Unless the store was stopped, the files now recover to the world after all events, and the store that stands has this epoch. No commit came since the tail was looked for
-pub record EndsAs (o : Opened) (began : ℕ) (past : DiskHistory) (events : List Event) (faults : Option ℕ) (epoch : ℕ) : Type 0 where
+pub record EndsAs (o : Opened) (began past : DiskHistory) (events : List Event) (faults : Option ℕ) (epoch : ℕ) : Type 0 where
   pub front : List Event
   pub later : List Event
   pub tail : List Event
