@@ -13,3 +13,4 @@ pub mod Dealing
 pub mod Ended
 pub mod Copying
 pub mod Rewriting
+pub mod Relisted

@@ -24,10 +24,16 @@ use Rattle.dk_checkpoint.specs.Given.{IsGiven, next_header, only_image}
 use Rattle.dk_checkpoint.specs.Refusals.{HasBegun}
 use Rattle.dk_checkpoint.specs.declared.refused.CheckpointRefused.{CheckpointRefused as NotWritten}
 use Rattle.dk_checkpoint.specs.declared.refused.CheckpointRefused.TheVariants as not_written
+use Rattle.dk_host.specs.declared.refused.CheckpointRefused.{CheckpointRefused}
+use Rattle.dk_host.specs.declared.refused.CheckpointRefused.TheVariants as refused
 use Rattle.dk_host.specs.Checkpoints.{AnswersAt, GoesOn, Rewrites, faults_after, image_after, refusal_of}
 use Rattle.dk_host.specs.Stores.{HasRecovered, HoldsNow, IsStored, Stored}
 use Rattle.dk_host.proofs.Nexts.{sound}
 use Rattle.dk_host.proofs.Storing.{holds_running}
+
+-- what is told of what an answer gives
+pub at_ok : {A E : Type 0} (P : A → Type 0) (r : Result A E) (x : A) → r ≡ Ok x → IfOk r P → P x
+at_ok P r x is h = subst (λ q. IfOk q P) is h
 
 module _ (o : Opened) (began : DiskHistory) (tells : Bool) (old : DiskHistory) (opening : Opening) (game : List ℕ) (journal : Journal) (side : Side) (front : List Event) (commits places : ℕ) (lists : Durable)
     (s : IsStored o began tells old opening game journal front commits places None None) (here : journal.side ≡ side) (given : lists ≡ world_lists (world_after o front).durable) where
@@ -131,3 +137,23 @@ module _ (o : Opened) (front : List Event) (epoch : ℕ) (lists : Durable) (give
   answers_refused (not_written.TooLarge n) within large spent = ((large n refl).0 ∙ length_is, (large n refl).1)
   answers_refused (not_written.EpochEnd n) within large spent = ((spent n refl).0, (spent n refl).1, subst (λ k. k < 2 ^ 32) length_is (spent n refl).2)
   answers_refused not_written.NoMemory within large spent = tt
+
+-- what is left of the store, where it was refused
+pub rewrites_refused : (old new : Stored) (e : NotWritten) (n : ℕ) → old.faults ≡ None → new.faults ≡ faults_after (Err e) n → n ≡ new.counted → (e ≡ not_written.DiskFault → HasRisen old.counted new.counted) → ((e ≡ not_written.DiskFault → ⊥) → new.counted ≡ old.counted)
+    → new.epoch ≡ old.epoch → new.journal_length ≡ old.journal_length → Rewrites old new (Err (refusal_of e))
+rewrites_refused old new not_written.DiskFault n ran faults count risen steady epoch long = (ran, faults ∙ ap Some count, risen refl, epoch)
+rewrites_refused old new (not_written.TooLarge m) n ran faults count risen steady epoch long = record { ran = ran; runs = faults; counted = steady (λ no. absurd cc); epoch = epoch; journal_length = long }
+rewrites_refused old new (not_written.EpochEnd m) n ran faults count risen steady epoch long = record { ran = ran; runs = faults; counted = steady (λ no. absurd cc); epoch = epoch; journal_length = long }
+rewrites_refused old new not_written.NoMemory n ran faults count risen steady epoch long = record { ran = ran; runs = faults; counted = steady (λ no. absurd cc); epoch = epoch; journal_length = long }
+
+goes_on : {old mid new : Stored} → GoesOn mid new → old.faults ≡ None → mid.counted ≡ old.counted → mid.journal_length ≡ old.journal_length → mid.epoch ≡ old.epoch → GoesOn old new
+goes_on h ran counted long epoch = record { ran = ran; runs = h.runs; counted = h.counted ∙ counted; epoch = h.epoch ∙ epoch; journal_length = h.journal_length ∙ long }
+
+-- and where the store's pass went on before
+pub rewrites_on : (old mid new : Stored) (r : Result (Unit {0}) CheckpointRefused) → old.faults ≡ None → mid.faults ≡ None → mid.counted ≡ old.counted → mid.journal_length ≡ old.journal_length → mid.epoch ≡ old.epoch → Rewrites mid new r → Rewrites old new r
+rewrites_on old mid new (Ok x) ran runs counted long epoch h = (ran, h.1, h.2 ∙ ap (λ n. n + 1) epoch, h.3 ∙ counted)
+rewrites_on old mid new (Err (refused.Stopped f)) ran runs counted long epoch h = let no : Some f ≡ None = sym h.0 ∙ runs in absurd cc
+rewrites_on old mid new (Err refused.DiskFault) ran runs counted long epoch h = (ran, h.1, subst (λ n. HasRisen n new.counted) counted h.2, h.3 ∙ epoch)
+rewrites_on old mid new (Err (refused.TooLarge m)) ran runs counted long epoch h = goes_on h ran counted long epoch
+rewrites_on old mid new (Err (refused.EpochEnd m)) ran runs counted long epoch h = goes_on h ran counted long epoch
+rewrites_on old mid new (Err refused.NoMemory) ran runs counted long epoch h = goes_on h ran counted long epoch

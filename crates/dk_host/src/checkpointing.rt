@@ -44,6 +44,7 @@ impl<W: Hosting, J: Naming, M: Home> CommitStore<W, J, M> {
         ensures number { pass.new.number ≡ pass.old.number }
         ensures entered { Entered W.opened pass.old.number [] pass.old.front pass.new.front }
         ensures named { All (λ e. pass_of e < J.name.passes) pass.new.front }
+        ensures since { W.first ≤ self.old.epoch }
         ensures answers { AnswersAt W.opened pass.new.front self.old.epoch result }
         ensures rewrites { Rewrites self.old self.new result }
         ensures free { IsFree self.new }
@@ -113,6 +114,7 @@ impl<W: Hosting, J: Naming, M: Home> FreeStore<W, J, M> {
         ensures number { pass.new.number ≡ pass.old.number }
         ensures entered { Entered W.opened pass.old.number [] pass.old.front pass.new.front }
         ensures named { All (λ e. pass_of e < J.name.passes) pass.new.front }
+        ensures since { W.first ≤ self.old.store.epoch }
         ensures answers { AnswersAt W.opened pass.new.front self.old.store.epoch result }
         ensures rewrites { Rewrites self.old.store self.new.store result }
     {
