@@ -9,19 +9,24 @@
 mod book;
 mod calls;
 mod commit;
+mod fault;
 mod host;
 mod hosting;
 mod look;
+mod opening;
 mod prepared;
 mod refused;
 mod right;
+mod standing;
 mod steps;
 mod store;
 
 pub use book::WorldBook;
-pub use host::{Closed, Host, OpenRefused};
+pub use fault::{OpenFault, OpenRefused};
+pub use host::{Closed, Host};
 pub use hosting::{CommitLedger, Hosting, PlaceLedger};
 pub use look::HostLook;
+pub use opening::{OpenedStore, open_store};
 pub use prepared::PreparedCommit;
 pub use refused::{CommitRefused, Why};
 pub use right::CommitRight;

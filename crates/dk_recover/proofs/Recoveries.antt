@@ -22,7 +22,7 @@ use Rattle.dk_journal.specs.declared.scan.Scan.{Scan}
 use Rattle.dk_journal.proofs.Readings.{one_reading}
 use Rattle.dk_journal.proofs.Outranked.{outranks}
 use Rattle.dk_recover.specs.Files.{Settles}
-use Rattle.dk_recover.specs.Recovery.{IsOurs, IsOfOther, IsStore, IsNoStore, IsFound, IsAnswer, IsOfDevice}
+use Rattle.dk_recover.specs.Recovery.{IsOurs, IsOfOther, IsStore, IsNoStore, IsFound, IsAnswer, IsOfDevice, HasValidWorld}
 use Rattle.dk_recover.specs.Records.{IsWhole}
 use Rattle.dk_recover.specs.Stood.{IsStanding, IsStood, IsStandingFault}
 use Rattle.dk_recover.specs.declared.fault.OpenFault.{OpenFault}
@@ -212,3 +212,8 @@ module _ (P : List ℕ → List ℕ → Type 0) (old new : DiskHistory) (is : Se
 
 pub at_rest : (old new : DiskHistory) → Settles old new → (s : Side) → now new s ≡ settled (now new s).reads
 at_rest old new is s = settled_now old new is s ∙ ap settled (sym (ap (λ (d : Disk). d.reads) (settled_now old new is s)))
+
+-- where there is no store yet
+pub first_valid : (r : Result Recovered OpenFault) → IfOk r (λ found. (found.store ≡ None) × (found.durable ≡ world_lists empty_world) × (found.side ≡ Zero) × (found.format ≡ 2)) → IfOk r HasValidWorld
+first_valid (Ok found) is = (empty_world, empty_valid, is.1)
+first_valid (Err fault) is = tt
