@@ -186,17 +186,21 @@ IsAnewFault (Damaged side at) = ⊥
 IsAnewFault (ImageTooLarge length_) = ⊤
 IsAnewFault (EpochEnd epoch) = ⊤
 
--- a fault of the disk
-abbrev pub IsDiskFault : OpenFault → Type 0
-IsDiskFault fault = fault ≡ DiskFault
-
 -- the lists are those of a valid world
 abbrev pub HasValidLists : Durable → Type 0
 HasValidLists lists = (d : DurableWorld) × IsValid d × (lists ≡ world_lists d)
 
+-- a store without records in the first file, with these lists
+pub record IsMade (durable : Durable) (stood : Stood) : Type 0 where
+  pub lists : stood.durable ≡ durable
+  pub side : stood.side ≡ Zero
+  pub epoch : stood.journal.epoch ≡ 0
+  pub format : stood.journal.format ≡ 2
+  pub length_ : stood.journal.length ≡ 65
+
 -- the same world in the other file, under the next epoch, with its image alone
 pub record IsMadeAnew (old stood : Stood) : Type 0 where
-  pub durable : stood.durable ≡ old.durable
+  pub lists : stood.durable ≡ old.durable
   pub side : stood.side ≡ other_side old.side
   pub epoch : stood.journal.epoch ≡ old.journal.epoch + 1
   pub format : stood.journal.format ≡ 2

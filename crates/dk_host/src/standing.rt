@@ -14,7 +14,7 @@ ghost use Rattle.dk_recover.specs.Files.{OnlyReads, Settles};
 ghost use Rattle.dk_recover.specs.Recovery.{HasValidWorld, IsAnswer};
 ghost use Rattle.dk_core.specs.Listings.{world_of};
 ghost use Rattle.dk_host.specs.declared.fault.OpenFault.TheVariants.{DiskFault as FaultOfDisk, NoMemory as WantOfMemory, ImageTooLarge, EpochEnd};
-ghost use Rattle.dk_host.specs.OpenedStores.{image_length, HasValidLists, HoldsStore, IsAnewFault, IsDiskFault, IsFaultAnew, IsFaultOf, IsLeftFaulty, IsMadeAnew, IsMakingFault, IsOpenAnswer, IsUnwritten, KeepsWorld};
+ghost use Rattle.dk_host.specs.OpenedStores.{image_length, HasValidLists, HoldsStore, IsAnewFault, IsFaultAnew, IsFaultOf, IsLeftFaulty, IsMade, IsMadeAnew, IsMakingFault, IsOpenAnswer, IsUnwritten, KeepsWorld};
 
 use crate::fault::OpenFault;
 use dk_checkpoint::{CheckpointRefused, checkpoint};
@@ -45,16 +45,20 @@ fn fault_of(fault: RecoverFault) -> OpenFault
     }
 }
 
-// Makes a store in the first file, where there is none yet.
-fn make_store<M: Home>(alloc: Global, home: &mut M, game: &GameId) -> Result<Journal, OpenFault>
+// Makes a store without records in the first file, where there is none yet.
+fn make_store<M: Home>(
+    alloc: Global,
+    home: &mut M,
+    game: &GameId,
+    durable: Durable,
+) -> Result<Stood, OpenFault>
     requires is_open { IsOpen (M.opening home.old) }
     requires ready { IsTrue M.tells → IsReady First (M.past home.old) }
     requires short { IsTrue M.tells → length (now (M.past home.old) First).reads ≤ 65 }
     requires beside { IsTrue M.tells → IsBlankBeside (M.past home.old) Second }
-    ensures run { IsTrue M.tells → Recovering (IsWorld empty_world) (M.past home.old) (M.past home.new) }
-    ensures held { IsTrue M.tells → HeldNeverFalls (M.past home.old).clock (M.past home.new) }
-    ensures stands { IsTrue M.tells → IfOk result (λ journal. HoldsStore (M.past home.new) journal First game.now empty_world) }
-    ensures journal { IfOk result (λ journal. (journal.epoch ≡ 0) × (journal.format ≡ 2) × (journal.length ≡ 65)) }
+    ensures keeps { IsTrue M.tells → Recovering (IsWorld empty_world) (M.past home.old) (M.past home.new) × HeldNeverFalls (M.past home.old).clock (M.past home.new) }
+    ensures stands { IsTrue M.tells → IfOk result (λ stood. HoldsStore (M.past home.new) stood.journal stood.side game.now empty_world) }
+    ensures made { IfOk result (IsMade durable) }
     ensures memory { IsErrOf result WantOfMemory → home.new ≡ home.old }
     ensures only { IfErr result IsMakingFault }
     ensures cause { IsErrOf result FaultOfDisk → HasRisen (M.counted home.old) (M.counted home.new) }
@@ -62,7 +66,11 @@ fn make_store<M: Home>(alloc: Global, home: &mut M, game: &GameId) -> Result<Jou
     ensures opening { M.opening home.new ≡ M.opening home.old }
 {
     match create(alloc, home, Side::Zero, game, 0) {
-        Ok(journal) => Ok(journal),
+        Ok(journal) => Ok(Stood {
+            journal,
+            side: Side::Zero,
+            durable,
+        }),
         Err(JournalRefused::NoMemory) => Err(OpenFault::NoMemory),
         Err(_) => Err(OpenFault::DiskFault),
     }
@@ -90,13 +98,12 @@ fn migrate<M: Home>(
     requires is_open { IsOpen (M.opening home.old) }
     requires stands { IsTrue M.tells → HoldsStore (M.past home.old) old.journal old.side game.now (world_of old.durable) }
     requires valid { HasValidLists old.durable }
-    ensures run { IsTrue M.tells → Recovering (IsWorld (world_of old.durable)) (M.past home.old) (M.past home.new) }
-    ensures held { IsTrue M.tells → HeldNeverFalls (M.past home.old).clock (M.past home.new) }
+    ensures keeps { IsTrue M.tells → Recovering (IsWorld (world_of old.durable)) (M.past home.old) (M.past home.new) × HeldNeverFalls (M.past home.old).clock (M.past home.new) }
     ensures stands { IsTrue M.tells → IfOk result (λ stood. HoldsStore (M.past home.new) stood.journal stood.side game.now (world_of old.durable)) }
-    ensures made { IfOk result (λ stood. IsMadeAnew old stood) }
+    ensures made { IfOk result (IsMadeAnew old) }
     ensures large { (n : ℕ) → IsErrOf result (ImageTooLarge n) → (n ≡ image_length old.durable) × (2 ^ 32 ≤ n) }
     ensures spent { (n : ℕ) → IsErrOf result (EpochEnd n) → (n ≡ old.journal.epoch) × (NUMBERS_END ≤ n + 1) × (image_length old.durable < 2 ^ 32) }
-    ensures untouched { IfErr result (λ fault. IsDiskFault fault ⊎ (home.new ≡ home.old)) }
+    ensures untouched { IfErr result (λ fault. (fault ≡ FaultOfDisk) ⊎ (home.new ≡ home.old)) }
     ensures only { IfErr result IsAnewFault }
     ensures cause { IsErrOf result FaultOfDisk → HasRisen (M.counted home.old) (M.counted home.new) }
     ensures steady { (IsErrOf result FaultOfDisk → ⊥) → M.counted home.new ≡ M.counted home.old }
@@ -128,8 +135,7 @@ fn stand_on<M: Home>(
     requires found { IsTrue M.tells → IsAnswer (now (M.past home.old) First).reads (now (M.past home.old) Second).reads game.now (M.past home.old) (Ok found) }
     requires valid { HasValidWorld found }
     ensures answer { IsTrue M.tells → IsOpenAnswer (now (M.past home.old) First).reads (now (M.past home.old) Second).reads game.now result }
-    ensures run { IsTrue M.tells → Recovering (IsWorld (world_of found.durable)) (M.past home.old) (M.past home.new) }
-    ensures held { IsTrue M.tells → HeldNeverFalls (M.past home.old).clock (M.past home.new) }
+    ensures keeps { IsTrue M.tells → Recovering (IsWorld (world_of found.durable)) (M.past home.old) (M.past home.new) × HeldNeverFalls (M.past home.old).clock (M.past home.new) }
     ensures stood { IfOk result (λ stood. (stood.durable ≡ found.durable) × (stood.journal.format ≡ 2)) }
     ensures stands { IsTrue M.tells → IfOk result (λ stood. HoldsStore (M.past home.new) stood.journal stood.side game.now (world_of stood.durable)) }
     ensures untouched { IsTrue M.tells → IsUnwritten (now (M.past home.old) First).reads (now (M.past home.old) Second).reads result → home.new ≡ home.old }
@@ -144,12 +150,7 @@ fn stand_on<M: Home>(
         format: _,
     } = found;
     let Some(journal) = store else {
-        let journal = make_store(alloc, home, game)?;
-        return Ok(Stood {
-            journal,
-            side: Side::Zero,
-            durable,
-        });
+        return make_store(alloc, home, game, durable);
     };
     let stood = Stood {
         journal,
