@@ -2,6 +2,7 @@
 use Rattle.std.proofs.Common.{◌≡◌, ◌⊎◌, ⊎_elim, inl, inr, ℕ, ◌+◌, ◌<◌, ◌≤◌, ◌^◌, List, Some, Result, Ok, Err, IfOk, IfErr, IsErrOf, refl, sym, ap, subst, ◌∙◌, arith}
 use Rattle.dk_types.specs.declared.side.Side.{Side}
 use Rattle.dk_types.specs.declared.side.Side.TheVariants.{Zero}
+use Rattle.dk_types.specs.declared.durable.Durable.{Durable}
 use Rattle.dk_types.specs.declared.limits.TheConstants.{NUMBERS_END}
 use Rattle.dk_disk.specs.DiskHistories.{DiskHistory}
 use Rattle.dk_model.specs.DurableWorlds.{DurableWorld, empty_world}
@@ -53,6 +54,11 @@ module _ (zero one game : List ℕ) (past : DiskHistory) (found : Recovered) (is
   none_written (Err (Damaged side at)) only memory un = absurd only
   none_written (Err (ImageTooLarge n)) only memory un = absurd only
   none_written (Err (EpochEnd n)) only memory un = absurd only
+
+  -- its world is the one that was found
+  pub none_stands : (new : DiskHistory) (r : Result Stood OpenFault) → IfOk r (λ stood. HoldsStore new stood.journal stood.side game empty_world) → IfOk r (IsMade found.durable) → IfOk r (λ stood. HoldsStore new stood.journal stood.side game (world_of stood.durable))
+  none_stands new (Ok stood) holds made = subst (HoldsStore new stood.journal stood.side game) (sym (ap world_of made.lists ∙ none_world)) holds
+  none_stands new (Err fault) holds made = tt
 
 -- where a store stood
 module _ (zero one game : List ℕ) (past : DiskHistory) (found : Recovered) (journal : Journal) (is : IsStore zero one game past found journal) where
@@ -155,3 +161,17 @@ module _ (zero one game : List ℕ) (past : DiskHistory) (d : DurableWorld) (has
   is_accepted (Err (EpochEnd n)) is =
       let room = (may is.1.0 (same_world is.1.0 is.1.1.0 is.1.1.1)).1 in
       omega (arith, is.1.1.3, is.1.1.4, room)
+
+-- nothing was written where a refusal to recover is no fault of the disk
+pub refused_reads : (zero one : List ℕ) (was : RecoverFault) (fault : OpenFault) → IsFaultOf was fault → IsUnwritten zero one (Err fault) → was ≡ recover.DiskFault → ⊥
+refused_reads zero one was fault same un is =
+    let told : fault ≡ DiskFault = subst (λ (w : RecoverFault). IsFaultOf w fault) is same in subst (λ (f : OpenFault). IsUnwritten zero one (Err f)) told un
+
+-- what holds of the world that was found holds of the one that is given
+pub given_on : (P : Durable → Type 0) (lists : Durable) (r : Result Stood OpenFault) → IfOk r (λ stood. (stood.durable ≡ lists) × (stood.journal.format ≡ 2)) → P lists → IfOk r (λ stood. P stood.durable)
+given_on P lists (Ok stood) same has = subst P (sym same.0) has
+given_on P lists (Err fault) same has = tt
+
+pub given_format : (P : Durable → Type 0) (lists : Durable) (r : Result Stood OpenFault) → IfOk r (λ stood. (stood.durable ≡ lists) × (stood.journal.format ≡ 2)) → P lists → IfOk r (λ stood. P stood.durable × (stood.journal.format ≡ 2))
+given_format P lists (Ok stood) same has = (subst P (sym same.0) has, same.1)
+given_format P lists (Err fault) same has = tt

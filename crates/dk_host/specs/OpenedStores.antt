@@ -14,6 +14,8 @@ use Rattle.dk_model.specs.Recovered as files
 use Rattle.dk_model.specs.Stores.{StoreHeader, Standing, NoStore, StandsOn, NoneStands, standing}
 use Rattle.dk_model.specs.Validity.{IsValid}
 use Rattle.dk_journal.specs.declared.journal.Journal.{Journal}
+use Rattle.dk_journal.specs.declared.refused.JournalRefused.{JournalRefused}
+use Rattle.dk_journal.specs.declared.refused.JournalRefused.TheVariants as making
 use Rattle.dk_journal.specs.Moments.{IsAsRead}
 use Rattle.dk_journal.specs.Recoveries.{RecoverSince, HeldNeverFalls, IsWorld}
 use Rattle.dk_journal.specs.Stores.{HasStore}
@@ -158,6 +160,14 @@ IsFaultOf recover.DiskFault fault = fault ≡ DiskFault
 IsFaultOf (recover.NotAStore side at) fault = fault ≡ NotAStore side at
 IsFaultOf (recover.WrongGame found) fault = fault ≡ WrongGame found
 IsFaultOf (recover.Damaged side at) fault = fault ≡ Damaged side at
+
+-- what a refusal to make a journal is to one who opens the store
+abbrev pub IsFaultMaking : JournalRefused → OpenFault → Type 0
+IsFaultMaking making.DiskFault fault = fault ≡ DiskFault
+IsFaultMaking (making.Full n) fault = ⊥
+IsFaultMaking (making.NotAStore at) fault = ⊥
+IsFaultMaking (making.Damaged at) fault = ⊥
+IsFaultMaking making.NoMemory fault = fault ≡ NoMemory
 
 -- of making a store
 abbrev pub IsMakingFault : OpenFault → Type 0

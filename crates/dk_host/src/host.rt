@@ -13,7 +13,7 @@ use crate::book::WorldBook;
 use crate::commit::FreeStore;
 use crate::fault::OpenRefused;
 use crate::hosting::{CommitLedger, Hosting, PlaceLedger};
-use crate::opening::OpenedStore;
+use crate::opened::OpenedStore;
 use crate::right::CommitRight;
 use crate::standing::Stood;
 use crate::store::CommitStore;

@@ -9,12 +9,13 @@ ghost use Rattle.dk_model.specs.DurableWorlds.{empty_world};
 ghost use Rattle.dk_model.specs.Validity.{IsValid};
 ghost use Rattle.dk_journal.specs.Ranks.{IsBlankBeside};
 ghost use Rattle.dk_journal.specs.Recoveries.{Recovering, HeldNeverFalls, IsWorld};
+ghost use Rattle.dk_journal.specs.Refusals.{IsCreateFault};
 ghost use Rattle.dk_journal.specs.Standing.{IsReady};
 ghost use Rattle.dk_recover.specs.Files.{OnlyReads, Settles};
 ghost use Rattle.dk_recover.specs.Recovery.{HasValidWorld, IsAnswer};
 ghost use Rattle.dk_core.specs.Listings.{world_of};
 ghost use Rattle.dk_host.specs.declared.fault.OpenFault.TheVariants.{DiskFault as FaultOfDisk, NoMemory as WantOfMemory, ImageTooLarge, EpochEnd};
-ghost use Rattle.dk_host.specs.OpenedStores.{image_length, HasValidLists, HoldsStore, IsAnewFault, IsFaultAnew, IsFaultOf, IsLeftFaulty, IsMade, IsMadeAnew, IsMakingFault, IsOpenAnswer, IsUnwritten, KeepsWorld};
+ghost use Rattle.dk_host.specs.OpenedStores.{image_length, HasValidLists, HoldsStore, IsAnewFault, IsFaultAnew, IsFaultMaking, IsFaultOf, IsLeftFaulty, IsMade, IsMadeAnew, IsMakingFault, IsOpenAnswer, IsUnwritten, KeepsWorld};
 
 use crate::fault::OpenFault;
 use dk_checkpoint::{CheckpointRefused, checkpoint};
@@ -45,6 +46,17 @@ fn fault_of(fault: RecoverFault) -> OpenFault
     }
 }
 
+// What a refusal to make a journal is to one who opens the store.
+fn fault_making(refused: JournalRefused) -> OpenFault
+    requires { IsCreateFault refused }
+    ensures { IsFaultMaking refused result }
+{
+    match refused {
+        JournalRefused::NoMemory => OpenFault::NoMemory,
+        _ => OpenFault::DiskFault,
+    }
+}
+
 // Makes a store without records in the first file, where there is none yet.
 fn make_store<M: Home>(
     alloc: Global,
@@ -71,8 +83,7 @@ fn make_store<M: Home>(
             side: Side::Zero,
             durable,
         }),
-        Err(JournalRefused::NoMemory) => Err(OpenFault::NoMemory),
-        Err(_) => Err(OpenFault::DiskFault),
+        Err(refused) => Err(fault_making(refused)),
     }
 }
 
@@ -149,27 +160,25 @@ fn stand_on<M: Home>(
         side,
         format: _,
     } = found;
-    let Some(journal) = store else {
-        return make_store(alloc, home, game, durable);
-    };
-    let stood = Stood {
-        journal,
-        side,
-        durable,
-    };
-    if stood.journal.format() == FORMAT {
-        return Ok(stood);
+    match store {
+        None => make_store(alloc, home, game, durable),
+        Some(journal) => {
+            let stood = Stood {
+                journal,
+                side,
+                durable,
+            };
+            if stood.journal.format() == FORMAT {
+                return Ok(stood);
+            }
+            migrate(alloc, home, game, stood)
+        }
     }
-    migrate(alloc, home, game, stood)
 }
 
 /// The store of a game on the files of an open home. It is made where there is none yet, and written anew where it is of the
 /// older format.
-pub(crate) fn settle<M: Home>(
-    alloc: Global,
-    home: &mut M,
-    game: &GameId,
-) -> Result<Stood, OpenFault>
+pub(crate) fn stand<M: Home>(alloc: Global, home: &mut M, game: &GameId) -> Result<Stood, OpenFault>
     requires { IsOpen (M.opening home.old) }
     ensures answer { IsTrue M.tells → IsOpenAnswer (now (M.past home.old) First).reads (now (M.past home.old) Second).reads game.now result }
     ensures stands { IsTrue M.tells → IfOk result (λ stood. HoldsStore (M.past home.new) stood.journal stood.side game.now (world_of stood.durable)) }

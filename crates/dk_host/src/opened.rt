@@ -14,7 +14,7 @@ ghost use Rattle.dk_host.specs.declared.fault.OpenFault.TheVariants.{DiskFault a
 ghost use Rattle.dk_host.specs.OpenedStores.{home_of, answer_of, HoldsStore, IsLeftFaulty, IsOpenAnswer, IsUnwritten, IsWorldOrDevice, KeepsWorld, MayBeAnew};
 
 use crate::fault::OpenRefused;
-use crate::standing::{Stood, settle};
+use crate::standing::{Stood, stand};
 use dk_disk::Home;
 use dk_types::{Durable, GameId, Side};
 use std::alloc::Global;
@@ -102,7 +102,7 @@ pub fn open_store<M: Home>(
     ensures cause { IsErrOf (answer_of result) FaultOfDisk → HasRisen (M.counted home) (M.counted (home_of result)) }
     ensures opening { M.opening (home_of result) ≡ M.opening home }
 {
-    match settle(alloc, &mut home, game) {
+    match stand(alloc, &mut home, game) {
         Ok(stood) => Ok(OpenedStore {
             home,
             stood,
