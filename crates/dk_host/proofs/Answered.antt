@@ -167,11 +167,11 @@ pub refused_reads : (zero one : List ℕ) (was : RecoverFault) (fault : OpenFaul
 refused_reads zero one was fault same un is =
     let told : fault ≡ DiskFault = subst (λ (w : RecoverFault). IsFaultOf w fault) is same in subst (λ (f : OpenFault). IsUnwritten zero one (Err f)) told un
 
--- what holds of the world that was found holds of the one that is given
-pub given_on : (P : Durable → Type 0) (lists : Durable) (r : Result Stood OpenFault) → IfOk r (λ stood. (stood.durable ≡ lists) × (stood.journal.format ≡ 2)) → P lists → IfOk r (λ stood. P stood.durable)
-given_on P lists (Ok stood) same has = subst P (sym same.0) has
-given_on P lists (Err fault) same has = tt
+-- what holds of the lists that were found holds of those that are given
+pub given_on : (P : Durable → Type 0) (Q : Stood → Type 0) (lists : Durable) (r : Result Stood OpenFault) → IfOk r (λ stood. (stood.durable ≡ lists) × Q stood) → P lists → IfOk r (λ stood. P stood.durable)
+given_on P Q lists (Ok stood) same has = subst P (sym same.0) has
+given_on P Q lists (Err fault) same has = tt
 
-pub given_format : (P : Durable → Type 0) (lists : Durable) (r : Result Stood OpenFault) → IfOk r (λ stood. (stood.durable ≡ lists) × (stood.journal.format ≡ 2)) → P lists → IfOk r (λ stood. P stood.durable × (stood.journal.format ≡ 2))
-given_format P lists (Ok stood) same has = (subst P (sym same.0) has, same.1)
-given_format P lists (Err fault) same has = tt
+pub given_both : (P : Durable → Type 0) (Q : Stood → Type 0) (lists : Durable) (r : Result Stood OpenFault) → IfOk r (λ stood. (stood.durable ≡ lists) × Q stood) → P lists → IfOk r (λ stood. P stood.durable × Q stood)
+given_both P Q lists (Ok stood) same has = (subst P (sym same.0) has, same.1)
+given_both P Q lists (Err fault) same has = tt

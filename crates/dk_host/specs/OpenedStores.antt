@@ -50,10 +50,15 @@ pub record HoldsStore (past : DiskHistory) (journal : Journal) (side : Side) (ga
   pub ours : header.game ≡ game
   pub store : HasStore past side journal header payloads d
 
+-- its journal is of the format that is written, and on the side that is told
+pub record IsPlaced (stood : Stood) : Type 0 where
+  pub format : stood.journal.format ≡ 2
+  pub here : stood.journal.side ≡ stood.side
+
 -- what an opened store keeps: it is on an open home, in the format that is written, its world is valid, and it stands there
 pub record IsOpenedStore (tells : Bool) (past : DiskHistory) (opens : Opening) (stood : Stood) (game : List ℕ) : Type 0 where
   pub is_open : IsOpen opens
-  pub format : stood.journal.format ≡ 2
+  pub placed : IsPlaced stood
   pub valid : IsValid (world_of stood.durable)
   pub holds : IsTrue tells → HoldsStore past stood.journal stood.side game (world_of stood.durable)
 
@@ -204,15 +209,15 @@ HasValidLists lists = (d : DurableWorld) × IsValid d × (lists ≡ world_lists 
 pub record IsMade (durable : Durable) (stood : Stood) : Type 0 where
   pub lists : stood.durable ≡ durable
   pub side : stood.side ≡ Zero
+  pub placed : IsPlaced stood
   pub epoch : stood.journal.epoch ≡ 0
-  pub format : stood.journal.format ≡ 2
   pub length_ : stood.journal.length ≡ 65
 
 -- the same world in the other file, under the next epoch, with its image alone
 pub record IsMadeAnew (old stood : Stood) : Type 0 where
   pub lists : stood.durable ≡ old.durable
   pub side : stood.side ≡ other_side old.side
+  pub placed : IsPlaced stood
   pub epoch : stood.journal.epoch ≡ old.journal.epoch + 1
-  pub format : stood.journal.format ≡ 2
   pub length_ : stood.journal.length ≡ 70 + image_length old.durable
   pub short : image_length old.durable < 2 ^ 32

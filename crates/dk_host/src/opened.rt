@@ -92,7 +92,7 @@ pub fn open_store<M: Home>(
     ensures stands { IsTrue M.tells → IfOk result (λ store. HoldsStore (M.past store.home) store.journal store.side game.now (world_of store.durable)) }
     ensures keeps { IsTrue M.tells → IfOk result (λ store. KeepsWorld (world_of store.durable) (M.past home) (M.past store.home)) }
     ensures valid { IfOk result (λ store. IsValid (world_of store.durable)) }
-    ensures format { IfOk result (λ store. (store.game ≡ game.now) × (store.journal.format ≡ 2)) }
+    ensures placed { IfOk result (λ store. (store.game ≡ game.now) × (store.journal.format ≡ 2) × (store.journal.side ≡ store.side)) }
 
     // Nothing is written, unless a store is made or written anew; and a disk fault leaves the world that the files held.
     ensures reads { IsTrue M.tells → IsUnwritten (now (M.past home) First).reads (now (M.past home) Second).reads (answer_of result) → OnlyReads (M.past home) (M.past (home_of result)) × Settles (M.past home) (M.past (home_of result)) }

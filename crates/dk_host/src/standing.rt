@@ -12,10 +12,10 @@ ghost use Rattle.dk_journal.specs.Recoveries.{Recovering, HeldNeverFalls, IsWorl
 ghost use Rattle.dk_journal.specs.Refusals.{IsCreateFault};
 ghost use Rattle.dk_journal.specs.Standing.{IsReady};
 ghost use Rattle.dk_recover.specs.Files.{OnlyReads, Settles};
-ghost use Rattle.dk_recover.specs.Recovery.{HasValidWorld, IsAnswer};
+ghost use Rattle.dk_recover.specs.Recovery.{HasValidWorld, IsAnswer, IsOnItsSide};
 ghost use Rattle.dk_core.specs.Listings.{world_of};
 ghost use Rattle.dk_host.specs.declared.fault.OpenFault.TheVariants.{DiskFault as FaultOfDisk, NoMemory as WantOfMemory, ImageTooLarge, EpochEnd};
-ghost use Rattle.dk_host.specs.OpenedStores.{image_length, HasValidLists, HoldsStore, IsAnewFault, IsFaultAnew, IsFaultMaking, IsFaultOf, IsLeftFaulty, IsMade, IsMadeAnew, IsMakingFault, IsOpenAnswer, IsUnwritten, KeepsWorld};
+ghost use Rattle.dk_host.specs.OpenedStores.{image_length, HasValidLists, HoldsStore, IsAnewFault, IsFaultAnew, IsFaultMaking, IsFaultOf, IsLeftFaulty, IsMade, IsMadeAnew, IsMakingFault, IsOpenAnswer, IsPlaced, IsUnwritten, KeepsWorld};
 
 use crate::fault::OpenFault;
 use dk_checkpoint::{CheckpointRefused, checkpoint};
@@ -145,9 +145,10 @@ fn stand_on<M: Home>(
     requires is_open { IsOpen (M.opening home.old) }
     requires found { IsTrue M.tells → IsAnswer (now (M.past home.old) First).reads (now (M.past home.old) Second).reads game.now (M.past home.old) (Ok found) }
     requires valid { HasValidWorld found }
+    requires side { IsOnItsSide found }
     ensures answer { IsTrue M.tells → IsOpenAnswer (now (M.past home.old) First).reads (now (M.past home.old) Second).reads game.now result }
     ensures keeps { IsTrue M.tells → Recovering (IsWorld (world_of found.durable)) (M.past home.old) (M.past home.new) × HeldNeverFalls (M.past home.old).clock (M.past home.new) }
-    ensures stood { IfOk result (λ stood. (stood.durable ≡ found.durable) × (stood.journal.format ≡ 2)) }
+    ensures stood { IfOk result (λ stood. (stood.durable ≡ found.durable) × IsPlaced stood) }
     ensures stands { IsTrue M.tells → IfOk result (λ stood. HoldsStore (M.past home.new) stood.journal stood.side game.now (world_of stood.durable)) }
     ensures untouched { IsTrue M.tells → IsUnwritten (now (M.past home.old) First).reads (now (M.past home.old) Second).reads result → home.new ≡ home.old }
     ensures cause { IsErrOf result FaultOfDisk → HasRisen (M.counted home.old) (M.counted home.new) }
@@ -183,7 +184,7 @@ pub(crate) fn stand<M: Home>(alloc: Global, home: &mut M, game: &GameId) -> Resu
     ensures answer { IsTrue M.tells → IsOpenAnswer (now (M.past home.old) First).reads (now (M.past home.old) Second).reads game.now result }
     ensures stands { IsTrue M.tells → IfOk result (λ stood. HoldsStore (M.past home.new) stood.journal stood.side game.now (world_of stood.durable)) }
     ensures keeps { IsTrue M.tells → IfOk result (λ stood. KeepsWorld (world_of stood.durable) (M.past home.old) (M.past home.new)) }
-    ensures valid { IfOk result (λ stood. IsValid (world_of stood.durable) × (stood.journal.format ≡ 2)) }
+    ensures valid { IfOk result (λ stood. IsValid (world_of stood.durable) × IsPlaced stood) }
     ensures reads { IsTrue M.tells → IsUnwritten (now (M.past home.old) First).reads (now (M.past home.old) Second).reads result → OnlyReads (M.past home.old) (M.past home.new) × Settles (M.past home.old) (M.past home.new) }
     ensures faulty { IsTrue M.tells → IsErrOf result FaultOfDisk → IsLeftFaulty (M.past home.old) (M.past home.new) }
     ensures cause { IsErrOf result FaultOfDisk → HasRisen (M.counted home.old) (M.counted home.new) }

@@ -9,8 +9,8 @@ use Rattle.dk_recover.specs.Recovery.{IsAnswer}
 use Rattle.dk_recover.specs.declared.fault.OpenFault.TheVariants as recover
 use Rattle.dk_recover.proofs.Recoveries.{backward, onward}
 use Rattle.dk_core.specs.Listings.{world_of}
-use Rattle.dk_host.specs.OpenedStores.{IsOpenAnswer, IsUnwritten, KeepsWorld}
-use Rattle.dk_host.proofs.Answered.{given_format, given_on, refused_answer, refused_reads}
+use Rattle.dk_host.specs.OpenedStores.{IsOpenAnswer, IsPlaced, IsUnwritten, KeepsWorld}
+use Rattle.dk_host.proofs.Answered.{given_both, given_on, refused_answer, refused_reads}
 use Rattle.dk_host.proofs.Settling.{keeps, lists_valid, world_back}
 use Rattle.dk_host.proofs.standing.stand.Goals as goal
 
@@ -43,10 +43,10 @@ returns-in-Ok-clause-keeps g c tells =
     let has = subst (HasDurable z o) (sym (ap world_of h.3 ∙ world_back h.0)) h.1 in
     let run = c.stand_on.ensures.keeps tells in
     let kept = keeps old mid settles.0 settles.1 (world_of found.durable) has new (c.in-Ok.ensures.reads tells) run.0 run.1 in
-    given_on (λ lists. KeepsWorld (world_of lists) old new) found.durable c.stand_on.result c.stand_on.ensures.stood kept
+    given_on (λ lists. KeepsWorld (world_of lists) old new) IsPlaced found.durable c.stand_on.result c.stand_on.ensures.stood kept
 
 pub returns-in-Ok-clause-valid : goal.returns-in-Ok-clause-valid
-returns-in-Ok-clause-valid g c = given_format (λ lists. IsValid (world_of lists)) c.in-Ok.found.durable c.stand_on.result c.stand_on.ensures.stood (lists_valid c.in-Ok.found.durable c.in-Ok.ensures.valid)
+returns-in-Ok-clause-valid g c = given_both (λ lists. IsValid (world_of lists)) IsPlaced c.in-Ok.found.durable c.stand_on.result c.stand_on.ensures.stood (lists_valid c.in-Ok.found.durable c.in-Ok.ensures.valid)
 
 pub returns-in-Ok-clause-reads : goal.returns-in-Ok-clause-reads
 returns-in-Ok-clause-reads g c tells un =
@@ -81,10 +81,9 @@ returns-in-Err-clause-answer g c tells =
 
 pub returns-in-Err-clause-reads : goal.returns-in-Err-clause-reads
 returns-in-Err-clause-reads g c tells un =
-    let old = g.M.Home.past c.args.home.now in
-    (
+    let old = g.M.Home.past c.args.home.now in (
       c.in-Err.ensures.reads tells,
       c.in-Err.ensures.settles tells (λ err.
-      let is : c.in-Err.fault ≡ recover.DiskFault = cc in
-      refused_reads (now old Zero).reads (now old One).reads c.in-Err.fault c.fault_of.result c.fault_of.ensures un is),
+          let is : c.in-Err.fault ≡ recover.DiskFault = cc in
+          refused_reads (now old Zero).reads (now old One).reads c.in-Err.fault c.fault_of.result c.fault_of.ensures un is),
     )

@@ -1,7 +1,9 @@
-use Rattle.std.proofs.Common.{subst, sym, ◌∙◌}
+use Rattle.std.proofs.Common.{◌≡◌, Option, refl, subst, sym, ◌∙◌}
+use Rattle.std.specs.Prelude.{IfSome}
 use Rattle.dk_types.specs.declared.side.Side.TheVariants.{Zero, One}
 use Rattle.dk_disk.specs.DiskHistories.{now}
 use Rattle.dk_model.specs.DurableWorlds.{DurableWorld}
+use Rattle.dk_journal.specs.declared.journal.Journal.{Journal}
 use Rattle.dk_journal.specs.Recoveries.{Recovering, HeldNeverFalls, IsWorld}
 use Rattle.dk_journal.proofs.Stores.{store_recovers}
 use Rattle.dk_checkpoint.proofs.Held.{now_held}
@@ -95,3 +97,6 @@ returns-else-format-eq-FORMAT-clause-untouched g c tells =
     let is = subst (IsFound z o c.args.game.now past c.args.found) c.in-Some.is (c.requires.found tells) in
     let e = c.migrate.ensures in
     anew_written z o c.args.game.now past c.args.found c.in-Some.journal is (λ two. c.if-format-eq-FORMAT.false (c.format.ensures ∙ two)) c.migrate.result e.untouched
+
+pub returns-then-format-eq-FORMAT-clause-stood : goal.returns-then-format-eq-FORMAT-clause-stood
+returns-then-format-eq-FORMAT-clause-stood g c = (refl, record { format = sym c.format.ensures ∙ c.if-format-eq-FORMAT.true; here = subst (λ (s : Option Journal). IfSome s (λ journal. journal.side ≡ c.args.found.side)) c.in-Some.is c.requires.side })
