@@ -1,4 +1,5 @@
 pub mod Openings
+pub mod OpenedStores
 pub mod Books
 pub mod Calls
 pub mod Commits
