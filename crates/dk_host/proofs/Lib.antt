@@ -9,5 +9,7 @@ pub mod Looked
 pub mod Published
 pub mod Refusing
 pub mod Begun
-pub mod Dealing
 pub mod Ended
+pub mod Owing
+pub mod KeptEvents
+pub mod Unentered

@@ -285,16 +285,16 @@ pub ok_tells : {P : Type 0} (r : Result (Unit {0}) JournalRefused) (x : Unit {0}
 ok_tells {P = P} r x is h = subst (λ (q : Result (Unit {0}) JournalRefused). OnOk q P) is h
 
 -- what an append leaves
-pub appends : (old new : Stored) (p : Prepared) (r : Result (Unit {0}) JournalRefused) → new.pass ≡ old.pass → new.room ≡ old.room → old.waiting ≡ None → old.faults ≡ None → new.waiting ≡ waiting_after r p → new.faults ≡ faults_after r new.counted
+pub appends : (old new : Stored) (p : Prepared) (r : Result (Unit {0}) JournalRefused) → new.watcher ≡ old.watcher → new.room ≡ old.room → old.waiting ≡ None → old.faults ≡ None → new.waiting ≡ waiting_after r p → new.faults ≡ faults_after r new.counted
     → (IsErrOf r journal_refused.DiskFault → HasRisen old.counted new.counted) → OnOk r (new.counted ≡ old.counted) → ((m : ℕ) → IsErrOf r (journal_refused.Full m) → (new.counted ≡ old.counted) × (new.journal_length ≡ old.journal_length)) → IfErr r IsAppendFault → Appends old new p r
-appends old new p (Ok x) pass room none running waits faults risen steady untouched only = (waits, faults, steady)
-appends old new p (Err journal_refused.DiskFault) pass room none running waits faults risen steady untouched only = (faults, risen refl)
-appends old new p (Err (journal_refused.Full m)) pass room none running waits faults risen steady untouched only =
+appends old new p (Ok x) watcher room none running waits faults risen steady untouched only = (waits, faults, steady)
+appends old new p (Err journal_refused.DiskFault) watcher room none running waits faults risen steady untouched only = (faults, risen refl)
+appends old new p (Err (journal_refused.Full m)) watcher room none running waits faults risen steady untouched only =
     let u = untouched m refl in
-    λ i. record { pass = pass i; waiting = (waits ∙ sym none) i; room = room i; faults = (faults ∙ sym running) i; counted = u.0 i; journal_length = u.1 i }
-appends old new p (Err (journal_refused.NotAStore at)) pass room none running waits faults risen steady untouched only = absurd only
-appends old new p (Err (journal_refused.Damaged at)) pass room none running waits faults risen steady untouched only = absurd only
-appends old new p (Err journal_refused.NoMemory) pass room none running waits faults risen steady untouched only = absurd only
+    λ i. record { watcher = watcher i; waiting = (waits ∙ sym none) i; room = room i; faults = (faults ∙ sym running) i; counted = u.0 i; journal_length = u.1 i }
+appends old new p (Err (journal_refused.NotAStore at)) watcher room none running waits faults risen steady untouched only = absurd only
+appends old new p (Err (journal_refused.Damaged at)) watcher room none running waits faults risen steady untouched only = absurd only
+appends old new p (Err journal_refused.NoMemory) watcher room none running waits faults risen steady untouched only = absurd only
 
 pub as_front : {o : Opened} {began : ℕ} {tells : Bool} {past : DiskHistory} {opening : Opening} {journal : Journal} {commits places : ℕ} {waiting : Option Prepared} {faults : Option ℕ} (v w : List Event) → v ≡ w
     → IsStored o began tells past opening journal v commits places waiting faults → IsStored o began tells past opening journal w commits places waiting faults

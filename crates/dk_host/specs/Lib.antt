@@ -1,4 +1,6 @@
 pub mod Openings
+pub mod Keeping
+pub mod Kept
 pub mod Books
 pub mod Calls
 pub mod Commits

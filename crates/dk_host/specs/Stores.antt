@@ -27,14 +27,14 @@ use Rattle.dk_core.specs.declared.answers.PrepareRefused.{PrepareRefused}
 use Rattle.dk_core.specs.declared.answers.PrepareRefused.TheVariants as prepare_refused
 use Rattle.dk_core.specs.Changes.{stale_of}
 use Rattle.dk_core.specs.Rooms.{places_of}
-use Rattle.dk_turn.specs.Fronts.{Known}
+use Rattle.dk_turn.specs.Fronts.{Watched}
 use Rattle.dk_host.specs.declared.prepared.PreparedCommit.{PreparedCommit}
 use Rattle.dk_host.specs.Commits.{IsPreparedAt}
 use Rattle.dk_host.specs.Steps.{TellsStep}
 
--- what contracts see of a store: its pass, the record that waits, how much room is kept, the kept count of faults where it is stopped, the home's count, and the journal's length
+-- what contracts see of a store: its watcher, the record that waits, how much room is kept, the kept count of faults where it is stopped, the home's count, and the journal's length
 pub record Stored : Type 0 where
-  pub pass : Known Event
+  pub watcher : Watched Event
   pub waiting : Option Prepared
   pub room : ℕ
   pub faults : Option ℕ
@@ -42,8 +42,8 @@ pub record Stored : Type 0 where
   pub journal_length : ℕ
 
 -- a store by its parts
-abbrev pub stored : Known Event → Option Prepared → ℕ → Option ℕ → ℕ → ℕ → Stored
-stored pass waiting room faults counted journal_length = record { pass = pass; waiting = waiting; room = room; faults = faults; counted = counted; journal_length = journal_length }
+abbrev pub stored : Watched Event → Option Prepared → ℕ → Option ℕ → ℕ → ℕ → Stored
+stored watcher waiting room faults counted journal_length = record { watcher = watcher; waiting = waiting; room = room; faults = faults; counted = counted; journal_length = journal_length }
 
 -- the commit of a prepared run, as the event that it is
 abbrev pub commit_of : Claimed → Finished → Prepared → Event
@@ -83,8 +83,8 @@ pub record HoldsNow (past : DiskHistory) (journal : Journal) (d : DurableWorld) 
   pub payloads : List (List ℕ)
   pub store : HasStore past side journal header payloads d
 
--- What the store keeps: its right counts the commits that its pass has seen; at every moment since this one what a stop leaves recovers to a beginning; and unless it is stopped
--- the files now recover to the world after all that the pass has seen, followed by the record that waits
+-- What the store keeps: its right counts the commits that its watcher has seen; at every moment since this one what a stop leaves recovers to a beginning; and unless it is stopped
+-- the files now recover to the world after all that the watcher has seen, followed by the record that waits
 pub record IsStored (o : Opened) (began : ℕ) (tells : Bool) (past : DiskHistory) (opening : Opening) (journal : Journal) (front : List Event) (commits places : ℕ) (waiting : Option Prepared) (faults : Option ℕ) : Type 0 where
   pub lawful : AreLawful o.rules
   pub legal : IsLegal o front
@@ -110,11 +110,11 @@ LooksNext o events claimed f room (Err prepare_refused.NoMemory) = Unit {0}
 
 -- the commit of some run comes next, and its room is kept
 abbrev pub IsReady : Opened → Stored → Prepared → Type 0
-IsReady o s p = (claimed : Claimed) × ((f : Finished) × (IsNextCommit o s.pass.front claimed f p × (s.room ≡ places_of f.effects)))
+IsReady o s p = (claimed : Claimed) × ((f : Finished) × (IsNextCommit o s.watcher.front claimed f p × (s.room ≡ places_of f.effects)))
 
 -- the record of this run's commit waits
 abbrev pub WaitsOf : Opened → Stored → Claimed → Finished → Type 0
-WaitsOf o s claimed f = (p : Prepared) × ((s.waiting ≡ Some p) × (IsNextCommit o s.pass.front claimed f p × (s.room ≡ places_of f.effects)))
+WaitsOf o s claimed f = (p : Prepared) × ((s.waiting ≡ Some p) × (IsNextCommit o s.watcher.front claimed f p × (s.room ≡ places_of f.effects)))
 
 -- what an append leaves: at Ok the record waits; a full journal changes nothing; a fault of the disk stops the store, with its count
 abbrev pub Appends : Stored → Stored → Prepared → Result (Unit {0}) JournalRefused → Type 0

@@ -1,5 +1,5 @@
 //! What tells one host from another.
-ghost use Rattle.std.specs.Prelude.{ℕ};
+ghost use Rattle.std.specs.Prelude.{ℕ, Bool, false};
 ghost use Rattle.dk_model.specs.Legal.{Opened};
 ghost use Rattle.dk_host.specs.Openings.{nothing_opened};
 
@@ -13,6 +13,9 @@ pub trait Hosting {
     // The home's moment as it was opened.
     ghost began: { ℕ };
 
+    // Whether it keeps its events in memory.
+    ghost keeps: { Bool };
+
     // The name of the ledger of its commits.
     ghost commits: { ℕ };
 
@@ -24,6 +27,8 @@ impl Hosting for Brand {
     ghost opened = { nothing_opened };
 
     ghost began = { 0 };
+
+    ghost keeps = { false };
 
     ghost commits = { 0 };
 

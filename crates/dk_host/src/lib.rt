@@ -9,8 +9,10 @@
 mod book;
 mod calls;
 mod commit;
+mod history;
 mod host;
 mod hosting;
+mod keeping;
 mod look;
 mod prepared;
 mod refused;

@@ -1,7 +1,6 @@
-use Rattle.std.proofs.Common.{◌≡◌, ◌++◌, option_to_list, sym, subst}
+use Rattle.std.proofs.Common.{sym, subst}
 use Rattle.dk_model.specs.Validity.{IsValid}
 use Rattle.dk_host.proofs.Opening.{opens}
-use Rattle.dk_host.proofs.Dealing.{others_dealt}
 use Rattle.dk_host.proofs.host.Host.open.Goals as goal
 
 pub open-requires : goal.open-requires
@@ -9,6 +8,3 @@ open-requires g c = record { valid = subst IsValid (sym c.requires.durable) c.re
 
 pub invariant_of-book : goal.invariant_of-book
 invariant_of-book g c = opens g.W.Hosting.opened _ _ _ _ _ _ c.requires.lawful c.requires.durable c.requires.budget c.in-Ok.ensures.stands c.in-Ok-new.ensures c.open-commits.ensures.total c.open-places.ensures.total
-
-pub returns-clause-passes : goal.returns-clause-passes
-returns-clause-passes g c = others_dealt g.J.Naming.name.passes c.in-Ok-new-2.passes.items c.pop.new.self.items c.in-Some.pass (subst (λ r. c.in-Ok-new-2.passes.items ≡ c.pop.new.self.items ++ option_to_list r) c.in-Some.is c.pop.ensures.items) c.in-Ok-new-2.ensures.ok
