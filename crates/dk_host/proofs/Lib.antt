@@ -11,8 +11,9 @@ pub mod Refusing
 pub mod Settling
 pub mod Answered
 pub mod Begun
-pub mod Dealing
 pub mod Ended
 pub mod Copying
 pub mod Rewriting
-pub mod Relisted
+pub mod Owing
+pub mod KeptEvents
+pub mod Unentered

@@ -1,5 +1,7 @@
 pub mod Openings
 pub mod OpenedStores
+pub mod Keeping
+pub mod Kept
 pub mod Books
 pub mod Calls
 pub mod Commits
