@@ -19,7 +19,7 @@ tail_is : (o : Opened) (front : List Event) (places : ℕ) (waiting : Option Pre
 tail_is o front places None tail w = subst (IsTail o front) (sym w) tt
 tail_is o front places (Some p) tail w = subst (IsTail o front) (sym w.1.1.is_tail) w.1.1.next.may
 
-pub ends : (o : Opened) (began : ℕ) (tells : Bool) (past : DiskHistory) (opens : Opening) (journal : Journal) (front : List Event) (commits places : ℕ) (waiting : Option Prepared) (faults : Option ℕ) → IsStored o began tells past opens journal front commits places waiting faults
+pub ends : (o : Opened) (began : DiskHistory) (tells : Bool) (past : DiskHistory) (opens : Opening) (journal : Journal) (front : List Event) (commits places : ℕ) (waiting : Option Prepared) (faults : Option ℕ) → IsStored o began tells past opens journal front commits places waiting faults
     → (faults ≡ None → waiting ≡ None) → (log : List Event) → Begins front log → commits ≡ commits_of log → IsTrue tells → EndsAs o began past log faults
 ends o began tells past opens journal front commits places waiting faults s free log goes same h =
     let both = commits_of-append front goes.0 in

@@ -8,6 +8,8 @@ pub mod Storing
 pub mod Looked
 pub mod Published
 pub mod Refusing
+pub mod Settling
+pub mod Answered
 pub mod Begun
 pub mod Ended
 pub mod Owing

@@ -24,7 +24,7 @@ use Rattle.dk_host.proofs.Calling.{entered_by, may_end}
 use Rattle.dk_host.proofs.Nexts.{next_commit}
 use Rattle.dk_host.proofs.Storing.{store_on}
 
-module _ (o : Opened) (began : ℕ) (tells : Bool) (past : DiskHistory) (opening : Opening) (journal : Journal) (front : List Event) (commits places : ℕ) (faults : Option ℕ) (s : IsStored o began tells past opening journal front commits places None faults)
+module _ (o : Opened) (began : DiskHistory) (tells : Bool) (past : DiskHistory) (opening : Opening) (journal : Journal) (front : List Event) (commits places : ℕ) (faults : Option ℕ) (s : IsStored o began tells past opening journal front commits places None faults)
     (claimed : Claimed) (f : Finished) (p : Known Event) (new : List Event) (lent : ℕ) (whole : lent ≡ commits) (commits_after room parts others : ℕ) (r : Result Prepared PrepareRefused)
     (c : Called pass_of p.number (λ before added. Begins front before × ((parts ≡ 1) × (others ≡ 1) × (commits_after ≡ lent) × PreparesBy o claimed f lent room before r added)) p.front new) where
   abbrev by : PreparesBy o claimed f lent room c.before r c.added

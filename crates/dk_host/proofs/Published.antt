@@ -22,7 +22,7 @@ use Rattle.dk_host.proofs.Calling.{entered_by, may_end, honest_later}
 use Rattle.dk_host.proofs.Nexts.{prepared_on}
 use Rattle.dk_host.proofs.Storing.{store_published}
 
-module _ (o : Opened) (began : ℕ) (tells : Bool) (past : DiskHistory) (opening : Opening) (journal : Journal) (front : List Event) (commits places : ℕ) (faults : Option ℕ) (claimed : Claimed) (f : Finished) (p : Prepared)
+module _ (o : Opened) (began : DiskHistory) (tells : Bool) (past : DiskHistory) (opening : Opening) (journal : Journal) (front : List Event) (commits places : ℕ) (faults : Option ℕ) (claimed : Claimed) (f : Finished) (p : Prepared)
     (s : IsStored o began tells past opening journal front commits places (Some p) faults) (next : IsNextCommit o front claimed f p) (q : Known Event) (claim : IsClaimOf o q claimed) where
   -- wherever the history goes on from both fronts, the run may be published
   pub may_publish : IsHonestAt o q.front claimed f → (log : List Event) → Continues pass_of q.number q.front log → Begins front log → (amount room : ℕ) → amount ≡ commits → room ≡ places_of f.effects

@@ -69,7 +69,7 @@ some_or_all o events e d some = ⊎_elim
 untailed : (o : Opened) (events : List Event) (d : DurableWorld) → IsAfterSomeOrTail o events [] d → IsAfterSome o events d
 untailed o events d some = subst (λ (es : List Event). IsAfterSome o es d) (append-nil events) some
 
-module _ (o : Opened) (began : ℕ) (tells : Bool) (past : DiskHistory) (opening : Opening) (journal : Journal) (front more : List Event) (commits places : ℕ) (faults : Option ℕ) where
+module _ (o : Opened) (began : DiskHistory) (tells : Bool) (past : DiskHistory) (opening : Opening) (journal : Journal) (front more : List Event) (commits places : ℕ) (faults : Option ℕ) where
   -- the store's pass goes on, while nothing waits and no commit comes
   pub store_on : IsStored o began tells past opening journal front commits places None faults → commits_of (front ++ more) ≡ commits → IsLegal o (front ++ more) → (room : ℕ) → IsStored o began tells past opening journal (front ++ more) commits room None faults
   store_on s same legal room =
@@ -88,6 +88,7 @@ module _ (o : Opened) (began : ℕ) (tells : Bool) (past : DiskHistory) (opening
         since = λ h.
             let was : HasRecovered o began past front [] = subst (HasRecovered o began past front) s.waits (s.since h) in record {
               begun = was.begun;
+              kept = was.kept;
               recovers = λ t from to. all_weakened (IsAfterSomeOrTail o front []) (IsAfterSomeOrTail o (front ++ more) []) past t
                   (λ d some. after_more o (front ++ more) [] d (after_more o front more d (untailed o front d some))) (was.recovers t from to);
               held = was.held;
@@ -143,6 +144,7 @@ module _ (o : Opened) (began : ℕ) (tells : Bool) (past : DiskHistory) (opening
           since = λ h.
               let was : HasRecovered o began past front (commit_of s.waits.0 s.waits.1.0 p ∷ []) = subst (HasRecovered o began past front) s.waits.1.1.is_tail (s.since h) in record {
                 begun = was.begun;
+                kept = was.kept;
                 recovers = λ t from to. all_weakened (IsAfterSomeOrTail o front (commit_of s.waits.0 s.waits.1.0 p ∷ [])) (IsAfterSomeOrTail o (before ++ e ∷ []) []) past t (λ d some. after_more o (before ++ e ∷ []) [] d (⊎_elim
                     (λ first. after_more o before (e ∷ []) d (after_more o front more d first))
                     (λ (last : d ≡ (world_after o (front ++ commit_of s.waits.0 s.waits.1.0 p ∷ [])).durable).
@@ -165,7 +167,7 @@ pub runs_not : {A : Type 0} (n : ℕ) → Some n ≡ None → A
 runs_not n same = absurd cc
 
 -- a record is put behind the last one
-module _ (o : Opened) (began : ℕ) (tells : Bool) (old new : DiskHistory) (opening opening_after : Opening) (journal after_journal : Journal) (front : List Event) (commits places : ℕ) (claimed : Claimed) (f : Finished) (p : Prepared) (payload : List ℕ)
+module _ (o : Opened) (began : DiskHistory) (tells : Bool) (old new : DiskHistory) (opening opening_after : Opening) (journal after_journal : Journal) (front : List Event) (commits places : ℕ) (claimed : Claimed) (f : Finished) (p : Prepared) (payload : List ℕ)
     (s : IsStored o began tells old opening journal front commits places None None) (next : IsNextCommit o front claimed f p) (room : places ≡ places_of f.effects) (bytes : payload ≡ entries_spelling (p.entry ∷ []))
     (run : IsTrue tells → (header : List ℕ) (payloads : List (List ℕ)) → StandsAt journal.side journal.length old header payloads → Runs journal.side (HasOrNot header payloads payload) old new)
     (falls : IsTrue tells → (header : List ℕ) (payloads : List (List ℕ)) → StandsAt journal.side journal.length old header payloads → NeverFalls header journal.side old.clock new)
@@ -213,9 +215,10 @@ module _ (o : Opened) (began : ℕ) (tells : Bool) (old new : DiskHistory) (open
         let was : HasRecovered o began old front [] = subst (HasRecovered o began old front) s.waits (s.since h) in
         let r = run h (header_spelling held.header) held.payloads here in record {
           begun = omega (arith, was.begun, r.later);
-          recovers = since_on (IsAfterSomeOrTail o front (last ∷ [])) began old new
+          kept = λ t side le. r.kept t side (omega (arith, le, was.begun)) ∙ was.kept t side le;
+          recovers = since_on (IsAfterSomeOrTail o front (last ∷ [])) began.clock old new
               (λ t from to. all_weakened (IsAfterSomeOrTail o front []) (IsAfterSomeOrTail o front (last ∷ [])) old t (λ x some. after_more o front (last ∷ []) x (untailed o front x some)) (was.recovers t from to)) recovering;
-          held = held_on began old new was.begun r.later r.kept was.held
+          held = held_on began.clock old new was.begun r.later r.kept was.held
               (append_held journal.side held.header held.payloads payload d w old new held.store.fits outranked held.store.world next_is grows r (falls h (header_spelling held.header) held.payloads here));
         }
 
@@ -270,12 +273,12 @@ module _ (o : Opened) (began : ℕ) (tells : Bool) (old new : DiskHistory) (open
   store_settled (Err journal_refused.NoMemory) n acknowledged untouched same only = absurd only
 
 -- what waits is this
-pub as_waiting : {o : Opened} {began : ℕ} {tells : Bool} {past : DiskHistory} {opening : Opening} {journal : Journal} {front : List Event} {commits places : ℕ} {faults : Option ℕ} (v w : Option Prepared) → v ≡ w
+pub as_waiting : {o : Opened} {began : DiskHistory} {tells : Bool} {past : DiskHistory} {opening : Opening} {journal : Journal} {front : List Event} {commits places : ℕ} {faults : Option ℕ} (v w : Option Prepared) → v ≡ w
     → IsStored o began tells past opening journal front commits places v faults → IsStored o began tells past opening journal front commits places w faults
 as_waiting {o = o} {began = began} {tells = tells} {past = past} {opening = opening} {journal = journal} {front = front} {commits = commits} {places = places} {faults = faults} v w same s =
     subst (λ (x : Option Prepared). IsStored o began tells past opening journal front commits places x faults) same s
 
-pub as_faults : {o : Opened} {began : ℕ} {tells : Bool} {past : DiskHistory} {opening : Opening} {journal : Journal} {front : List Event} {commits places : ℕ} {waiting : Option Prepared} (v w : Option ℕ) → v ≡ w
+pub as_faults : {o : Opened} {began : DiskHistory} {tells : Bool} {past : DiskHistory} {opening : Opening} {journal : Journal} {front : List Event} {commits places : ℕ} {waiting : Option Prepared} (v w : Option ℕ) → v ≡ w
     → IsStored o began tells past opening journal front commits places waiting v → IsStored o began tells past opening journal front commits places waiting w
 as_faults {o = o} {began = began} {tells = tells} {past = past} {opening = opening} {journal = journal} {front = front} {commits = commits} {places = places} {waiting = waiting} v w same s =
     subst (λ (x : Option ℕ). IsStored o began tells past opening journal front commits places waiting x) same s
@@ -296,7 +299,7 @@ appends old new p (Err (journal_refused.NotAStore at)) watcher room none running
 appends old new p (Err (journal_refused.Damaged at)) watcher room none running waits faults risen steady untouched only = absurd only
 appends old new p (Err journal_refused.NoMemory) watcher room none running waits faults risen steady untouched only = absurd only
 
-pub as_front : {o : Opened} {began : ℕ} {tells : Bool} {past : DiskHistory} {opening : Opening} {journal : Journal} {commits places : ℕ} {waiting : Option Prepared} {faults : Option ℕ} (v w : List Event) → v ≡ w
+pub as_front : {o : Opened} {began : DiskHistory} {tells : Bool} {past : DiskHistory} {opening : Opening} {journal : Journal} {commits places : ℕ} {waiting : Option Prepared} {faults : Option ℕ} (v w : List Event) → v ≡ w
     → IsStored o began tells past opening journal v commits places waiting faults → IsStored o began tells past opening journal w commits places waiting faults
 as_front {o = o} {began = began} {tells = tells} {past = past} {opening = opening} {journal = journal} {commits = commits} {places = places} {waiting = waiting} {faults = faults} v w same s =
     subst (λ (x : List Event). IsStored o began tells past opening journal x commits places waiting faults) same s

@@ -1,6 +1,7 @@
 pub mod Openings
 pub mod Keeping
 pub mod Kept
+pub mod OpenedStores
 pub mod Books
 pub mod Calls
 pub mod Commits

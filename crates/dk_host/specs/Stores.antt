@@ -70,11 +70,12 @@ abbrev pub Waits : Opened → List Event → ℕ → Option Prepared → List Ev
 Waits o events places None tail = tail ≡ []
 Waits o events places (Some p) tail = (claimed : Claimed) × ((f : Finished) × WaitsFor o events places claimed f p tail)
 
--- since this moment each image recovers to the world after some first commits, or after all of them and then the tail's; and what is held does not fall
-pub record HasRecovered (o : Opened) (began : ℕ) (past : DiskHistory) (events tail : List Event) : Type 0 where
-  pub begun : began ≤ past.clock
-  pub recovers : RecoverSince (IsAfterSomeOrTail o events tail) began past
-  pub held : HeldNeverFalls began past
+-- Since the files had this past, what was stays; each image recovers to the world after some first commits, or after all of them and then the tail's; and what is held does not fall.
+pub record HasRecovered (o : Opened) (began past : DiskHistory) (events tail : List Event) : Type 0 where
+  pub begun : began.clock ≤ past.clock
+  pub kept : (t : ℕ) (side : Side) → t ≤ began.clock → past.disks t side ≡ began.disks t side
+  pub recovers : RecoverSince (IsAfterSomeOrTail o events tail) began.clock past
+  pub held : HeldNeverFalls began.clock past
 
 -- a store stands on the home's files, and has this world
 pub record HoldsNow (past : DiskHistory) (journal : Journal) (d : DurableWorld) : Type 0 where
@@ -83,9 +84,9 @@ pub record HoldsNow (past : DiskHistory) (journal : Journal) (d : DurableWorld) 
   pub payloads : List (List ℕ)
   pub store : HasStore past side journal header payloads d
 
--- What the store keeps: its right counts the commits that its watcher has seen; at every moment since this one what a stop leaves recovers to a beginning; and unless it is stopped
+-- What the store keeps: its right counts the commits that its watcher has seen; at every moment since its files had this past what a stop leaves recovers to a beginning; and unless it is stopped
 -- the files now recover to the world after all that the watcher has seen, followed by the record that waits
-pub record IsStored (o : Opened) (began : ℕ) (tells : Bool) (past : DiskHistory) (opening : Opening) (journal : Journal) (front : List Event) (commits places : ℕ) (waiting : Option Prepared) (faults : Option ℕ) : Type 0 where
+pub record IsStored (o : Opened) (began : DiskHistory) (tells : Bool) (past : DiskHistory) (opening : Opening) (journal : Journal) (front : List Event) (commits places : ℕ) (waiting : Option Prepared) (faults : Option ℕ) : Type 0 where
   pub lawful : AreLawful o.rules
   pub legal : IsLegal o front
   pub counted : commits ≡ commits_of front
@@ -143,9 +144,9 @@ faults_after (Err (journal_refused.NotAStore at)) n = None
 faults_after (Err (journal_refused.Damaged at)) n = None
 faults_after (Err journal_refused.NoMemory) n = None
 
--- HOW A HOST ENDS: at every moment since this one what a stop leaves recovers to the world after some first commits of the history, or after all of them and then the tail's, and what
+-- HOW A HOST ENDS: at every moment since its files had this past what a stop leaves recovers to the world after some first commits of the history, or after all of them and then the tail's, and what
 -- is held does not fall. Unless the store was stopped, the files now recover to the world after all events. No commit came since the tail was looked for
-pub record EndsAs (o : Opened) (began : ℕ) (past : DiskHistory) (events : List Event) (faults : Option ℕ) : Type 0 where
+pub record EndsAs (o : Opened) (began past : DiskHistory) (events : List Event) (faults : Option ℕ) : Type 0 where
   pub front : List Event
   pub later : List Event
   pub tail : List Event

@@ -4,23 +4,24 @@ ghost use Rattle.std.specs.List.{All};
 ghost use Rattle.std.specs.FinMap as map;
 ghost use Rattle.dk_model.specs.Lawful.{AreLawful};
 ghost use Rattle.dk_model.specs.Legal.{world_after, pass_of, IsFront, IsLegal};
-ghost use Rattle.dk_model.specs.Validity.{IsValid};
-ghost use Rattle.dk_disk.specs.Opening.{IsOpen};
 ghost use Rattle.dk_turn.specs.Fronts.{IsDealt};
 ghost use Rattle.dk_core.specs.Listings.{world_of};
-ghost use Rattle.dk_host.specs.Stores.{EndsAs, HasRecovered, HoldsNow};
+ghost use Rattle.dk_host.specs.declared.fault.OpenFault.TheVariants.{NoMemory as WantOfMemory};
+ghost use Rattle.dk_host.specs.Stores.{EndsAs};
 
 use crate::book::WorldBook;
 use crate::commit::FreeStore;
+use crate::fault::OpenRefused;
 use crate::history::History;
 use crate::hosting::{CommitLedger, Hosting, PlaceLedger};
+use crate::opened::OpenedStore;
 use crate::right::CommitRight;
+use crate::standing::Stood;
 use crate::store::CommitStore;
 use dk_core::Core;
 use dk_disk::Home;
-use dk_journal::Journal;
 use dk_turn::{Blank, GhostList, Naming, Pass, Turn};
-use dk_types::{Durable, Event};
+use dk_types::Event;
 use std::alloc::Global;
 use std::sync::{Mutex, ledger};
 
@@ -30,12 +31,6 @@ use std::sync::{Mutex, ledger};
 pub struct Host<W: Hosting, J: Naming, M: Home> {
     pub(crate) world: Turn<WorldBook<W>, J>,
     pub(crate) store: Mutex<FreeStore<W, J, M>>,
-}
-
-/// A host that was not opened, since there was no memory. The home comes back.
-#[derive(Drop)]
-pub struct OpenRefused<M> {
-    pub home: M,
 }
 
 /// What is left of a host: its home, the events that it kept, how many commits its durable world has, and how many tasks
@@ -54,16 +49,14 @@ pub struct Closed<M> {
 }
 
 impl<W: Hosting, J: Naming, M: Home> Host<W, J, M> {
-    /// Opens the durable world of a store that stands, with a budget of claims or without, and deals the passes. With
-    /// `keep` it keeps its events.
+    /// Opens the durable world of a store, with a budget of claims or without, and deals the passes. With `keep` it keeps its
+    /// events. It is refused for want of memory alone, and then nothing was written.
     pub fn open(
         alloc: Global,
         blank: Blank<WorldBook<W>>,
         commits: ledger::Blank,
         places: ledger::Blank,
-        home: M,
-        journal: Journal,
-        durable: Durable,
+        store: OpenedStore<M>,
         budget: Option<u64>,
         keep: bool,
     ) -> Result<(Host<W, J, M>, Vec<Pass<WorldBook<W>, J>>), OpenRefused<M>>
@@ -71,24 +64,30 @@ impl<W: Hosting, J: Naming, M: Home> Host<W, J, M> {
         requires commits { (commits.name ≡ W.commits) × (commits.parts ≡ 1) }
         requires places { (places.name ≡ W.places) × (places.parts ≡ 1) }
         requires lawful { AreLawful W.opened.rules }
-        requires valid { IsValid W.opened.durable }
-        requires durable { world_of durable ≡ W.opened.durable }
+        requires durable { world_of store.durable ≡ W.opened.durable }
         requires budget { budget ≡ W.opened.budget }
         requires keep { W.keeps ≡ keep }
-        requires is_open { IsOpen (M.opening home) }
-        requires format { journal.format ≡ 2 }
-        requires holds { IsTrue M.tells → HoldsNow (M.past home) journal W.opened.durable }
-        requires since { IsTrue M.tells → HasRecovered W.opened W.began (M.past home) [] [] }
+        requires began { M.past store.home ≡ W.began }
         ensures passes { IfOk result (λ opened. IsDealt J.name.passes opened.1.items) }
-        ensures home { IfErr result (λ refused. refused.home ≡ home) }
+        ensures refused { IfErr result (λ refused. (refused.home ≡ store.home) × (refused.fault ≡ WantOfMemory)) }
     {
+        let OpenedStore {
+            home,
+            stood,
+            game: _,
+        } = store;
+        let Stood {
+            journal,
+            side: _,
+            durable,
+        } = stood;
         let (commits, commit_share) = commits.open::<CommitLedger<W>>();
         let (places, place_share) = places.open::<PlaceLedger<W>>();
         let Ok(core) = Core::open(alloc, durable, budget) else {
-            return Err(OpenRefused { home });
+            return Err(OpenRefused::no_memory(home));
         };
         let Ok(history) = History::new(alloc, keep) else {
-            return Err(OpenRefused { home });
+            return Err(OpenRefused::no_memory(home));
         };
         let book = WorldBook {
             core,
@@ -97,7 +96,7 @@ impl<W: Hosting, J: Naming, M: Home> Host<W, J, M> {
             places,
         };
         let Ok((world, passes, watcher)) = Turn::<WorldBook<W>, J>::watched(alloc, blank, book) else {
-            return Err(OpenRefused { home });
+            return Err(OpenRefused::no_memory(home));
         };
         let right = CommitRight::new(commit_share, place_share);
         let store = CommitStore::new(home, journal, watcher, right, alloc);
