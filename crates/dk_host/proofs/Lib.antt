@@ -1,5 +1,6 @@
 pub mod Stepping
 pub mod Calling
+pub mod Entering
 pub mod Opening
 pub mod Committing
 pub mod Looking

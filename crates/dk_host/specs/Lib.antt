@@ -4,6 +4,7 @@ pub mod Keeping
 pub mod Kept
 pub mod Books
 pub mod Calls
+pub mod Passes
 pub mod Commits
 pub mod Steps
 pub mod Stores
