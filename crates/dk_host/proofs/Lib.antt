@@ -15,3 +15,6 @@ pub mod Ended
 pub mod Owing
 pub mod KeptEvents
 pub mod Unentered
+pub mod Copying
+pub mod Rewriting
+pub mod Relisted

@@ -7,6 +7,7 @@ use Rattle.dk_types.specs.declared.event.Event.TheVariants as event
 use Rattle.dk_types.specs.declared.event.ConnectReply.TheVariants as connected
 use Rattle.dk_types.specs.declared.event.PostReply.TheVariants as posted
 use Rattle.dk_types.specs.declared.event.ClaimReply.TheVariants as claimed
+use Rattle.dk_types.specs.declared.durable.Durable.{Durable}
 use Rattle.dk_types.specs.declared.fault.NoMemory.{NoMemory}
 use Rattle.dk_types.specs.declared.item.Item.{Item}
 use Rattle.dk_types.specs.declared.item.Read.{Read}
@@ -16,6 +17,7 @@ use Rattle.dk_model.specs.Legal.{Opened, opening_of, world_after, IsLegal, IsFro
 use Rattle.dk_model.specs.declared.waiting.Waiting.TheVariants as waits
 use Rattle.dk_model.specs.Deliveries.{is_disconnect}
 use Rattle.dk_model.specs.Finishes.{IsHonest}
+use Rattle.dk_model.specs.Images.{world_lists}
 use Rattle.dk_model.specs.Lawful.{HasShortBody}
 use Rattle.dk_model.specs.Sights.{IsReadAt}
 use Rattle.dk_txn.specs.declared.finished.Finished.{Finished}
@@ -99,6 +101,10 @@ Grants o p r = IfOk r (λ granted. IfSome granted (IsClaimOf o p))
 -- what was read is what the history up to this front answers, and what is seen there
 abbrev pub ReadsAt : Opened → List Event → Item → Result Read NoMemory → Type 0
 ReadsAt o front item r = IfOk r (IsReadAt o.rules (opening_of o) front item)
+
+-- what was copied is the durable world that the history up to this front leaves, as lists in order
+abbrev pub IsCopyAt : Opened → List Event → Result Durable NoMemory → Type 0
+IsCopyAt o front r = IfOk r (λ d. d ≡ world_lists (world_after o front).durable)
 
 -- the finished run is honest for this claim at this front
 abbrev pub IsHonestAt : Opened → List Event → Claimed → Finished → Type 0

@@ -9,3 +9,4 @@ pub mod Steps
 pub mod Stores
 pub mod Refusals
 pub mod Looks
+pub mod Checkpoints

@@ -2,6 +2,7 @@
 use Rattle.std.specs.Prelude.{◌≡◌, ℕ, ◌+◌, Bool, true, List, [], ◌∷◌, ◌++◌, length, Option, Result, Ok, Err, IfOk, OnErr}
 use Rattle.dk_types.specs.declared.event.Event.{Event}
 use Rattle.dk_types.specs.declared.event.Event.TheVariants as event
+use Rattle.dk_types.specs.declared.durable.Durable.{Durable}
 use Rattle.dk_types.specs.declared.fault.NoMemory.{NoMemory}
 use Rattle.dk_types.specs.declared.item.Item.{Item}
 use Rattle.dk_types.specs.declared.item.Read.{Read}
@@ -21,7 +22,7 @@ use Rattle.dk_core.specs.Rooms.{places_of}
 use Rattle.dk_txn.specs.declared.finished.Finished.{Finished}
 use Rattle.dk_txn.specs.Finishes.{told}
 use Rattle.dk_turn.specs.Fronts.{known}
-use Rattle.dk_host.specs.Calls.{Stands, Grants, ReadsAt, IsSpared, IsHonestAt, AreShort, claim_events, post_events, hand_events, tick_events}
+use Rattle.dk_host.specs.Calls.{Stands, Grants, ReadsAt, IsCopyAt, IsSpared, IsHonestAt, AreShort, claim_events, post_events, hand_events, tick_events}
 use Rattle.dk_host.specs.Commits.{IsPreparedAt, Finds}
 
 -- these events are added, and the history is legal with them
@@ -96,3 +97,17 @@ pub record PublishesBy (o : Opened) (pass : ℕ) (claimed : Claimed) (f : Finish
   pub adds : Adds o (event.Commit pass claimed.run seq f.outcome ∷ []) before added
   pub counted : commits_of before ≡ commits
   pub number : seq ≡ (world_after o before).durable.commits + 1
+
+-- a copy adds nothing, and is of the durable world of the history
+pub record Copies (o : Opened) (before : List Event) (r : Result Durable NoMemory) (added : List Event) : Type 0 where
+  pub adds : Adds o [] before added
+  pub copied : IsCopyAt o (before ++ added) r
+
+-- both ledgers' whole shares
+abbrev pub IsWhole : ℕ → ℕ → Type 0
+IsWhole commits places = (commits ≡ 1) × (places ≡ 1)
+
+-- the same copy, and so many commits came before it
+pub record CopiesLast (o : Opened) (commits : ℕ) (before : List Event) (r : Result Durable NoMemory) (added : List Event) : Type 0 where
+  pub copies : Copies o before r added
+  pub counted : commits_of before ≡ commits

@@ -4,7 +4,8 @@ use Rattle.dk_types.specs.Faults.{HasRisen}
 use Rattle.dk_types.specs.declared.event.Event.{Event}
 use Rattle.dk_types.specs.declared.event.Event.TheVariants as event
 use Rattle.dk_types.specs.declared.side.Side.{Side}
-use Rattle.dk_disk.specs.DiskHistories.{DiskHistory}
+use Rattle.dk_types.specs.declared.side.Side.TheVariants.{Zero, One}
+use Rattle.dk_disk.specs.DiskHistories.{DiskHistory, now}
 use Rattle.dk_disk.specs.Opening.{Opening, IsOpen}
 use Rattle.dk_model.specs.DurableWorlds.{DurableWorld}
 use Rattle.dk_model.specs.Effects.{after}
@@ -13,13 +14,13 @@ use Rattle.dk_model.specs.Lawful.{AreLawful}
 use Rattle.dk_model.specs.Legal.{Opened, opening_of, IsLegal, commits_of, world_after}
 use Rattle.dk_model.specs.Recovered.{IsNext}
 use Rattle.dk_model.specs.Retries.{IsFirstStale}
-use Rattle.dk_model.specs.Stores.{StoreHeader}
+use Rattle.dk_model.specs.Stores.{StoreHeader, StandsOn, standing}
 use Rattle.dk_model.specs.Tails.{MayCommit, IsTail, IsAfterSomeOrTail}
 use Rattle.dk_journal.specs.declared.journal.Journal.{Journal}
 use Rattle.dk_journal.specs.declared.refused.JournalRefused.{JournalRefused}
 use Rattle.dk_journal.specs.declared.refused.JournalRefused.TheVariants as journal_refused
 use Rattle.dk_journal.specs.Recoveries.{AllRecover, RecoverSince, HeldNeverFalls, IsWorld}
-use Rattle.dk_journal.specs.Stores.{HasStore}
+use Rattle.dk_journal.specs.Stores.{HasStore, AreSettled}
 use Rattle.dk_txn.specs.declared.finished.Finished.{Finished}
 use Rattle.dk_core.specs.declared.claimed.Claimed.{Claimed}
 use Rattle.dk_core.specs.declared.prepared.Prepared.{Prepared}
@@ -32,7 +33,7 @@ use Rattle.dk_host.specs.declared.prepared.PreparedCommit.{PreparedCommit}
 use Rattle.dk_host.specs.Commits.{IsPreparedAt}
 use Rattle.dk_host.specs.Steps.{TellsStep}
 
--- what contracts see of a store: its watcher, the record that waits, how much room is kept, the kept count of faults where it is stopped, the home's count, and the journal's length
+-- what contracts see of a store: its watcher, the record that waits, how much room is kept, the kept count of faults where it is stopped, the home's count, and the journal's length and epoch
 pub record Stored : Type 0 where
   pub watcher : Watched Event
   pub waiting : Option Prepared
@@ -40,10 +41,11 @@ pub record Stored : Type 0 where
   pub faults : Option ℕ
   pub counted : ℕ
   pub journal_length : ℕ
+  pub epoch : ℕ
 
 -- a store by its parts
-abbrev pub stored : Watched Event → Option Prepared → ℕ → Option ℕ → ℕ → ℕ → Stored
-stored watcher waiting room faults counted journal_length = record { watcher = watcher; waiting = waiting; room = room; faults = faults; counted = counted; journal_length = journal_length }
+abbrev pub stored : Watched Event → Option Prepared → ℕ → Option ℕ → ℕ → Journal → Stored
+stored watcher waiting room faults counted journal = record { watcher = watcher; waiting = waiting; room = room; faults = faults; counted = counted; journal_length = journal.length; epoch = journal.epoch }
 
 -- the commit of a prepared run, as the event that it is
 abbrev pub commit_of : Claimed → Finished → Prepared → Event
@@ -77,16 +79,22 @@ pub record HasRecovered (o : Opened) (began past : DiskHistory) (events tail : L
   pub recovers : RecoverSince (IsAfterSomeOrTail o events tail) began.clock past
   pub held : HeldNeverFalls began.clock past
 
--- a store stands on the home's files, and has this world
-pub record HoldsNow (past : DiskHistory) (journal : Journal) (d : DurableWorld) : Type 0 where
-  pub side : Side
+-- this game's store stands on the home's files, the journal on its side, and has this world
+pub record HoldsNow (past : DiskHistory) (game : List ℕ) (journal : Journal) (d : DurableWorld) : Type 0 where
   pub header : StoreHeader
   pub payloads : List (List ℕ)
-  pub store : HasStore past side journal header payloads d
+  pub ours : header.game ≡ game
+  pub store : HasStore past journal.side journal header payloads d
+
+-- the journal stands on this side, and its epoch is no less than the one that the store was opened with, which is this number
+pub record IsKeptOn (side : Side) (journal : Journal) (begun first : ℕ) : Type 0 where
+  pub here : journal.side ≡ side
+  pub same : first ≡ begun
+  pub later : begun ≤ journal.epoch
 
 -- What the store keeps: its right counts the commits that its watcher has seen; at every moment since its files had this past what a stop leaves recovers to a beginning; and unless it is stopped
 -- the files now recover to the world after all that the watcher has seen, followed by the record that waits
-pub record IsStored (o : Opened) (began : DiskHistory) (tells : Bool) (past : DiskHistory) (opening : Opening) (journal : Journal) (front : List Event) (commits places : ℕ) (waiting : Option Prepared) (faults : Option ℕ) : Type 0 where
+pub record IsStored (o : Opened) (began : DiskHistory) (tells : Bool) (past : DiskHistory) (opening : Opening) (game : List ℕ) (journal : Journal) (front : List Event) (commits places : ℕ) (waiting : Option Prepared) (faults : Option ℕ) : Type 0 where
   pub lawful : AreLawful o.rules
   pub legal : IsLegal o front
   pub counted : commits ≡ commits_of front
@@ -95,7 +103,7 @@ pub record IsStored (o : Opened) (began : DiskHistory) (tells : Bool) (past : Di
   pub tail : List Event
   pub waits : Waits o front places waiting tail
   pub since : IsTrue tells → HasRecovered o began past front tail
-  pub holds : IsTrue tells → faults ≡ None → HoldsNow past journal (world_after o (front ++ tail)).durable
+  pub holds : IsTrue tells → faults ≡ None → HoldsNow past game journal (world_after o (front ++ tail)).durable
 
 -- what a prepare of the store finds: the commit comes next, and its room is kept; or the first stale read
 abbrev pub FindsNext : Opened → List Event → Claimed → Finished → ℕ → Result PreparedCommit PrepareRefused → Type 0
@@ -144,9 +152,17 @@ faults_after (Err (journal_refused.NotAStore at)) n = None
 faults_after (Err (journal_refused.Damaged at)) n = None
 faults_after (Err journal_refused.NoMemory) n = None
 
+-- nothing is pending on either file, and by the table a store of this epoch stands
+pub record StandsAs (past : DiskHistory) (epoch : ℕ) : Type 0 where
+  pub side : Side
+  pub header : StoreHeader
+  pub table : standing (now past Zero).reads (now past One).reads ≡ StandsOn side header
+  pub counted : epoch ≡ header.epoch
+  pub rests : AreSettled past
+
 -- HOW A HOST ENDS: at every moment since its files had this past what a stop leaves recovers to the world after some first commits of the history, or after all of them and then the tail's, and what
--- is held does not fall. Unless the store was stopped, the files now recover to the world after all events. No commit came since the tail was looked for
-pub record EndsAs (o : Opened) (began past : DiskHistory) (events : List Event) (faults : Option ℕ) : Type 0 where
+-- is held does not fall. Unless the store was stopped, the files now recover to the world after all events, and the store that stands has this epoch. No commit came since the tail was looked for
+pub record EndsAs (o : Opened) (began past : DiskHistory) (events : List Event) (faults : Option ℕ) (epoch : ℕ) : Type 0 where
   pub front : List Event
   pub later : List Event
   pub tail : List Event
@@ -155,3 +171,4 @@ pub record EndsAs (o : Opened) (began past : DiskHistory) (events : List Event) 
   pub is_tail : IsTail o front tail
   pub since : HasRecovered o began past front tail
   pub now : faults ≡ None → AllRecover (IsWorld (world_after o events).durable) past past.clock
+  pub stands : faults ≡ None → StandsAs past epoch

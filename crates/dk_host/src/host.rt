@@ -1,5 +1,5 @@
 //! The host: how it is opened and closed.
-ghost use Rattle.std.specs.Prelude.{◌≡◌, ◌<◌, false, [], IfOk, IfErr, IsTrue};
+ghost use Rattle.std.specs.Prelude.{◌≡◌, ◌<◌, ◌≤◌, false, [], IfOk, IfErr, IsTrue};
 ghost use Rattle.std.specs.List.{All};
 ghost use Rattle.std.specs.FinMap as map;
 ghost use Rattle.dk_model.specs.Lawful.{AreLawful};
@@ -46,6 +46,10 @@ pub struct Closed<M> {
     pub events: Vec<Event>,
     pub commits: u64,
     pub tasks: u64,
+    /// The epoch of the store as it was opened.
+    pub first: u64,
+    /// Unless the store was stopped, the epoch of the store as it stands.
+    pub epoch: u64,
 }
 
 impl<W: Hosting, J: Naming, M: Home> Host<W, J, M> {
@@ -68,17 +72,18 @@ impl<W: Hosting, J: Naming, M: Home> Host<W, J, M> {
         requires budget { budget ≡ W.opened.budget }
         requires keep { W.keeps ≡ keep }
         requires began { M.past store.home ≡ W.began }
+        requires first { store.journal.epoch ≡ W.first }
         ensures passes { IfOk result (λ opened. IsDealt J.name.passes opened.1.items) }
         ensures refused { IfErr result (λ refused. (refused.home ≡ store.home) × (refused.fault ≡ WantOfMemory)) }
     {
         let OpenedStore {
             home,
             stood,
-            game: _,
+            game,
         } = store;
         let Stood {
             journal,
-            side: _,
+            side,
             durable,
         } = stood;
         let (commits, commit_share) = commits.open::<CommitLedger<W>>();
@@ -99,7 +104,7 @@ impl<W: Hosting, J: Naming, M: Home> Host<W, J, M> {
             return Err(OpenRefused::no_memory(home));
         };
         let right = CommitRight::new(commit_share, place_share);
-        let store = CommitStore::new(home, journal, watcher, right, alloc);
+        let store = CommitStore::new(home, game, side, journal, watcher, right, alloc);
         let store = Mutex::new(FreeStore { store });
         Ok((Host { world, store }, passes))
     }
@@ -112,15 +117,19 @@ impl<W: Hosting, J: Naming, M: Home> Host<W, J, M> {
         ensures legal { IsLegal W.opened result.history }
         ensures kept { IsTrue W.keeps → result.events.items ≡ result.history }
         ensures none_kept { W.keeps ≡ false → result.events.items ≡ [] }
-        ensures ended { IsTrue M.tells → EndsAs W.opened W.began (M.past result.home) result.history result.faults }
+        ensures ended { IsTrue M.tells → EndsAs W.opened W.began (M.past result.home) result.history result.faults result.epoch }
         ensures commits { result.commits ≡ (world_after W.opened result.history).durable.commits }
+        ensures first { (result.first ≡ W.first) × (W.first ≤ result.epoch) }
         ensures tasks { result.tasks ≡ map.len (world_after W.opened result.history).durable.tasks }
     {
         let Host { world, store } = self;
         let FreeStore { store } = store.into_inner();
         let CommitStore {
             home,
-            journal: _,
+            game: _,
+            side: _,
+            journal,
+            first,
             watcher,
             mut right,
             waiting: _,
@@ -142,6 +151,8 @@ impl<W: Hosting, J: Naming, M: Home> Host<W, J, M> {
             events,
             commits: core.commits(),
             tasks: core.pending_len(),
+            first,
+            epoch: journal.epoch(),
         }
     }
 }

@@ -17,6 +17,9 @@ pub trait Hosting {
     // Whether it keeps its events in memory.
     ghost keeps: { Bool };
 
+    // The store's epoch as it was opened.
+    ghost first: { ℕ };
+
     // The name of the ledger of its commits.
     ghost commits: { ℕ };
 
@@ -30,6 +33,8 @@ impl Hosting for Brand {
     ghost began = { empty_files };
 
     ghost keeps = { false };
+
+    ghost first = { 0 };
 
     ghost commits = { 0 };
 

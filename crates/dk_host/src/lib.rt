@@ -8,6 +8,7 @@
 
 mod book;
 mod calls;
+mod checkpointing;
 mod commit;
 mod fault;
 mod history;
@@ -30,6 +31,6 @@ pub use hosting::{CommitLedger, Hosting, PlaceLedger};
 pub use look::HostLook;
 pub use opened::{OpenedStore, open_store};
 pub use prepared::PreparedCommit;
-pub use refused::{CommitRefused, Why};
+pub use refused::{CheckpointRefused, CommitRefused, Why};
 pub use right::CommitRight;
 pub use store::CommitStore;

@@ -22,6 +22,7 @@ use dk_disk::Home;
 use dk_journal::{Journal, JournalRefused};
 use dk_turn::{Naming, Pass, Turn, Watcher};
 use dk_txn::Finished;
+use dk_types::{GameId, Side};
 use std::alloc::Global;
 use std::marker::Model;
 use std::sync::Wait;
@@ -32,7 +33,12 @@ use std::sync::Wait;
 #[derive(Drop)]
 pub struct CommitStore<W: Hosting, J: Naming, M: Home> {
     pub(crate) home: M,
+    pub(crate) game: GameId,
+    // The side that the journal stands on.
+    pub(crate) side: Side,
     pub(crate) journal: Journal,
+    // The epoch of the store as it was opened.
+    pub(crate) first: u64,
     pub(crate) watcher: Watcher<WorldBook<W>, J>,
     pub(crate) right: CommitRight<W>,
     // Where the store is stopped, the one whose record the disk did not take.
@@ -44,15 +50,16 @@ pub struct CommitStore<W: Hosting, J: Naming, M: Home> {
 
 impl<W: Hosting, J: Naming, M: Home> Model for CommitStore<W, J, M> {
     ghost use Rattle.std.specs.Prelude.{◌≡◌};
-    ghost use Rattle.dk_host.specs.Stores.{Stored, stored, IsStored};
+    ghost use Rattle.dk_host.specs.Stores.{Stored, stored, IsKeptOn, IsStored};
 
     ghost Value = { Stored };
 
-    ghost view = { λ s. stored s.watcher s.waiting s.right.places.amount s.faults (M.counted s.home) s.journal.length };
+    ghost view = { λ s. stored s.watcher s.waiting s.right.places.amount s.faults (M.counted s.home) s.journal };
 
     ghost invariant = { λ s. (s.right.commits.parts ≡ 1)
         × (s.right.places.parts ≡ 1)
-        × IsStored W.opened W.began M.tells (M.past s.home) (M.opening s.home) s.journal s.watcher.front s.right.commits.amount s.right.places.amount s.waiting s.faults };
+        × IsKeptOn s.side s.journal W.first s.first
+        × IsStored W.opened W.began M.tells (M.past s.home) (M.opening s.home) s.game s.journal s.watcher.front s.right.commits.amount s.right.places.amount s.waiting s.faults };
 }
 
 // What waits after an append, and the kept count of faults where it stopped the store.
@@ -74,6 +81,8 @@ impl<W: Hosting, J: Naming, M: Home> CommitStore<W, J, M> {
     // A store whose watcher has seen nothing.
     pub(crate) fn new(
         home: M,
+        game: GameId,
+        side: Side,
         journal: Journal,
         watcher: Watcher<WorldBook<W>, J>,
         right: CommitRight<W>,
@@ -84,14 +93,20 @@ impl<W: Hosting, J: Naming, M: Home> CommitStore<W, J, M> {
         requires watcher { watcher.front ≡ [] }
         requires right { (right.commits.parts ≡ 1) × (right.places.parts ≡ 1) × (right.commits.amount ≡ 0) }
         requires is_open { IsOpen (M.opening home) }
+        requires here { journal.side ≡ side }
+        requires first { journal.epoch ≡ W.first }
         requires format { journal.format ≡ 2 }
-        requires holds { IsTrue M.tells → HoldsNow (M.past home) journal W.opened.durable }
+        requires holds { IsTrue M.tells → HoldsNow (M.past home) game journal W.opened.durable }
         requires since { IsTrue M.tells → HasRecovered W.opened W.began (M.past home) [] [] }
         ensures free { IsFree result }
     {
+        let first = journal.epoch();
         CommitStore {
             home,
+            game,
+            side,
             journal,
+            first,
             watcher,
             right,
             waiting: None,
@@ -117,7 +132,7 @@ impl<W: Hosting, J: Naming, M: Home> CommitStore<W, J, M> {
         ensures same { self.new.watcher.front ≡ pass.new.front }
         ensures finds { FindsNext W.opened pass.new.front claimed.now finished.now self.new.room result }
         ensures none_waits { self.new.waiting ≡ None }
-        ensures faults { (self.new.faults ≡ self.old.faults) × (self.new.counted ≡ self.old.counted) × (self.new.journal_length ≡ self.old.journal_length) }
+        ensures faults { (self.new.faults ≡ self.old.faults) × (self.new.counted ≡ self.old.counted) × (self.new.journal_length ≡ self.old.journal_length) × (self.new.epoch ≡ self.old.epoch) }
         ensures named { All (λ e. pass_of e < J.name.passes) pass.new.front }
     {
         let result = self.look(rt, world, pass, claimed, finished);
@@ -140,7 +155,7 @@ impl<W: Hosting, J: Naming, M: Home> CommitStore<W, J, M> {
         ensures same { self.new.watcher.front ≡ pass.new.front }
         ensures finds { LooksNext W.opened pass.new.front claimed.now finished.now self.new.room result }
         ensures none_waits { self.new.waiting ≡ None }
-        ensures faults { (self.new.faults ≡ self.old.faults) × (self.new.counted ≡ self.old.counted) × (self.new.journal_length ≡ self.old.journal_length) }
+        ensures faults { (self.new.faults ≡ self.old.faults) × (self.new.counted ≡ self.old.counted) × (self.new.journal_length ≡ self.old.journal_length) × (self.new.epoch ≡ self.old.epoch) }
         ensures named { All (λ e. pass_of e < J.name.passes) pass.new.front }
     {
         let right = self.right.lend();
@@ -164,7 +179,7 @@ impl<W: Hosting, J: Naming, M: Home> CommitStore<W, J, M> {
         requires none_waits { self.old.waiting ≡ None }
         requires running { self.old.faults ≡ None }
         requires ready { IsReady W.opened self.old commit.prepared }
-        ensures watcher { (self.new.watcher ≡ self.old.watcher) × (self.new.room ≡ self.old.room) }
+        ensures watcher { (self.new.watcher ≡ self.old.watcher) × (self.new.room ≡ self.old.room) × (self.new.epoch ≡ self.old.epoch) }
         ensures appends { Appends self.old self.new commit.prepared result }
         ensures full { (n : ℕ) → IsErrOf result (Full n) ↔ ((n ≡ min (self.old.journal_length + (5 + length commit.payload)) COUNT_END) × (2 ^ 40 < n)) }
     {
@@ -192,7 +207,7 @@ impl<W: Hosting, J: Naming, M: Home> CommitStore<W, J, M> {
         ensures entered { Entered W.opened pass.old.number (event.Commit pass.old.number claimed.run result finished.outcome ∷ []) pass.old.front pass.new.front }
         ensures same { self.new.watcher.front ≡ pass.new.front }
         ensures none_waits { self.new.waiting ≡ None }
-        ensures faults { (self.new.faults ≡ self.old.faults) × (self.new.counted ≡ self.old.counted) }
+        ensures faults { (self.new.faults ≡ self.old.faults) × (self.new.counted ≡ self.old.counted) × (self.new.epoch ≡ self.old.epoch) }
         ensures named { All (λ e. pass_of e < J.name.passes) pass.new.front }
     {
         let Some(prepared) = self.waiting.take() else {

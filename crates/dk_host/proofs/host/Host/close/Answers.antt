@@ -1,4 +1,4 @@
-use Rattle.std.proofs.Common.{List, ap, sym, subst, ◌∙◌}
+use Rattle.std.proofs.Common.{ℕ, List, ap, sym, subst, ◌∙◌}
 use Rattle.std.specs.FinMap.{len}
 use Rattle.std.proofs.lemmas.List.Elements.{All-weaker}
 use Rattle.dk_types.specs.declared.event.Event.{Event}
@@ -30,6 +30,6 @@ returns-clause-tasks g c =
 
 pub returns-clause-ended : goal.returns-clause-ended
 returns-clause-ended g c = λ tells.
-    subst (λ (es : List Event). EndsAs g.W.Hosting.opened g.W.Hosting.began (g.M.Home.past c.store.inside.home) es c.store.inside.faults) (sym c.into_parts-history.ensures.history)
-    (ends g.W.Hosting.opened g.W.Hosting.began _ _ _ _ _ _ _ _ _ c.store.invariant.2 (λ running. ap (λ (v : Stored). v.waiting) c.store.view_is ∙ c.into_inner-store.result.free (ap (λ (v : Stored). v.faults) (sym c.store.view_is) ∙ running)) c.core.inside.history.events
+    subst (λ (y : List Event × ℕ). EndsAs g.W.Hosting.opened g.W.Hosting.began (g.M.Home.past c.store.inside.home) y.0 c.store.inside.faults y.1) (λ i. (sym c.into_parts-history.ensures.history i, sym c.epoch.ensures i))
+    (ends g.W.Hosting.opened g.W.Hosting.began _ _ _ _ _ _ _ _ _ _ c.store.invariant.3 (λ running. ap (λ (v : Stored). v.waiting) c.store.view_is ∙ c.into_inner-store.result.free (ap (λ (v : Stored). v.faults) (sym c.store.view_is) ∙ running)) c.core.inside.history.events
         (subst (λ (es : List Event). Begins c.store.inside.watcher.front es) (sym c.core.view_is) c.close_with.ensures.watcher) (c.audit.ensures.commits.0 ∙ c.core.invariant.2) tells)

@@ -3,7 +3,7 @@ use Rattle.dk_disk.specs.DiskHistories.{DiskHistory}
 use Rattle.dk_core.specs.Listings.{world_of}
 use Rattle.dk_host.specs.OpenedStores.{StoreOpened}
 use Rattle.dk_host.specs.Stores.{HasRecovered}
-use Rattle.dk_host.proofs.Begun.{recovered_now}
+use Rattle.dk_host.proofs.Begun.{holds_now, recovered_now}
 use Rattle.dk_host.proofs.Opening.{opens}
 use Rattle.dk_host.proofs.host.Host.open.Goals as goal
 
@@ -21,3 +21,12 @@ new-store-requires-clause-since g c tells =
     let same = ap (λ (x : StoreOpened _). world_of x.durable) c.store.view_is ∙ c.requires.durable in
     subst (λ (began : DiskHistory). HasRecovered g.W.Hosting.opened began (g.M.Home.past s.home) [] []) (ap (λ (x : StoreOpened _). g.M.Home.past x.home) c.store.view_is ∙ c.requires.began)
     (recovered_now g.W.Hosting.opened (g.M.Home.past s.home) s.stood.journal s.stood.side s.game (world_of s.stood.durable) (c.store.invariant.holds tells) same)
+
+pub new-store-requires-clause-holds : goal.new-store-requires-clause-holds
+new-store-requires-clause-holds g c tells =
+    let s = c.store.inside in
+    let same = ap (λ (x : StoreOpened _). world_of x.durable) c.store.view_is ∙ c.requires.durable in
+    holds_now g.W.Hosting.opened (g.M.Home.past s.home) s.stood.journal s.stood.side s.game (world_of s.stood.durable) (c.store.invariant.holds tells) same
+
+pub new-store-requires-clause-first : goal.new-store-requires-clause-first
+new-store-requires-clause-first g c = ap (λ (x : StoreOpened _). x.journal.epoch) c.store.view_is ∙ c.requires.first
