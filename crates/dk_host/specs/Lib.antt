@@ -1,4 +1,7 @@
 pub mod Openings
+pub mod OpenedStores
+pub mod Keeping
+pub mod Kept
 pub mod Books
 pub mod Calls
 pub mod Passes
@@ -7,3 +10,4 @@ pub mod Steps
 pub mod Stores
 pub mod Refusals
 pub mod Looks
+pub mod Checkpoints
