@@ -4,6 +4,7 @@ pub mod Opening
 pub mod Committing
 pub mod Looking
 pub mod Nexts
+pub mod Logged
 pub mod Storing
 pub mod Looked
 pub mod Published
@@ -16,3 +17,4 @@ pub mod Ended
 pub mod Copying
 pub mod Rewriting
 pub mod Relisted
+pub mod Rereading

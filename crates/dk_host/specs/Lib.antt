@@ -4,7 +4,9 @@ pub mod Books
 pub mod Calls
 pub mod Commits
 pub mod Steps
+pub mod Logs
 pub mod Stores
 pub mod Refusals
 pub mod Looks
 pub mod Checkpoints
+pub mod Tails

@@ -126,6 +126,7 @@ impl<W: Hosting, J: Naming, M: Home> Host<W, J, M> {
             side: _,
             journal,
             first,
+            base: _,
             pass,
             mut right,
             waiting: _,

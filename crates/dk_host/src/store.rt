@@ -1,5 +1,5 @@
 //! The store behind the commit lock.
-ghost use Rattle.std.specs.Prelude.{◌≡◌, ◌<◌, ◌^◌, ◌↔◌, ◌+◌, ℕ, min, None, [], ◌∷◌, length, IsErrOf, IsTrue};
+ghost use Rattle.std.specs.Prelude.{◌≡◌, ◌<◌, ◌^◌, ◌↔◌, ◌+◌, ℕ, min, None, Some, [], ◌∷◌, length, IsErrOf, IsTrue};
 ghost use Rattle.std.specs.List.{All};
 ghost use Rattle.dk_types.specs.Faults.{COUNT_END};
 ghost use Rattle.dk_types.specs.declared.event.Event.TheVariants as event;
@@ -39,6 +39,8 @@ pub struct CommitStore<W: Hosting, J: Naming, M: Home> {
     pub(crate) journal: Journal,
     // The epoch of the store as it was opened.
     pub(crate) first: u64,
+    // How many commits come before the journal's entries: those of its image, once they are known.
+    pub(crate) base: Option<u64>,
     pub(crate) pass: Pass<WorldBook<W>, J>,
     pub(crate) right: CommitRight<W>,
     // Where the store is stopped, the one whose record the disk did not take.
@@ -58,8 +60,8 @@ impl<W: Hosting, J: Naming, M: Home> Model for CommitStore<W, J, M> {
 
     ghost invariant = { λ s. (s.right.commits.parts ≡ 1)
         × (s.right.places.parts ≡ 1)
-        × IsKeptOn s.side s.journal W.first s.first
-        × IsStored W.opened W.began M.tells (M.past s.home) (M.opening s.home) s.game s.journal s.pass.front s.right.commits.amount s.right.places.amount s.waiting s.faults };
+        × IsKeptOn s.side s.journal s.base W.first s.first
+        × IsStored W.opened W.began M.tells (M.past s.home) (M.opening s.home) s.game s.journal s.base s.pass.front s.right.commits.amount s.right.places.amount s.waiting s.faults };
 }
 
 // What waits after an append, and the kept count of faults where it stopped the store.
@@ -75,6 +77,13 @@ fn settle(
         Err(JournalRefused::DiskFault) => (Some(prepared), Some(faults)),
         Err(_) => (None, None),
     }
+}
+
+// How many commits come before the entries of a journal of this epoch, if no image has to tell it.
+fn base_of(epoch: u64) -> Option<u64>
+    ensures { (n : ℕ) → result ≡ Some n → (n ≡ 0) × (epoch ≡ 0) }
+{
+    if epoch == 0 { Some(0) } else { None }
 }
 
 impl<W: Hosting, J: Naming, M: Home> CommitStore<W, J, M> {
@@ -107,6 +116,7 @@ impl<W: Hosting, J: Naming, M: Home> CommitStore<W, J, M> {
             side,
             journal,
             first,
+            base: base_of(first),
             pass,
             right,
             waiting: None,

@@ -29,5 +29,5 @@ returns-clause-tasks g c = c.pending_len.ensures ∙ ap (λ (x : World). len x.d
 pub returns-clause-ended : goal.returns-clause-ended
 returns-clause-ended g c = λ tells.
     subst (EndsAs g.W.Hosting.opened g.W.Hosting.began (g.M.Home.past c.store.inside.home) c.core.inside.events c.store.inside.faults) (sym c.epoch.ensures)
-    (ends g.W.Hosting.opened g.W.Hosting.began _ _ _ _ _ _ _ _ _ _ c.store.invariant.3 (λ running. ap (λ (v : Stored). v.waiting) c.store.view_is ∙ c.into_inner-store.result.free (ap (λ (v : Stored). v.faults) (sym c.store.view_is) ∙ running)) _ c.core.inside.events (subst (λ (es : List Event). Continues pass_of c.store.inside.pass.number c.store.inside.pass.front es) (sym c.core.view_is) c.close_with.ensures.last)
+    (ends g.W.Hosting.opened g.W.Hosting.began _ _ _ _ _ _ _ _ _ _ _ c.store.invariant.3 (λ running. ap (λ (v : Stored). v.waiting) c.store.view_is ∙ c.into_inner-store.result.free (ap (λ (v : Stored). v.faults) (sym c.store.view_is) ∙ running)) _ c.core.inside.events (subst (λ (es : List Event). Continues pass_of c.store.inside.pass.number c.store.inside.pass.front es) (sym c.core.view_is) c.close_with.ensures.last)
     (c.audit.ensures.commits.0 ∙ c.core.invariant.2) tells)
