@@ -7,7 +7,7 @@ use Rattle.dk_types.specs.declared.side.Side.TheVariants.{Zero, One}
 use Rattle.dk_disk.specs.DiskHistories.{DiskHistory, now, other_side}
 use Rattle.dk_disk.specs.Opening.{Opening}
 use Rattle.dk_model.specs.DurableWorlds.{DurableWorld}
-use Rattle.dk_model.specs.Legal.{Opened, opening_of, world_after, commits_of, pass_of}
+use Rattle.dk_model.specs.Legal.{Opened, opening_of, world_after, commits_of}
 use Rattle.dk_model.specs.Recovered.{file_on}
 use Rattle.dk_model.specs.Stores.{StoreHeader, Reads, header_spelling}
 use Rattle.dk_model.specs.Tails.{IsTail}
@@ -20,7 +20,7 @@ use Rattle.dk_journal.proofs.Seen.{live}
 use Rattle.dk_journal.proofs.Standings.{wins}
 use Rattle.dk_journal.proofs.Stores.{store_recovers, store_settled}
 use Rattle.dk_core.specs.declared.prepared.Prepared.{Prepared}
-use Rattle.dk_turn.specs.Fronts.{Continues}
+use Rattle.dk_turn.specs.Fronts.{Begins}
 use Rattle.dk_host.specs.Stores.{Waits, IsStored, EndsAs, StandsAs}
 
 tail_is : (o : Opened) (front : List Event) (places : ℕ) (waiting : Option Prepared) (tail : List Event) → Waits o front places waiting tail → IsTail o front tail
@@ -45,24 +45,25 @@ stands_as past journal header payloads d store = record {
 }
 
 pub ends : (o : Opened) (began : DiskHistory) (tells : Bool) (past : DiskHistory) (opens : Opening) (game : List ℕ) (journal : Journal) (base : Option ℕ) (front : List Event) (commits places : ℕ) (waiting : Option Prepared) (faults : Option ℕ) → IsStored o began tells past opens game journal base front commits places waiting faults
-    → (faults ≡ None → waiting ≡ None) → (n : ℕ) (log : List Event) → Continues pass_of n front log → commits ≡ commits_of log → IsTrue tells → EndsAs o began past log faults journal.epoch
-ends o began tells past opens game journal base front commits places waiting faults s free n log goes same h =
-    let both = commits_of-append front goes.begins.0 in
-    let long = ap commits_of goes.begins.1 in
-    let none : commits_of goes.begins.0 ≡ 0 = omega (arith, both, long, same, s.counted) in record {
+    → (faults ≡ None → waiting ≡ None) → (log : List Event) → Begins front log → commits ≡ commits_of log → IsTrue tells → EndsAs o began past log faults journal.epoch
+ends o began tells past opens game journal base front commits places waiting faults s free log goes same h =
+    let both = commits_of-append front goes.0 in
+    let long = ap commits_of goes.1 in
+    let none : commits_of goes.0 ≡ 0 = omega (arith, both, long, same, s.counted) in record {
       front = front;
-      later = goes.begins.0;
+      later = goes.0;
       tail = s.tail;
-      all = sym goes.begins.1;
+      all = sym goes.1;
       none = none;
       is_tail = tail_is o front places waiting s.tail s.waits;
+      whole = λ running. subst (λ (w : Option Prepared). Waits o front places w s.tail) (free running) s.waits;
       since = s.since h;
       now = λ running.
           let store = (s.holds h running).stands in
           let empty : s.tail ≡ [] = subst (λ (w : Option Prepared). Waits o front places w s.tail) (free running) s.waits in
           let durable : (world_after o (front ++ s.tail)).durable ≡ (world_after o log).durable
           = ap (λ (es : List Event). (world_after o (front ++ es)).durable) empty ∙ ap (λ (es : List Event). (world_after o es).durable) (append-nil front)
-          ∙ sym (commits_change o.rules (opening_of o) front goes.begins.0 s.lawful none).durable ∙ ap (λ (es : List Event). (world_after o es).durable) goes.begins.1 in
+          ∙ sym (commits_change o.rules (opening_of o) front goes.0 s.lawful none).durable ∙ ap (λ (es : List Event). (world_after o es).durable) goes.1 in
           subst (λ (d : DurableWorld). AllRecover (IsWorld d) past past.clock) durable (store_recovers past journal.side journal store.header store.payloads (world_after o (front ++ s.tail)).durable store.store);
       stands = λ running. stands_as past journal (s.holds h running).stands.header (s.holds h running).stands.payloads (world_after o (front ++ s.tail)).durable (s.holds h running).stands.store;
     }

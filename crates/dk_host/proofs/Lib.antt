@@ -1,5 +1,6 @@
 pub mod Stepping
 pub mod Calling
+pub mod Entering
 pub mod Opening
 pub mod Committing
 pub mod Looking
@@ -12,9 +13,10 @@ pub mod Refusing
 pub mod Settling
 pub mod Answered
 pub mod Begun
-pub mod Dealing
 pub mod Ended
 pub mod Copying
 pub mod Rewriting
-pub mod Relisted
+pub mod Owing
+pub mod KeptEvents
+pub mod Unentered
 pub mod Rereading

@@ -1,5 +1,5 @@
 -- What a call by a pass does to the one history, and what it is answered.
-use Rattle.std.specs.Prelude.{◌≡◌, ℕ, List, [], ◌∷◌, ◌++◌, false, Option, Some, None, Result, Ok, Err, IfOk, IfSome}
+use Rattle.std.specs.Prelude.{◌≡◌, ℕ, List, [], ◌∷◌, ◌++◌, Bool, true, false, Option, Some, None, Result, Ok, Err, IfOk, IfSome}
 use Rattle.std.specs.List.{All}
 use Rattle.std.specs.FinMap.{get}
 use Rattle.dk_types.specs.declared.event.Event.{Event}
@@ -55,12 +55,17 @@ post_events pass conn input (Err post_refused.Closed) = event.Post pass conn inp
 post_events pass conn input (Err (post_refused.QueueFull waiting)) = event.Post pass conn input (posted.QueueFull waiting) ∷ []
 post_events pass conn input (Err post_refused.NoMemory) = []
 
--- want of memory is no answer to a Disconnect
-abbrev pub IsSpared : Input → Result (Unit {0}) PostRefused → Type 0
-IsSpared input (Ok taken) = Unit {0}
-IsSpared input (Err post_refused.Closed) = Unit {0}
-IsSpared input (Err (post_refused.QueueFull waiting)) = Unit {0}
-IsSpared input (Err post_refused.NoMemory) = is_disconnect (waits.Input input) ≡ false
+-- Want of memory is no answer to a Disconnect, unless events are kept and the connection is not open: a Disconnect that ends a session has its place since the Connect
+abbrev pub IsSpared : Bool → Bool → Input → Result (Unit {0}) PostRefused → Type 0
+IsSpared keeps takes input (Ok taken) = Unit {0}
+IsSpared keeps takes input (Err post_refused.Closed) = Unit {0}
+IsSpared keeps takes input (Err (post_refused.QueueFull waiting)) = Unit {0}
+IsSpared keeps takes input (Err post_refused.NoMemory) = is_disconnect (waits.Input input) ≡ true → (keeps ≡ true) × (takes ≡ false)
+
+-- the event of a Tick; want of memory enters none
+abbrev pub tick_events : ℕ → ℕ → Result (Unit {0}) NoMemory → List Event
+tick_events pass moment (Ok done) = event.Tick pass moment ∷ []
+tick_events pass moment (Err refused) = []
 
 -- the event of a claim that was answered; want of memory enters none
 abbrev pub claim_events : ℕ → Result (Option Claimed) ClaimRefused → List Event

@@ -31,15 +31,15 @@ use Rattle.dk_core.specs.declared.answers.PrepareRefused.{PrepareRefused}
 use Rattle.dk_core.specs.declared.answers.PrepareRefused.TheVariants as prepare_refused
 use Rattle.dk_core.specs.Changes.{stale_of}
 use Rattle.dk_core.specs.Rooms.{places_of}
-use Rattle.dk_turn.specs.Fronts.{Known}
+use Rattle.dk_turn.specs.Fronts.{Watched}
 use Rattle.dk_host.specs.declared.prepared.PreparedCommit.{PreparedCommit}
 use Rattle.dk_host.specs.Commits.{IsPreparedAt}
 use Rattle.dk_host.specs.Logs.{AreOfCommits}
 use Rattle.dk_host.specs.Steps.{TellsStep}
 
--- what contracts see of a store: its pass, the record that waits, how much room is kept, the kept count of faults where it is stopped, the home's count, and the journal's length and epoch
+-- what contracts see of a store: its watcher, the record that waits, how much room is kept, the kept count of faults where it is stopped, the home's count, and the journal's length and epoch
 pub record Stored : Type 0 where
-  pub pass : Known Event
+  pub watcher : Watched Event
   pub waiting : Option Prepared
   pub room : ℕ
   pub faults : Option ℕ
@@ -48,8 +48,8 @@ pub record Stored : Type 0 where
   pub epoch : ℕ
 
 -- a store by its parts
-abbrev pub stored : Known Event → Option Prepared → ℕ → Option ℕ → ℕ → Journal → Stored
-stored pass waiting room faults counted journal = record { pass = pass; waiting = waiting; room = room; faults = faults; counted = counted; journal_length = journal.length; epoch = journal.epoch }
+abbrev pub stored : Watched Event → Option Prepared → ℕ → Option ℕ → ℕ → Journal → Stored
+stored watcher waiting room faults counted journal = record { watcher = watcher; waiting = waiting; room = room; faults = faults; counted = counted; journal_length = journal.length; epoch = journal.epoch }
 
 -- the commit of a prepared run, as the event that it is
 abbrev pub commit_of : Claimed → Finished → Prepared → Event
@@ -106,8 +106,8 @@ pub record IsKeptOn (side : Side) (journal : Journal) (base : Option ℕ) (begun
   pub later : begun ≤ journal.epoch
   pub most : (n : ℕ) → base ≡ Some n → n ≤ NUMBERS_END
 
--- What the store keeps: its right counts the commits that its pass has seen; at every moment since its files had this past what a stop leaves recovers to a beginning; and unless it is stopped
--- the files now recover to the world after all that the pass has seen, followed by the record that waits
+-- What the store keeps: its right counts the commits that its watcher has seen; at every moment since its files had this past what a stop leaves recovers to a beginning; and unless it is stopped
+-- the files now recover to the world after all that the watcher has seen, followed by the record that waits
 pub record IsStored (o : Opened) (began : DiskHistory) (tells : Bool) (past : DiskHistory) (opening : Opening) (game : List ℕ) (journal : Journal) (base : Option ℕ) (front : List Event) (commits places : ℕ) (waiting : Option Prepared) (faults : Option ℕ) : Type 0 where
   pub lawful : AreLawful o.rules
   pub legal : IsLegal o front
@@ -133,11 +133,11 @@ LooksNext o events claimed f room (Err prepare_refused.NoMemory) = Unit {0}
 
 -- the commit of some run comes next, and its room is kept
 abbrev pub IsReady : Opened → Stored → Prepared → Type 0
-IsReady o s p = (claimed : Claimed) × ((f : Finished) × (IsNextCommit o s.pass.front claimed f p × (s.room ≡ places_of f.effects)))
+IsReady o s p = (claimed : Claimed) × ((f : Finished) × (IsNextCommit o s.watcher.front claimed f p × (s.room ≡ places_of f.effects)))
 
 -- the record of this run's commit waits
 abbrev pub WaitsOf : Opened → Stored → Claimed → Finished → Type 0
-WaitsOf o s claimed f = (p : Prepared) × ((s.waiting ≡ Some p) × (IsNextCommit o s.pass.front claimed f p × (s.room ≡ places_of f.effects)))
+WaitsOf o s claimed f = (p : Prepared) × ((s.waiting ≡ Some p) × (IsNextCommit o s.watcher.front claimed f p × (s.room ≡ places_of f.effects)))
 
 -- what an append leaves: at Ok the record waits; a full journal changes nothing; a fault of the disk stops the store, with its count
 abbrev pub Appends : Stored → Stored → Prepared → Result (Unit {0}) JournalRefused → Type 0
@@ -175,7 +175,7 @@ pub record StandsAs (past : DiskHistory) (epoch : ℕ) : Type 0 where
   pub rests : AreSettled past
 
 -- HOW A HOST ENDS: at every moment since its files had this past what a stop leaves recovers to the world after some first commits of the history, or after all of them and then the tail's, and what
--- is held does not fall. Unless the store was stopped, the files now recover to the world after all events, and the store that stands has this epoch. No commit came since the tail was looked for
+-- is held does not fall. Unless the store was stopped there is no tail, the files now recover to the world after all events, and the store that stands has this epoch. No commit came since the tail was looked for
 pub record EndsAs (o : Opened) (began past : DiskHistory) (events : List Event) (faults : Option ℕ) (epoch : ℕ) : Type 0 where
   pub front : List Event
   pub later : List Event
@@ -183,6 +183,7 @@ pub record EndsAs (o : Opened) (began past : DiskHistory) (events : List Event) 
   pub all : events ≡ front ++ later
   pub none : commits_of later ≡ 0
   pub is_tail : IsTail o front tail
+  pub whole : faults ≡ None → tail ≡ []
   pub since : HasRecovered o began past front tail
   pub now : faults ≡ None → AllRecover (IsWorld (world_after o events).durable) past past.clock
   pub stands : faults ≡ None → StandsAs past epoch

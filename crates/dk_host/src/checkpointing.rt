@@ -57,7 +57,7 @@ impl<W: Hosting, J: Naming, M: Home> CommitStore<W, J, M> {
         self.write_anew(&durable)
     }
 
-    // A copy of the durable world, after all commits: the store's pass has seen them when it is made.
+    // A copy of the durable world, after all commits: the store has seen them when it is made.
     fn copy<R: Wait>(
         &mut self,
         rt: &R,
@@ -68,13 +68,13 @@ impl<W: Hosting, J: Naming, M: Home> CommitStore<W, J, M> {
         ensures number { pass.new.number ≡ pass.old.number }
         ensures entered { Entered W.opened pass.old.number [] pass.old.front pass.new.front }
         ensures named { All (λ e. pass_of e < J.name.passes) pass.new.front }
-        ensures same { self.new.pass.front ≡ pass.new.front }
+        ensures same { self.new.watcher.front ≡ pass.new.front }
         ensures copied { IsCopyAt W.opened pass.new.front result }
         ensures none_waits { self.new.waiting ≡ None }
         ensures faults { (self.new.faults ≡ self.old.faults) × (self.new.counted ≡ self.old.counted) × (self.new.journal_length ≡ self.old.journal_length) × (self.new.epoch ≡ self.old.epoch) }
     {
         let right = self.right.lend();
-        let (right, result) = world.with_both(rt, pass, &mut self.pass, CopyLast { right });
+        let (right, result) = world.with_watcher(rt, pass, &mut self.watcher, CopyLast { right });
         self.right = right;
         result
     }
@@ -83,9 +83,9 @@ impl<W: Hosting, J: Naming, M: Home> CommitStore<W, J, M> {
     fn write_anew(&mut self, durable: &Durable) -> Result<(), CheckpointRefused>
         requires none_waits { self.old.waiting ≡ None }
         requires running { self.old.faults ≡ None }
-        requires given { durable.now ≡ world_lists (world_after W.opened self.old.pass.front).durable }
+        requires given { durable.now ≡ world_lists (world_after W.opened self.old.watcher.front).durable }
         ensures none_waits { self.new.waiting ≡ None }
-        ensures answers { AnswersAt W.opened self.old.pass.front self.old.epoch result }
+        ensures answers { AnswersAt W.opened self.old.watcher.front self.old.epoch result }
         ensures rewrites { Rewrites self.old self.new result }
     {
         let answer = checkpoint(

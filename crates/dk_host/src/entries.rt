@@ -86,7 +86,7 @@ impl<W: Hosting, J: Naming, M: Home> CommitStore<W, J, M> {
         self.read_after(after, last)
     }
 
-    // How many commits there are: the store's pass has seen them then.
+    // How many commits there are: the store has seen them then.
     fn count<R: Wait>(
         &mut self,
         rt: &R,
@@ -97,13 +97,13 @@ impl<W: Hosting, J: Naming, M: Home> CommitStore<W, J, M> {
         ensures number { pass.new.number ≡ pass.old.number }
         ensures entered { Entered W.opened pass.old.number [] pass.old.front pass.new.front }
         ensures named { All (λ e. pass_of e < J.name.passes) pass.new.front }
-        ensures same { self.new.pass.front ≡ pass.new.front }
+        ensures same { self.new.watcher.front ≡ pass.new.front }
         ensures counted { result ≡ (world_after W.opened pass.new.front).durable.commits }
         ensures none_waits { self.new.waiting ≡ None }
         ensures faults { (self.new.faults ≡ self.old.faults) × (self.new.counted ≡ self.old.counted) × (self.new.journal_length ≡ self.old.journal_length) × (self.new.epoch ≡ self.old.epoch) }
     {
         let right = self.right.lend();
-        let (right, commits) = world.with_both(rt, pass, &mut self.pass, CountLast { right });
+        let (right, commits) = world.with_watcher(rt, pass, &mut self.watcher, CountLast { right });
         self.right = right;
         commits
     }
@@ -112,13 +112,13 @@ impl<W: Hosting, J: Naming, M: Home> CommitStore<W, J, M> {
     fn read_after(&mut self, after: u64, last: u64) -> Result<Vec<Entry>, TailRefused>
         requires none_waits { self.old.waiting ≡ None }
         requires running { self.old.faults ≡ None }
-        requires there { last ≤ (world_after W.opened self.old.pass.front).durable.commits }
+        requires there { last ≤ (world_after W.opened self.old.watcher.front).durable.commits }
         ensures none_waits { self.new.waiting ≡ None }
         ensures numbered { IfOk result (λ entries. AreNumbered (after + 1) entries.items × (length entries.items ≡ last - after)) }
-        ensures read { IsTrue M.tells → IfOk result (λ entries. IsLogPart W.opened self.old.pass.front after last entries.items) }
+        ensures read { IsTrue M.tells → IfOk result (λ entries. IsLogPart W.opened self.old.watcher.front after last entries.items) }
         ensures undamaged { IsTrue M.tells → (at : ℕ) → IsErrOf result (DamagedAt at) → ⊥ }
         ensures older { (n : ℕ) → IsErrOf result (IsOlder n) → after + 1 < n }
-        ensures begins { IsTrue M.tells → (n : ℕ) → IsErrOf result (IsOlder n) → BeginsAt W.opened self.old.pass.front n }
+        ensures begins { IsTrue M.tells → (n : ℕ) → IsErrOf result (IsOlder n) → BeginsAt W.opened self.old.watcher.front n }
         ensures leaves { LeavesRead self.old self.new result }
     {
         let base = known_commits(self.alloc, &mut self.home, self.side, self.base)?;

@@ -1,5 +1,5 @@
 //! What tells one host from another.
-ghost use Rattle.std.specs.Prelude.{ℕ};
+ghost use Rattle.std.specs.Prelude.{ℕ, Bool, false};
 ghost use Rattle.dk_disk.specs.DiskHistories.{DiskHistory};
 ghost use Rattle.dk_model.specs.Legal.{Opened};
 ghost use Rattle.dk_host.specs.Openings.{nothing_opened, empty_files};
@@ -17,6 +17,9 @@ pub trait Hosting {
     // The store's epoch as it was opened.
     ghost first: { ℕ };
 
+    // Whether it keeps its events in memory.
+    ghost keeps: { Bool };
+
     // The name of the ledger of its commits.
     ghost commits: { ℕ };
 
@@ -30,6 +33,8 @@ impl Hosting for Brand {
     ghost began = { empty_files };
 
     ghost first = { 0 };
+
+    ghost keeps = { false };
 
     ghost commits = { 0 };
 

@@ -4,7 +4,7 @@ use Rattle.dk_types.specs.declared.durable.Durable.{Durable}
 use Rattle.dk_model.specs.Legal.{world_after}
 use Rattle.dk_core.specs.Listings.{world_of}
 use Rattle.dk_host.proofs.Copying.{copy_entered, copy_at}
-use Rattle.dk_host.proofs.Relisted.{world_relisted}
+use Rattle.dk_host.proofs.Settling.{world_back}
 use Rattle.dk_host.proofs.host.Host.durable.Goals as goal
 
 pub returns-clause-entered : goal.returns-clause-entered
@@ -15,5 +15,5 @@ returns-clause-copied g c = copy_at g.W.Hosting.opened c.args.pass.now.number c.
 
 pub returns-clause-world : goal.returns-clause-world
 returns-clause-world g c =
-    IfOk-weaker c.with.result _ _ (λ (d : Durable) is. ap world_of is ∙ world_relisted (world_after g.W.Hosting.opened c.with.new.pass.front).durable)
+    IfOk-weaker c.with.result _ _ (λ (d : Durable) is. ap world_of is ∙ world_back (world_after g.W.Hosting.opened c.with.new.pass.front).durable)
     (copy_at g.W.Hosting.opened c.args.pass.now.number c.with.result c.args.pass.now.front c.with.new.pass.front c.with.ensures.called)

@@ -1,11 +1,10 @@
-use Rattle.std.proofs.Common.{◌≡◌, [], ◌++◌, option_to_list, ap, subst, ◌∙◌}
+use Rattle.std.proofs.Common.{◌≡◌, [], ap, subst, ◌∙◌}
 use Rattle.dk_disk.specs.DiskHistories.{DiskHistory}
 use Rattle.dk_core.specs.Listings.{world_of}
 use Rattle.dk_host.specs.OpenedStores.{StoreOpened}
 use Rattle.dk_host.specs.Stores.{HasRecovered}
 use Rattle.dk_host.proofs.Begun.{holds_now, recovered_now}
 use Rattle.dk_host.proofs.Opening.{opens}
-use Rattle.dk_host.proofs.Dealing.{others_dealt}
 use Rattle.dk_host.proofs.host.Host.open.Goals as goal
 
 pub open-requires : goal.open-requires
@@ -31,6 +30,3 @@ new-store-requires-clause-holds g c tells =
 
 pub new-store-requires-clause-first : goal.new-store-requires-clause-first
 new-store-requires-clause-first g c = ap (λ (x : StoreOpened _). x.journal.epoch) c.store.view_is ∙ c.requires.first
-
-pub returns-clause-passes : goal.returns-clause-passes
-returns-clause-passes g c = others_dealt g.J.Naming.name.passes c.in-Ok-new-2.passes.items c.pop.new.self.items c.in-Some.pass (subst (λ r. c.in-Ok-new-2.passes.items ≡ c.pop.new.self.items ++ option_to_list r) c.in-Some.is c.pop.ensures.items) c.in-Ok-new-2.ensures.ok

@@ -12,7 +12,7 @@ invariant_of-self g c =
     let s = as_faults _ _ running (as_waiting _ _ none c.self.invariant.3) in
     let claimed = c.requires.ready.0 in
     let f = c.requires.ready.1.0 in
-    let next = subst (λ es. IsNextCommit g.W.Hosting.opened es claimed f c.args.commit.prepared) (sym (ap (λ (v : Stored). v.pass.front) c.self.view_is)) c.requires.ready.1.1.0 in
+    let next = subst (λ es. IsNextCommit g.W.Hosting.opened es claimed f c.args.commit.prepared) (sym (ap (λ (v : Stored). v.watcher.front) c.self.view_is)) c.requires.ready.1.1.0 in
     let room = ap (λ (v : Stored). v.room) c.self.view_is ∙ c.requires.ready.1.1.1 in (
       c.self.invariant.0,
       c.self.invariant.1,

@@ -17,7 +17,7 @@ invariant_of-self g c =
     let o = g.W.Hosting.opened in
     let none : c.self.inside.waiting ≡ None = ap (λ (v : Stored). v.waiting) c.self.view_is ∙ c.requires.none_waits in
     let running : c.self.inside.faults ≡ None = ap (λ (v : Stored). v.faults) c.self.view_is ∙ c.requires.running in
-    let given = c.requires.given ∙ ap (λ (v : Stored). world_lists (world_after o v.pass.front).durable) (sym c.self.view_is) in (
+    let given = c.requires.given ∙ ap (λ (v : Stored). world_lists (world_after o v.watcher.front).durable) (sym c.self.view_is) in (
       c.self.invariant.0,
       c.self.invariant.1,
       c.self.invariant.2,
@@ -31,7 +31,7 @@ invariant_of-self-2 g c =
     let o = g.W.Hosting.opened in
     let none : c.self.inside.waiting ≡ None = ap (λ (v : Stored). v.waiting) c.self.view_is ∙ c.requires.none_waits in
     let running : c.self.inside.faults ≡ None = ap (λ (v : Stored). v.faults) c.self.view_is ∙ c.requires.running in
-    let given = c.requires.given ∙ ap (λ (v : Stored). world_lists (world_after o v.pass.front).durable) (sym c.self.view_is) in
+    let given = c.requires.given ∙ ap (λ (v : Stored). world_lists (world_after o v.watcher.front).durable) (sym c.self.view_is) in
     let made = at_ok _ _ _ c.in_ok-journal.was c.checkpoint-answer.ensures.journal in (
       c.self.invariant.0,
       c.self.invariant.1,

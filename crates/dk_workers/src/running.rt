@@ -1,6 +1,5 @@
-//! A job that is claimed from a shared world, and run over a look at it.
-ghost use Rattle.std.specs.Prelude.{◌≡◌, IfOk, IfSome};
-ghost use mathlib.Core.List.{IsPrefix};
+//! A claimed job, run over a look at the shared host.
+ghost use Rattle.std.specs.Prelude.{◌≡◌, IfOk};
 ghost use Rattle.dk_model.specs.Legal.{IsFront};
 ghost use Rattle.dk_host.specs.Calls.{IsClaimOf, IsHonestAt};
 
@@ -40,29 +39,4 @@ pub fn run_claimed<G: Game, W: Hosting, J: Naming, M: Home, R: Wait>(
         claimed.run(),
         claimed.at(),
     )
-}
-
-/// Claims a job and runs it. None where nothing was granted, or where memory was refused and the claim was given back.
-pub fn claim_and_run<G: Game, W: Hosting, J: Naming, M: Home, R: Wait>(
-    rt: &R,
-    alloc: Global,
-    game: &G,
-    host: &Host<W, J, M>,
-    pass: &mut Pass<WorldBook<W>, J>,
-) -> Option<(Claimed, Finished)>
-    requires rules { W.opened.rules ≡ G.rules game.now }
-    ensures number { pass.new.number ≡ pass.old.number }
-    ensures begins { IsPrefix pass.old.front pass.new.front }
-    ensures honest { IfSome result (λ ran. IsClaimOf W.opened pass.new ran.0 × IsHonestAt W.opened pass.new.front ran.0 ran.1) }
-{
-    let Ok(Some(claimed)) = host.claim(rt, pass) else {
-        return None;
-    };
-    match run_claimed(rt, alloc, game, host, pass, &claimed) {
-        Ok(finished) => Some((claimed, finished)),
-        Err(NoMemory) => {
-            host.release(rt, pass, claimed);
-            None
-        }
-    }
 }

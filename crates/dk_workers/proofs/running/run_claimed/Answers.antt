@@ -3,8 +3,8 @@ use Rattle.dk_types.specs.declared.limits.TheConstants.{MOMENT_MOST_MS}
 use Rattle.dk_model.specs.Lawful.{AreLawful}
 use Rattle.dk_txn.specs.Knowing.{HasTaskLimits}
 use Rattle.dk_host.specs.Looks.{looking}
-use Rattle.dk_host_tests.proofs.Running.{claim_within, claim_stays, one_number, front_of_claim, honest_by}
-use Rattle.dk_host_tests.proofs.runs.run_claimed.Goals as goal
+use Rattle.dk_workers.proofs.HonestRuns.{claim_within, claim_stays, one_number, front_of_claim, honest_by}
+use Rattle.dk_workers.proofs.running.run_claimed.Goals as goal
 
 pub run_over-requires-clause-moment : goal.run_over-requires-clause-moment
 run_over-requires-clause-moment g c =

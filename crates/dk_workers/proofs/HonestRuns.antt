@@ -26,6 +26,14 @@ pub claim_within : (o : Opened) (p : Known Event) (c : Claimed) → AreLawful o.
 claim_within o p c lawful claim =
     let within = claimed_within o p.front claim.legal c.run (record { pass = c.pass; job = c.job; at = c.at }) claim.stands lawful in (job_fits c.job within.0, within.1)
 
+-- a claim stands wherever its pass's front goes on
+pub claim_goes : (o : Opened) (c : Claimed) (old new : Known Event) → new.number ≡ old.number → IsFront old.number old.front new.front → IsLegal o new.front → IsClaimOf o old c → IsClaimOf o new c
+claim_goes o c old new number goes legal claim = record {
+  pass = claim.pass ∙ sym number;
+  legal = legal;
+  stands = claims_stand o old.front new.front c.run (record { pass = c.pass; job = c.job; at = c.at }) (subst (λ n. IsFront n old.front new.front) (sym claim.pass) goes) legal claim.stands;
+}
+
 -- from a look as it was begun to the pass as it is had back
 module _ (o : Opened) (c : Claimed) (old new : Known Event) (a b : Looking) (began : a.pass ≡ old) (ends : b.pass ≡ new) (g : LooksOn o a b) where
   pub number_stays : new.number ≡ old.number
@@ -38,11 +46,7 @@ module _ (o : Opened) (c : Claimed) (old new : Known Event) (a b : Looking) (beg
   pub claim_stays : IsClaimOf o old c → IsClaimOf o new c
   claim_stays claim =
       let legal : IsLegal o new.front = subst (λ (q : Known Event). IsLegal o q.front) ends (g.legal (subst (λ (p : Known Event). IsLegal o p.front) (sym began) claim.legal)) in
-      record {
-        pass = claim.pass ∙ sym number_stays;
-        legal = legal;
-        stands = claims_stand o old.front new.front c.run (record { pass = c.pass; job = c.job; at = c.at }) (subst (λ n. IsFront n old.front new.front) (sym claim.pass) front_goes) legal claim.stands;
-      }
+      claim_goes o c old new number_stays front_goes legal claim
 
 -- the pass of a claim has the number that the claim has
 pub one_number : (o : Opened) (c : Claimed) (old new : Known Event) → IsClaimOf o old c → IsClaimOf o new c → new.number ≡ old.number
