@@ -1,8 +1,10 @@
 -- What the store keeps where its file is read back.
-use Rattle.std.proofs.Common.{◌≡◌, ℕ, ◌+◌, ◌≤◌, Bool, IsTrue, List, [], ◌++◌, Option, Some, None, sym, ap, subst, ◌∙◌, arith}
+use Rattle.std.proofs.Common.{◌≡◌, ℕ, ◌+◌, ◌≤◌, Bool, IsTrue, List, [], ◌++◌, Option, Some, None, Result, Err, IsErrOf, refl, sym, ap, subst, ◌∙◌, arith}
 use Rattle.std.proofs.lemmas.List.{append-nil}
+use Rattle.dk_types.specs.Faults.{HasRisen}
 use Rattle.dk_types.specs.declared.durable.Entry.{Entry}
 use Rattle.dk_types.specs.declared.event.Event.{Event}
+use Rattle.dk_types.specs.declared.limits.TheConstants.{NUMBERS_END}
 use Rattle.dk_types.specs.declared.side.Side.{Side}
 use Rattle.dk_disk.specs.Disk.{Disk, settled}
 use Rattle.dk_disk.specs.DiskHistories.{DiskHistory, now, other_side}
@@ -19,8 +21,11 @@ use Rattle.dk_journal.specs.declared.journal.Journal.{Journal}
 use Rattle.dk_journal.proofs.Recoveries.{all_at, since_on, held_on}
 use Rattle.dk_commit_log.specs.Logs.{BeginsWith, IsStoreFile, IsLogOf}
 use Rattle.dk_commit_log.specs.Ranges.{between}
-use Rattle.dk_host.specs.Stores.{HasRecovered, HoldsNow, HoldsLog, IsStored}
-use Rattle.dk_host.specs.Tails.{IsLogPart, BeginsAt}
+use Rattle.dk_host.specs.Stores.{HasRecovered, HoldsNow, HoldsLog, IsStored, Stored}
+use Rattle.dk_commit_log.specs.declared.refused.LogRefused.{LogRefused}
+use Rattle.dk_commit_log.specs.declared.refused.LogRefused.TheVariants as log
+use Rattle.dk_host.specs.declared.refused.TailRefused.TheVariants as tail
+use Rattle.dk_host.specs.Tails.{IsLogPart, BeginsAt, IsLeftReading, refusal_of}
 use Rattle.dk_host.proofs.Storing.{holds_running}
 
 -- files that were looked at hold the store as they did
@@ -109,3 +114,30 @@ rests_still old new side looks rests = now_same old new looks side ∙ rests ∙
 -- which number is known
 pub some_number : (base n first : ℕ) → base ≡ first → Some base ≡ Some n → first ≡ n
 some_number base n first begins is = let same : base ≡ n = cc in sym begins ∙ same
+
+-- of what a reading was refused for
+pub damage_of : (e : LogRefused) (at : ℕ) → refusal_of e ≡ tail.Damaged at → e ≡ log.Damaged at
+damage_of log.DiskFault at is = absurd cc
+damage_of log.NoMemory at is = absurd cc
+damage_of (log.Damaged p) at is = let same : p ≡ at = cc in ap log.Damaged same
+
+pub not_older : (e : LogRefused) (n : ℕ) → refusal_of e ≡ tail.Older n → ⊥
+not_older log.DiskFault n is = absurd cc
+not_older log.NoMemory n is = absurd cc
+not_older (log.Damaged p) n is = absurd cc
+
+-- what it leaves of the store
+pub left_reading : (old new : Stored) (e : LogRefused) → old.faults ≡ None → new.faults ≡ None → (e ≡ log.DiskFault → HasRisen old.counted new.counted) → ((e ≡ log.DiskFault → ⊥) → new.counted ≡ old.counted) → IsLeftReading (refusal_of e) old new
+left_reading old new log.DiskFault ran runs risen steady = (ran, runs, risen refl)
+left_reading old new log.NoMemory ran runs risen steady = (ran, runs, steady (λ no. absurd cc))
+left_reading old new (log.Damaged p) ran runs risen steady = (ran, runs, steady (λ no. absurd cc))
+
+-- which error a step's exit is
+pub exit_of : {A E : Type 0} (r : Result A E) (y e : E) → r ≡ Err y → IsErrOf r e → y ≡ e
+exit_of r y e is told = let both : Err y ≡ Err e = sym is ∙ told in cc
+
+pub older_of : {A : Type 0} {m n : ℕ} → IsErrOf {T = A} (Err (tail.Older m)) (tail.Older n) → m ≡ n
+older_of is = cc
+
+pub some_most : (base n : ℕ) → base ≤ NUMBERS_END → Some base ≡ Some n → n ≤ NUMBERS_END
+some_most base n most is = let same : base ≡ n = cc in omega (arith, most, same)

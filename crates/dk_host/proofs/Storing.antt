@@ -170,7 +170,7 @@ module _ (o : Opened) (began : DiskHistory) (tells : Bool) (past : DiskHistory) 
               log_on o (front ++ s.tail) ((before ++ e ∷ []) ++ []) past game journal base l durable
               (of_commits_on o (before ++ e ∷ []) [] l.entries
               (of_commits_by o (front ++ event.Commit s.waits.0.pass claimed.run seq s.waits.1.0.outcome ∷ []) (before ++ e ∷ []) l.entries
-              (of_commit_later o front more pass s.waits.0.pass seq claimed.run f.outcome s.waits.1.0.outcome unchanged (sym (ap (λ (x : Event). (world_after o (front ++ x ∷ [])).durable) (sym named) ∙ was)))
+              (λ x. of_commit_later o front more pass s.waits.0.pass seq claimed.run f.outcome s.waits.1.0.outcome x unchanged (sym (ap (λ (y : Event). (world_after o (front ++ y ∷ [])).durable) (sym named) ∙ was)))
               (subst (λ (x : Event). AreOfCommits o (front ++ x ∷ []) l.entries) named ours)));
         }
 
