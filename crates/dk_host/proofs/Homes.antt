@@ -1,6 +1,6 @@
 -- The home of a store is the one that was handed in, over each call that writes.
-use Rattle.std.proofs.Common.{◌≡◌, ◌≤◌, ℕ, Option, None, Some, Result, Ok, Err, OnOk, IfErr, IsErrOf, refl, sym, subst, ◌∙◌}
-use Rattle.dk_types.specs.Faults.{HasRisen}
+use Rattle.std.proofs.Common.{◌≡◌, ◌≤◌, ℕ, Option, None, Some, Result, Ok, Err, OnOk, IfErr, IsErrOf, inl, inr, refl, sym, subst, ◌∙◌, arith}
+use Rattle.dk_types.specs.Faults.{HasRisen, COUNT_END}
 use Rattle.dk_types.specs.declared.side.Side.{Side}
 use Rattle.dk_disk.specs.Opening.{Opening}
 use Rattle.dk_journal.specs.declared.journal.Journal.{Journal}
@@ -9,6 +9,8 @@ use Rattle.dk_journal.specs.declared.refused.JournalRefused.TheVariants as journ
 use Rattle.dk_journal.specs.Refusals.{IsAppendFault}
 use Rattle.dk_checkpoint.specs.declared.refused.CheckpointRefused.{CheckpointRefused as NotWritten}
 use Rattle.dk_checkpoint.specs.declared.refused.CheckpointRefused.TheVariants as not_written
+use Rattle.dk_commit_log.specs.declared.refused.LogRefused.{LogRefused}
+use Rattle.dk_commit_log.specs.declared.refused.LogRefused.TheVariants as log
 use Rattle.dk_host.specs.Checkpoints.{faults_after as stopped_after}
 use Rattle.dk_host.specs.Stores.{IsSameHome, faults_after}
 
@@ -42,3 +44,19 @@ module _ (begun : ℕ) (was : Opening) (old new n : ℕ) (opens opens_after : Op
   rewritten_home (Err (not_written.TooLarge m)) cause steady = stayed (steady (λ no. absurd cc))
   rewritten_home (Err (not_written.EpochEnd m)) cause steady = stayed (steady (λ no. absurd cc))
   rewritten_home (Err not_written.NoMemory) cause steady = stayed (steady (λ no. absurd cc))
+
+-- a count that rose is no less
+no_less : (begun old new : ℕ) → begun ≤ old → HasRisen old new → begun ≤ new
+no_less begun old new le (inl more) = omega (arith, le, more)
+no_less begun old new le (inr ends) = omega (arith, le, ends.0, ends.1)
+
+-- whatever came of reading the log of a store that runs
+module _ {A : Type 0} (begun : ℕ) (was : Opening) (old new : ℕ) (opens opens_after : Opening) (h : IsSameHome begun was None old opens) (opening : opens_after ≡ opens) where
+  read_on : begun ≤ new → IsSameHome begun was None new opens_after
+  read_on le = record { counts = le; same = opening ∙ h.same }
+
+  pub read_home : (r : Result A LogRefused) → (IsErrOf r log.DiskFault → HasRisen old new) → ((IsErrOf r log.DiskFault → ⊥) → new ≡ old) → IsSameHome begun was None new opens_after
+  read_home (Ok x) cause steady = read_on (subst (λ (n : ℕ). begun ≤ n) (sym (steady (λ no. absurd cc))) h.counts)
+  read_home (Err log.DiskFault) cause steady = read_on (no_less begun old new h.counts (cause refl))
+  read_home (Err log.NoMemory) cause steady = read_on (subst (λ (n : ℕ). begun ≤ n) (sym (steady (λ no. absurd cc))) h.counts)
+  read_home (Err (log.Damaged at)) cause steady = read_on (subst (λ (n : ℕ). begun ≤ n) (sym (steady (λ no. absurd cc))) h.counts)

@@ -5,6 +5,7 @@ pub mod Opening
 pub mod Committing
 pub mod Looking
 pub mod Nexts
+pub mod Logged
 pub mod Storing
 pub mod Looked
 pub mod Published
@@ -19,3 +20,4 @@ pub mod Homes
 pub mod Owing
 pub mod KeptEvents
 pub mod Unentered
+pub mod Rereading

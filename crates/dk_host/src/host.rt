@@ -133,6 +133,7 @@ impl<W: Hosting, J: Naming, M: Home> Host<W, J, M> {
             side: _,
             journal,
             first,
+            base: _,
             watcher,
             mut right,
             waiting: _,
