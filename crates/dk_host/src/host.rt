@@ -78,11 +78,7 @@ impl<W: Hosting, J: Naming, M: Home> Host<W, J, M> {
         ensures passes { IfOk result (λ opened. IsDealt J.name.passes opened.1.items) }
         ensures refused { IfErr result (λ refused. (refused.home ≡ store.home) × (refused.fault ≡ WantOfMemory)) }
     {
-        let OpenedStore {
-            home,
-            stood,
-            game,
-        } = store;
+        let OpenedStore { home, stood, game } = store;
         let Stood {
             journal,
             side,
@@ -102,7 +98,8 @@ impl<W: Hosting, J: Naming, M: Home> Host<W, J, M> {
             commits,
             places,
         };
-        let Ok((world, passes, watcher)) = Turn::<WorldBook<W>, J>::watched(alloc, blank, book) else {
+        let Ok((world, passes, watcher)) = Turn::<WorldBook<W>, J>::watched(alloc, blank, book)
+        else {
             return Err(OpenRefused::no_memory(home));
         };
         let right = CommitRight::new(commit_share, place_share);

@@ -37,8 +37,7 @@ invariant_of-self-then-after-base g c =
     let there = log_there o _ _ _ _ _ _ _ _ _ _ _ s here in
     let rests = rests_there o _ _ _ _ _ _ _ _ _ _ _ s here in
     let looked = λ (h : IsTrue g.M.Home.tells). c.known_commits.ensures.looks h (rests h) in
-    let begins = λ (h : IsTrue g.M.Home.tells). c.in_ok-base.ensures.begins h (there h).stands.header (there h).stands.payloads (there h).first (there h).log.others (file_there o _ _ _ _ _ _ _ _ _ _ _ s here h) (there h).log.begins (there h).known in
-    (
+    let begins = λ (h : IsTrue g.M.Home.tells). c.in_ok-base.ensures.begins h (there h).stands.header (there h).stands.payloads (there h).first (there h).log.others (file_there o _ _ _ _ _ _ _ _ _ _ _ s here h) (there h).log.begins (there h).known in (
       c.self.invariant.0,
       c.self.invariant.1,
       record { here = here; same = c.self.invariant.2.same; later = c.self.invariant.2.later; most = λ n is. some_most c.in_ok-base.base n c.in_ok-base.ensures.most is },
@@ -57,8 +56,7 @@ invariant_of-self-in_err-entries g c =
     let rests = rests_there o _ _ _ _ _ _ _ _ _ _ _ s here in
     let looked = λ (h : IsTrue g.M.Home.tells). c.known_commits.ensures.looks h (rests h) in
     let begins = λ (h : IsTrue g.M.Home.tells). c.in_ok-base.ensures.begins h (there h).stands.header (there h).stands.payloads (there h).first (there h).log.others (file_there o _ _ _ _ _ _ _ _ _ _ _ s here h) (there h).log.begins (there h).known in
-    let later = λ (h : IsTrue g.M.Home.tells). looks_on _ _ _ (looked h) (c.read_commits.ensures.looks h (rests_still _ _ c.self.inside.side (looked h) (rests h))) in
-    (
+    let later = λ (h : IsTrue g.M.Home.tells). looks_on _ _ _ (looked h) (c.read_commits.ensures.looks h (rests_still _ _ c.self.inside.side (looked h) (rests h))) in (
       c.self.invariant.0,
       c.self.invariant.1,
       record { here = here; same = c.self.invariant.2.same; later = c.self.invariant.2.later; most = λ n is. some_most c.in_ok-base.base n c.in_ok-base.ensures.most is },
@@ -78,8 +76,7 @@ invariant_of-self-2 g c =
     let rests = rests_there o _ _ _ _ _ _ _ _ _ _ _ s here in
     let looked = λ (h : IsTrue g.M.Home.tells). c.known_commits.ensures.looks h (rests h) in
     let begins = λ (h : IsTrue g.M.Home.tells). c.in_ok-base.ensures.begins h (there h).stands.header (there h).stands.payloads (there h).first (there h).log.others (file_there o _ _ _ _ _ _ _ _ _ _ _ s here h) (there h).log.begins (there h).known in
-    let later = λ (h : IsTrue g.M.Home.tells). looks_on _ _ _ (looked h) (c.read_commits.ensures.looks h (rests_still _ _ c.self.inside.side (looked h) (rests h))) in
-    (
+    let later = λ (h : IsTrue g.M.Home.tells). looks_on _ _ _ (looked h) (c.read_commits.ensures.looks h (rests_still _ _ c.self.inside.side (looked h) (rests h))) in (
       c.self.invariant.0,
       c.self.invariant.1,
       record { here = here; same = c.self.invariant.2.same; later = c.self.invariant.2.later; most = λ n is. some_most c.in_ok-base.base n c.in_ok-base.ensures.most is },
