@@ -4,3 +4,6 @@ pub mod Worked
 pub mod Boxes
 pub mod Small
 pub mod Entered
+pub mod Drained
+pub mod Unclaimed
+pub mod Phasing

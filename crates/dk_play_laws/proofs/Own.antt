@@ -62,7 +62,7 @@ HasNoneBelow n events = (k : ℕ) → k < n → of_pass k events ≡ []
 cons_nil : {A : Type 0} (x : A) (xs : List A) → x ∷ xs ≡ [] → ⊥
 cons_nil x xs e = cc
 
-none_rest : (n : ℕ) (e : Event) (events : List Event) → of_pass n (e ∷ events) ≡ [] → (pass_of e ≢ n) × (of_pass n events ≡ [])
+pub none_rest : (n : ℕ) (e : Event) (events : List Event) → of_pass n (e ∷ events) ≡ [] → (pass_of e ≢ n) × (of_pass n events ≡ [])
 none_rest n e events none = elim (eqb_tells (pass_of e) n) [
   | inl t ↦ absurd (cons_nil e (of_pass n events) (sym (of_first n e events t.1) ∙ none))
   | inr t ↦ (t.1, sym (of_rest n e events t.1) ∙ none)

@@ -5,3 +5,5 @@ pub mod AloneLaw
 pub mod WorkedLaw
 pub mod LineEvents
 pub mod LineEventsLaw
+pub mod Phased
+pub mod PhasedLaw

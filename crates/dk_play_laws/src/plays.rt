@@ -2,6 +2,7 @@
 ghost use Rattle.dk_play_laws.specs.AloneLaw.{OnePassIsAlone};
 ghost use Rattle.dk_play_laws.specs.WorkedLaw.{OneWorkerIsInTurn, WorkersLeaveNoClaim};
 ghost use Rattle.dk_play_laws.specs.LineEventsLaw.{LinesAreEntered};
+ghost use Rattle.dk_play_laws.specs.PhasedLaw.{DrainsEndTheirClaims, NothingIsPlayed, PhasesFollow};
 ghost use Rattle.dk_play_laws.specs.Told.{SilentClaimsPrintNothing};
 
 /// Claims that were granted nothing print nothing.
@@ -27,4 +28,19 @@ pub fn one_worker_is_in_turn()
 /// temporary
 pub fn lines_are_entered()
     ensures { LinesAreEntered }
+{}
+
+/// A drain ends what was claimed in it.
+pub fn drains_end_their_claims()
+    ensures { DrainsEndTheirClaims }
+{}
+
+/// One phase more is played.
+pub fn phases_follow()
+    ensures { PhasesFollow }
+{}
+
+/// Nothing is played at first.
+pub fn nothing_is_played()
+    ensures { NothingIsPlayed }
 {}
