@@ -7,3 +7,4 @@ pub mod Entered
 pub mod Drained
 pub mod Unclaimed
 pub mod Phasing
+pub mod Budgets

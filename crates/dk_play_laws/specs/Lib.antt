@@ -7,3 +7,4 @@ pub mod LineEvents
 pub mod LineEventsLaw
 pub mod Phased
 pub mod PhasedLaw
+pub mod BudgetLaw

@@ -1,6 +1,7 @@
 //! Plays by several passes.
 ghost use Rattle.dk_play_laws.specs.AloneLaw.{OnePassIsAlone};
 ghost use Rattle.dk_play_laws.specs.WorkedLaw.{OneWorkerIsInTurn, WorkersLeaveNoClaim};
+ghost use Rattle.dk_play_laws.specs.BudgetLaw.{SpentBudgetsAreCommitted};
 ghost use Rattle.dk_play_laws.specs.LineEventsLaw.{LinesAreEntered};
 ghost use Rattle.dk_play_laws.specs.PhasedLaw.{DrainsEndTheirClaims, NothingIsPlayed, PhasesFollow};
 ghost use Rattle.dk_play_laws.specs.Told.{SilentClaimsPrintNothing};
@@ -43,4 +44,9 @@ pub fn phases_follow()
 /// Nothing is played at first.
 pub fn nothing_is_played()
     ensures { NothingIsPlayed }
+{}
+
+/// A budget that is spent was committed.
+pub fn spent_budgets_are_committed()
+    ensures { SpentBudgetsAreCommitted }
 {}
