@@ -1,5 +1,5 @@
 -- At no connection wait more messages than may wait.
-use Rattle.std.proofs.Common.{◌≡◌, ℕ, ◌≤◌, Bool, true, false, cond, nat_eq, Option, Some, None, List, [], ◌∷◌, length, drop, refl, sym, ap, subst, ◌∙◌, length-drop, arith}
+use Rattle.std.proofs.Common.{ℕ, ◌≤◌, true, false, cond, nat_eq, Option, Some, List, [], ◌∷◌, length, drop, sym, subst, length-drop, arith}
 use Rattle.std.specs.FinMap.{get, insert, empty, get-empty}
 use Rattle.dk_types.specs.declared.number.ConnNo.{ConnNo}
 use Rattle.dk_types.specs.declared.job.Session.{Session}
@@ -19,7 +19,7 @@ use Rattle.dk_model.specs.Histories.{Leads}
 use Rattle.dk_model.specs.Openings.{opening, counting, with_sessions, ended_connection}
 use Rattle.dk_laws.proofs.NumberedMaps.{conn-insert}
 use Rattle.dk_progress.proofs.Fits.{AreWithin}
-use Rattle.dk_progress.proofs.Kept.{AtEach, kept_next, kept_for_conn, kept_swept, kept_changed, kept_delivered}
+use Rattle.dk_progress.proofs.Kept.{AtEach, kept_for_conn, kept_swept, kept_changed, kept_delivered}
 use Rattle.dk_progress.proofs.Lefts.{StaysWithin, boxes_steady, boxes_delivered}
 
 -- where each box stays within the limit, all do

@@ -1,5 +1,5 @@
 -- A budget has granted a claim for each commit and each open claim.
-use Rattle.std.proofs.Common.{◌≡◌, ◌≢◌, ℕ, zero, suc, ◌+◌, ◌-◌, ◌<◌, ◌≤◌, Bool, true, false, cond, nat_lt, Option, Some, None, List, [], ◌∷◌, ◌++◌, inl, inr, refl, sym, ap, subst, ◌∙◌, add-one, arith}
+use Rattle.std.proofs.Common.{◌≡◌, ◌≢◌, ℕ, zero, suc, ◌+◌, ◌-◌, ◌<◌, ◌≤◌, Bool, true, false, cond, nat_lt, Some, None, List, [], ◌∷◌, ◌++◌, inl, inr, refl, sym, ap, subst, ◌∙◌, add-one, arith}
 use Rattle.std.specs.FinMap.{get, insert, remove}
 use Rattle.std.proofs.lemmas.Bool.{ltb-true, ltb-false}
 use Rattle.std.proofs.lemmas.Bool.Decides.{eqb_tells, leb_tells}
@@ -12,7 +12,7 @@ use Rattle.dk_types.specs.declared.event.ClaimReply.TheVariants as claimed
 use Rattle.dk_model.specs.Worlds.{World, Claim, Budget}
 use Rattle.dk_model.specs.Events.{Meaning, Happens, has_left, granted_of, lowered, raised}
 use Rattle.dk_model.specs.Histories.{Leads}
-use Rattle.dk_model.specs.Legal.{Opened, opening_of, world_after, IsLegal, commits_of}
+use Rattle.dk_model.specs.Legal.{Opened, opening_of, world_after, commits_of}
 use Rattle.dk_model.specs.Openings.{opening, budget_of}
 use Rattle.dk_model.specs.Picks.{runnable}
 use Rattle.dk_laws.proofs.Between.{commits_of-append}
@@ -20,8 +20,7 @@ use Rattle.dk_laws.proofs.NumberedMaps.{equal, unequal, one_run, run-insert, run
 use Rattle.dk_laws.proofs.Numbers.{AreBelow, claimed_below, happens_below, opening_below, opening_claims}
 use Rattle.dk_laws.proofs.OneWorld.{events_lead, parted}
 use Rattle.dk_laws.proofs.OpenClaims.{TheClaims, one_if, open_below, open_inserted, open_none}
-use Rattle.dk_play_laws.specs.BudgetLaw.{IsBudgetSpent, SpentBudgetsAreCommitted}
-use Rattle.dk_play_laws.specs.WorkedLaw.{IsUnclaimed}
+use Rattle.dk_play_laws.specs.BudgetLaw.{SpentBudgetsAreCommitted}
 
 -- a claim whose number is not below does not count
 removed_above : (claims : TheClaims) (run : RunNo) (n : ℕ) → n ≤ run.0 → open_below (remove claims run) n ≡ open_below claims n

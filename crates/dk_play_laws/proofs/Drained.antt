@@ -1,5 +1,5 @@
 -- A drain: what the main pass and the workers know of each other's events.
-use Rattle.std.proofs.Common.{◌≡◌, ◌≢◌, ℕ, ◌+◌, ◌<◌, ◌≤◌, Option, None, inl, inr, List, [], ◌∷◌, ◌++◌, length, refl, sym, ap, subst, ◌∙◌, arith, append_assoc}
+use Rattle.std.proofs.Common.{◌≡◌, ℕ, ◌+◌, ◌<◌, ◌≤◌, None, inl, inr, List, [], ◌∷◌, ◌++◌, length, refl, sym, ap, subst, ◌∙◌, arith, append_assoc}
 use Rattle.std.specs.List.{AllByRecursion}
 use Rattle.std.proofs.lemmas.List.{append-nil, append_cancel_left}
 use Rattle.std.proofs.lemmas.Bool.Decides.{eqb_tells, leb_tells}
@@ -8,9 +8,9 @@ use Rattle.dk_types.specs.declared.event.Event.{Event}
 use Rattle.dk_types.specs.declared.event.Event.TheVariants as event
 use Rattle.dk_types.specs.declared.event.ClaimReply.{ClaimReply}
 use Rattle.dk_model.specs.Legal.{pass_of}
-use Rattle.dk_turn.specs.Fronts.{Known, own, Continues}
+use Rattle.dk_turn.specs.Fronts.{Known, Continues}
 use Rattle.dk_play_laws.specs.AloneLaw.{AreNamed, IsAlone}
-use Rattle.dk_play_laws.specs.Phased.{GoesOn, HasMet, HaveMet, HasWorkedOn, EndsWork, IsDrain, IsDrained}
+use Rattle.dk_play_laws.specs.Phased.{HasMet, HasWorkedOn, IsDrain, IsDrained}
 use Rattle.dk_play_laws.specs.PhasedLaw.{DrainTells, DrainsEndTheirClaims}
 use Rattle.dk_play_laws.specs.Seen.{AreNumbered, AreBehind, HaveSeen, ArePaired}
 use Rattle.dk_play_laws.specs.Worked.{AreWorked}

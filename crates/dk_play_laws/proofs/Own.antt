@@ -1,15 +1,15 @@
 -- The events of one pass in a history, and what is left of it where nobody else entered anything.
-use Rattle.std.proofs.Common.{◌≡◌, ◌≢◌, ℕ, ◌+◌, ◌<◌, ◌≤◌, ◌==◌, Bool, true, false, cond, inl, inr, List, [], ◌∷◌, ◌++◌, length, refl, sym, ap, subst, ◌∙◌, arith, append_assoc, eq-eqb, ne_eqb}
+use Rattle.std.proofs.Common.{◌≡◌, ◌≢◌, ℕ, ◌+◌, ◌<◌, ◌≤◌, Bool, cond, inl, inr, List, [], ◌∷◌, ◌++◌, length, refl, sym, ap, subst, ◌∙◌, arith, append_assoc, eq-eqb, ne_eqb}
 use Rattle.std.specs.List.{AllByRecursion}
 use Rattle.std.proofs.lemmas.List.{append-nil, append_cancel_left}
 use Rattle.std.proofs.lemmas.Bool.Decides.{eqb_tells}
 use mathlib.Core.List.{IsPrefix}
 use Rattle.dk_types.specs.declared.event.Event.{Event}
 use Rattle.dk_model.specs.Legal.{pass_of}
-use Rattle.dk_turn.specs.Fronts.{Known, own, Continues}
+use Rattle.dk_turn.specs.Fronts.{Known, own}
 use Rattle.dk_turn.proofs.Beginnings.{own-append}
 use Rattle.dk_play_laws.specs.Seen.{AreNumbered, AreBehind, HaveSeen}
-use Rattle.dk_play_laws.specs.AloneLaw.{AreNamed, IsAlone, OnePassIsAlone}
+use Rattle.dk_play_laws.specs.AloneLaw.{AreNamed, OnePassIsAlone}
 
 -- the events of a pass
 abbrev pub of_pass : ℕ → List Event → List Event

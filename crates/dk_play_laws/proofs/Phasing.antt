@@ -1,5 +1,5 @@
 -- One phase more is played.
-use Rattle.std.proofs.Common.{◌≡◌, ℕ, false, ◌-◌, ◌+◌, ◌≤◌, None, List, [], ◌∷◌, ◌++◌, length, take, drop, map, refl, sym, ap, ◌∙◌, subst, arith, append_assoc}
+use Rattle.std.proofs.Common.{◌≡◌, ℕ, false, ◌-◌, ◌≤◌, None, List, [], ◌∷◌, ◌++◌, length, take, drop, map, refl, sym, ap, ◌∙◌, subst, arith, append_assoc}
 use Rattle.std.proofs.lemmas.List.{append-nil, length-append, length-drop, take_all, map-append}
 use Rattle.std.proofs.lemmas.List.{take-append-le, drop-append-le}
 use Rattle.std.proofs.Math.Seq.{drop-append_seam}
@@ -14,7 +14,7 @@ use Rattle.dk_model.specs.Picks.{runnable}
 use Rattle.dk_model.specs.Events.{Meaning}
 use Rattle.dk_model.specs.Histories.{Leads}
 use Rattle.dk_model.specs.Lawful.{AreLawful, IsWithinLimits}
-use Rattle.dk_model.specs.Legal.{Opened, opening_of, world_after, IsLegal, pass_of}
+use Rattle.dk_model.specs.Legal.{Opened, opening_of, world_after, IsLegal}
 use Rattle.dk_model.specs.Orders.{OrderItem, AreInTurn, item_of}
 use Rattle.dk_model.specs.Phases.{IsSmall, AreSmall, phase_end, phases_of}
 use Rattle.dk_model.specs.Transcripts.{Playing, IsQuiet, PlaysPhase, Plays, playing}
@@ -24,9 +24,9 @@ use Rattle.dk_laws.proofs.SoundHistories.{history_sound}
 use Rattle.dk_progress.proofs.Fits.{AreWithin}
 use Rattle.dk_play_laws.specs.AloneLaw.{AreNamed, IsAlone}
 use Rattle.dk_play_laws.specs.LineEvents.{Said, nothing_said, playing_at, AreLineEvents, AreHandEvents}
-use Rattle.dk_play_laws.specs.Phased.{ArePlayed, HavePlayed, IsBetween, GoesOn, IsDrained, IsPhase}
+use Rattle.dk_play_laws.specs.Phased.{HavePlayed, IsBetween, GoesOn, IsDrained, IsPhase}
 use Rattle.dk_play_laws.specs.PhasedLaw.{DrainTells, PhasesFollow, NothingIsPlayed}
-use Rattle.dk_play_laws.specs.Seen.{AreNumbered, AreBehind, HaveSeen}
+use Rattle.dk_play_laws.specs.Seen.{AreBehind, HaveSeen}
 use Rattle.dk_play_laws.specs.Told.{told_of, is_release, AreKept}
 use Rattle.dk_play_laws.specs.WorkedLaw.{IsUnclaimed, AllWork, HasWorked}
 use Rattle.dk_play_laws.specs.Worked.{AreWorked}

@@ -1,14 +1,13 @@
 -- Claims that were granted nothing print nothing, and change nothing.
-use Rattle.std.proofs.Common.{◌≡◌, ℕ, ◌+◌, Bool, true, false, cond, Option, Some, None, List, [], ◌∷◌, ◌++◌, map, codes, refl, sym, ap, subst, ◌∙◌}
+use Rattle.std.proofs.Common.{◌≡◌, ℕ, ◌+◌, Bool, true, false, cond, List, [], ◌∷◌, ◌++◌, map, codes, refl, sym, ap, subst, ◌∙◌}
 use Rattle.std.specs.Fmt.{decimal}
-use Rattle.std.specs.List.{AllByRecursion, filter, filter_map, cons_option}
+use Rattle.std.specs.List.{AllByRecursion}
 use Rattle.std.proofs.lemmas.List.Elements.{filter-append}
 use Rattle.dk_types.specs.declared.event.Event.{Event}
 use Rattle.dk_types.specs.declared.event.Event.TheVariants as event
 use Rattle.dk_types.specs.declared.event.ClaimReply.{ClaimReply}
 use Rattle.dk_types.specs.declared.event.ClaimReply.TheVariants as claimed
 use Rattle.dk_model.specs.Lines.{text_of}
-use Rattle.dk_model.specs.Phases.{IsSmall, AreSmall}
 use Rattle.dk_model.specs.Transcripts.{Known, nothing_known, event_lines, knowing, lines_of_events, known_after, lines_of_phases, done_line, transcript_text}
 use Rattle.dk_play_laws.specs.Told.{is_granted, is_told, told_of, SilentClaimsPrintNothing}
 

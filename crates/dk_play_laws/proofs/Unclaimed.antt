@@ -1,12 +1,10 @@
 -- Events that claim nothing leave no claim where there was none.
-use Rattle.std.proofs.Common.{◌≡◌, ℕ, Bool, true, false, Option, Some, None, List, [], ◌∷◌, map, inl, inr, refl, sym, ap, subst, ◌∙◌}
+use Rattle.std.proofs.Common.{◌≡◌, ℕ, Bool, true, false, Option, None, List, [], ◌∷◌, map, inl, inr, sym, ap, ◌∙◌}
 use Rattle.std.specs.FinMap.{FinMap, get, empty, values, get-empty, same_map}
 use Rattle.std.specs.List.{AllByRecursion}
 use Rattle.dk_types.specs.declared.number.RunNo.{RunNo}
 use Rattle.dk_types.specs.declared.number.ConnNo.{ConnNo}
 use Rattle.dk_types.specs.declared.event.Event.{Event}
-use Rattle.dk_types.specs.declared.event.Event.TheVariants as event
-use Rattle.dk_types.specs.declared.event.ConnectReply.{ConnectReply}
 use Rattle.dk_model.specs.declared.script.Line.{Line}
 use Rattle.dk_model.specs.declared.script.Line.TheVariants as line
 use Rattle.dk_model.specs.Keys.{run_cmp}

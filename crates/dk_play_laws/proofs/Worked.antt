@@ -1,13 +1,12 @@
 -- Workers end what they claim.
 use Rattle.std.proofs.Common.{◌≡◌, ◌≢◌, ℕ, ◌==◌, Bool, true, false, cond, inl, inr, Option, Some, None, List, [], ◌∷◌, ◌++◌, refl, sym, ap, subst, ◌∙◌, eq-eqb, ne_eqb}
-use Rattle.std.specs.FinMap.{get, FinMap, remove}
-use Rattle.std.specs.List.{AllByRecursion, filter_map}
+use Rattle.std.specs.FinMap.{get, remove}
+use Rattle.std.specs.List.{filter_map}
 use Rattle.std.proofs.lemmas.Bool.Decides.{eqb_tells}
 use Rattle.dk_types.specs.declared.number.RunNo.{RunNo}
 use Rattle.dk_types.specs.declared.event.Event.{Event}
 use Rattle.dk_types.specs.declared.event.Event.TheVariants as event
 use Rattle.dk_types.specs.declared.event.ClaimReply.TheVariants as claimed
-use Rattle.dk_model.specs.Keys.{run_cmp}
 use Rattle.dk_model.specs.Worlds.{World, Claim}
 use Rattle.dk_model.specs.Events.{Meaning, Happens}
 use Rattle.dk_model.specs.Histories.{Leads}
@@ -17,7 +16,7 @@ use Rattle.dk_model.specs.Transcripts.{Follows}
 use Rattle.dk_laws.proofs.NumberedMaps.{one_run, run-insert, run-remove}
 use Rattle.dk_play_laws.specs.Told.{told_of, AreKept}
 use Rattle.dk_play_laws.specs.Worked.{Handles, AreWorked}
-use Rattle.dk_play_laws.specs.WorkedLaw.{IsUnclaimed, AllWork, HasWorked, WorkersLeaveNoClaim, OneWorkerIsInTurn}
+use Rattle.dk_play_laws.specs.WorkedLaw.{IsUnclaimed, WorkersLeaveNoClaim, OneWorkerIsInTurn}
 use Rattle.dk_play_laws.proofs.Own.{of_pass, of_first, of_rest}
 
 -- which run each pass has in hand

@@ -3,9 +3,7 @@ use Rattle.std.specs.Prelude.{◌≡◌, ◌≢◌, ℕ, Some, List, [], ◌∷�
 use Rattle.dk_types.specs.declared.event.Event.{Event}
 use Rattle.dk_types.specs.declared.event.Event.TheVariants as event
 use Rattle.dk_types.specs.declared.event.ClaimReply.TheVariants as claimed
-use Rattle.dk_types.specs.declared.limits.TheConstants.{NUMBERS_END}
 use Rattle.dk_model.specs.Legal.{Opened, world_after, IsLegal, commits_of}
-use Rattle.dk_model.specs.Lawful.{AreLawful}
 use Rattle.dk_model.specs.Picks.{runnable}
 use Rattle.dk_play_laws.specs.WorkedLaw.{IsUnclaimed}
 

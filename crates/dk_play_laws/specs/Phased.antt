@@ -1,19 +1,17 @@
 -- A play by a main pass and workers, phase by phase: what stands between two phases, and what each part of a phase does.
-use Rattle.std.specs.Prelude.{◌≡◌, ℕ, ◌+◌, ◌≤◌, None, List, [], ◌∷◌, ◌++◌, length, map}
+use Rattle.std.specs.Prelude.{◌≡◌, ℕ, ◌≤◌, None, List, [], ◌∷◌, ◌++◌, length, map}
 use Rattle.std.specs.List.{AllByRecursion}
 use mathlib.Core.List.{IsPrefix}
-use Rattle.dk_types.specs.declared.number.ConnNo.{ConnNo}
 use Rattle.dk_types.specs.declared.event.Event.{Event}
 use Rattle.dk_types.specs.declared.event.Event.TheVariants as event
 use Rattle.dk_types.specs.declared.event.ClaimReply.{ClaimReply}
 use Rattle.dk_types.specs.declared.event.ClaimReply.TheVariants as claimed
 use Rattle.dk_model.specs.declared.script.Line.{Line}
-use Rattle.dk_model.specs.Legal.{Opened, opening_of, world_after, IsLegal, pass_of}
+use Rattle.dk_model.specs.Legal.{Opened, opening_of, world_after, pass_of}
 use Rattle.dk_model.specs.Orders.{OrderItem, AreInTurn}
 use Rattle.dk_model.specs.Phases.{AreSmall, phases_of}
 use Rattle.dk_model.specs.Transcripts.{Plays, playing}
 use Rattle.dk_turn.specs.Fronts.{Known, own, Continues}
-use Rattle.dk_play_laws.specs.AloneLaw.{AreNamed}
 use Rattle.dk_play_laws.specs.LineEvents.{Said, playing_at, AreLineEvents, AreHandEvents}
 use Rattle.dk_play_laws.specs.Seen.{AreNumbered, AreBehind, HaveSeen, ArePaired}
 use Rattle.dk_play_laws.specs.Told.{told_of, AreKept}

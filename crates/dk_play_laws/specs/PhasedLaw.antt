@@ -1,5 +1,5 @@
 -- Phase after phase is played, whatever workers do between.
-use Rattle.std.specs.Prelude.{◌≡◌, ℕ, ◌+◌, List, [], ◌∷◌, ◌++◌, length}
+use Rattle.std.specs.Prelude.{◌≡◌, ℕ, List, [], ◌∷◌, ◌++◌, length}
 use Rattle.dk_types.specs.declared.event.Event.{Event}
 use Rattle.dk_types.specs.declared.event.ClaimReply.{ClaimReply}
 use Rattle.dk_model.specs.declared.script.Line.{Line}
@@ -8,7 +8,7 @@ use Rattle.dk_model.specs.Legal.{Opened, IsLegal}
 use Rattle.dk_turn.specs.Fronts.{Known}
 use Rattle.dk_play_laws.specs.AloneLaw.{AreNamed}
 use Rattle.dk_play_laws.specs.LineEvents.{Said, nothing_said}
-use Rattle.dk_play_laws.specs.Phased.{HavePlayed, IsBetween, GoesOn, IsDrain, IsDrained, IsPhase}
+use Rattle.dk_play_laws.specs.Phased.{IsBetween, IsDrain, IsDrained, IsPhase}
 use Rattle.dk_play_laws.specs.Seen.{AreNumbered, AreBehind, HaveSeen}
 
 -- the passes are behind the main one again, and where none of them has entered anything since, the drain's events are known

@@ -1,6 +1,4 @@
-use Rattle.dk_play_laws.proofs.Entered.{entered_all, handed_all, lines_told, hands_told}
-use Rattle.dk_play_laws.proofs.Small.{small_events}
-use Rattle.dk_play_laws.proofs.Boxes.{opening_within}
+use Rattle.dk_play_laws.proofs.Entered.{entered_all, lines_told}
 use Rattle.dk_play_laws.proofs.plays.lines_are_entered.Goals as goal
 
 pub returns : goal.returns
