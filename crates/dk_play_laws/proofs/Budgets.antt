@@ -17,10 +17,12 @@ use Rattle.dk_model.specs.Openings.{opening, budget_of}
 use Rattle.dk_model.specs.Picks.{runnable}
 use Rattle.dk_laws.proofs.Between.{commits_of-append}
 use Rattle.dk_laws.proofs.NumberedMaps.{equal, unequal, one_run, run-insert, run-remove}
-use Rattle.dk_laws.proofs.Numbers.{AreBelow, claimed_below, happens_below, opening_below, opening_claims}
+use Rattle.dk_laws.proofs.Numbers.{AreBelow, claimed_below, happens_below, next_ends, opening_below, opening_claims}
+use Rattle.dk_laws.proofs.SoundOpenings.{opening_sound}
+use Rattle.dk_types.specs.declared.limits.TheConstants.{NUMBERS_END}
 use Rattle.dk_laws.proofs.OneWorld.{events_lead, parted}
 use Rattle.dk_laws.proofs.OpenClaims.{TheClaims, one_if, open_below, open_inserted, open_none}
-use Rattle.dk_play_laws.specs.BudgetLaw.{SpentBudgetsAreCommitted}
+use Rattle.dk_play_laws.specs.BudgetLaw.{SpentBudgetsAreCommitted, TellsExhausted, NumbersEndAtOne}
 
 -- a claim whose number is not below does not count
 removed_above : (claims : TheClaims) (run : RunNo) (n : ℕ) → n ≤ run.0 → open_below (remove claims run) n ≡ open_below claims n
@@ -164,8 +166,8 @@ opening_counted o most is =
       below = opening_below o.durable o.budget;
     }
 
-nothing_left : (n : ℕ) → nat_lt 0 n ≡ false → n ≡ 0
-nothing_left n e = elim (leb_tells n 0) [ inl t ↦ omega (arith, t.1) | inr t ↦ absurd (true_false (sym (lt_true t.1) ∙ e)) ] where
+nothing_more : (n : ℕ) → nat_lt 0 n ≡ false → n ≡ 0
+nothing_more n e = elim (leb_tells n 0) [ inl t ↦ omega (arith, t.1) | inr t ↦ absurd (true_false (sym (lt_true t.1) ∙ e)) ] where
   true_false : ◌≡◌ {A = Bool} true false → ⊥
   true_false f = cc
 
@@ -188,7 +190,7 @@ spent_committed o most pass granted events is legal none =
     let now_open : open_below legal.history.last.claims legal.history.last.next ≡ 0 =
     open_none legal.history.last.claims (λ run. ap (λ (x : World). get x.claims run) last ∙ none run) legal.history.last.next in
     let budget : p.at.budget ≡ Some c.budget = ap (λ (x : World). x.budget) (same ∙ sym last) ∙ c.is in
-    let left : c.budget.left ≡ 0 = nothing_left c.budget.left (sym (ap has_left budget) ∙ claim.1) in
+    let left : c.budget.left ≡ 0 = nothing_more c.budget.left (sym (ap has_left budget) ∙ claim.1) in
     let count : granted ≡ c.budget.granted = claim.2 ∙ ap granted_of budget in
     let all : most ≡ granted = omega (arith, c.sum, left, count) in
     record {
@@ -197,3 +199,29 @@ spent_committed o most pass granted events is legal none =
       unclaimed = none;
       some = λ idle. claim.0 (ap runnable same ∙ idle);
     }
+
+-- ---- numbers
+
+numbers_within : (rules : Meaning) (w : World) (events : List Event) (after : World) → w.next ≤ NUMBERS_END → Leads rules w events after → after.next ≤ NUMBERS_END
+numbers_within rules w [] after le h = subst (λ (x : World). x.next ≤ NUMBERS_END) (sym h) le
+numbers_within rules w (e ∷ events) after le h = numbers_within rules h.0 events after (next_ends rules w e h.0 le h.1) h.2
+
+exhausted_at : (rules : Meaning) (w : World) (e : Event) (after : World) (next : ℕ) → TellsExhausted e next → Happens rules w e after → (next ≡ w.next) × (NUMBERS_END ≤ w.next)
+exhausted_at rules w (event.Connect pass name (connected.Exhausted n)) after next tells h = (tells ∙ h.1, h.0)
+exhausted_at rules w (event.Claim pass (claimed.Exhausted n)) after next tells h = (tells ∙ h.3, h.2)
+exhausted_at rules w (event.Connect pass name (connected.Number conn)) after next tells h = absurd tells
+exhausted_at rules w (event.Claim pass (claimed.Granted run at job)) after next tells h = absurd tells
+exhausted_at rules w (event.Claim pass claimed.Nothing) after next tells h = absurd tells
+exhausted_at rules w (event.Claim pass (claimed.Spent granted)) after next tells h = absurd tells
+exhausted_at rules w (event.Post pass conn input reply) after next tells h = absurd tells
+exhausted_at rules w (event.Release pass run) after next tells h = absurd tells
+exhausted_at rules w (event.Commit pass run seq outcome) after next tells h = absurd tells
+exhausted_at rules w (event.Hand pass conn most outs end) after next tells h = absurd tells
+exhausted_at rules w (event.Tick pass moment) after next tells h = absurd tells
+
+pub numbers_end : NumbersEndAtOne
+numbers_end o events e next tells legal =
+    let w = opening_of o in
+    let p = parted o.rules w events (e ∷ []) legal.history.last legal.history.leads in
+    let most : p.at.next ≤ NUMBERS_END = numbers_within o.rules w events p.at (opening_sound o.durable o.budget legal.valid).numbers p.first in
+    let x = exhausted_at o.rules p.at e p.second.0 next tells p.second.1 in omega (arith, most, x.0, x.1)

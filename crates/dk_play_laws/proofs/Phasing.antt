@@ -1,12 +1,15 @@
 -- One phase more is played.
-use Rattle.std.proofs.Common.{◌≡◌, ℕ, false, ◌-◌, ◌≤◌, None, List, [], ◌∷◌, ◌++◌, length, take, drop, map, refl, sym, ap, ◌∙◌, subst, arith, append_assoc}
+use Rattle.std.proofs.Common.{◌≡◌, ℕ, false, ◌-◌, ◌≤◌, None, Some, List, [], ◌∷◌, ◌++◌, length, take, drop, map, refl, sym, ap, ◌∙◌, subst, arith, append_assoc}
 use Rattle.std.proofs.lemmas.List.{append-nil, length-append, length-drop, take_all, map-append}
 use Rattle.std.proofs.lemmas.List.{take-append-le, drop-append-le}
+use Rattle.std.proofs.lemmas.List.Elements.{All-nil, All-push}
+use Rattle.std.proofs.lemmas.List.Sorted.{IsNonDecreasingBy-push}
 use Rattle.std.proofs.Math.Seq.{drop-append_seam}
 use Rattle.std.specs.List.{AllByRecursion, slice_range, filter_map}
 use mathlib.Core.List.{IsPrefix}
 use Rattle.dk_types.specs.declared.event.Event.{Event}
 use Rattle.dk_types.specs.declared.event.Event.TheVariants as event
+use Rattle.dk_types.specs.declared.event.ClaimReply.{ClaimReply}
 use Rattle.dk_types.specs.declared.event.ClaimReply.TheVariants as claimed
 use Rattle.dk_model.specs.declared.script.Line.{Line}
 use Rattle.dk_model.specs.Worlds.{World}
@@ -24,9 +27,11 @@ use Rattle.dk_laws.proofs.SoundHistories.{history_sound}
 use Rattle.dk_progress.proofs.Fits.{AreWithin}
 use Rattle.dk_play_laws.specs.AloneLaw.{AreNamed, IsAlone}
 use Rattle.dk_play_laws.specs.LineEvents.{Said, nothing_said, playing_at, AreLineEvents, AreHandEvents}
-use Rattle.dk_play_laws.specs.Phased.{HavePlayed, IsBetween, GoesOn, IsDrained, IsPhase}
-use Rattle.dk_play_laws.specs.PhasedLaw.{DrainTells, PhasesFollow, NothingIsPlayed}
-use Rattle.dk_play_laws.specs.Seen.{AreBehind, HaveSeen}
+use Rattle.dk_play_laws.specs.Phased.{HavePlayed, IsBetween, GoesOn, IsDrained, IsPhase, IsPhaseTo, IsSpentAt}
+use Rattle.dk_play_laws.specs.PhasedLaw.{DrainTells, PhasesFollow, NothingIsPlayed, SpentPhasesEnd, PlaysStandOn, IsSeenBy, PlaysAreSeen, SpentIsSeen}
+use Rattle.dk_play_laws.specs.BudgetLaw.{IsBudgetSpent}
+use Rattle.dk_play_laws.proofs.Budgets.{spent_committed}
+use Rattle.dk_play_laws.specs.Seen.{AreNumbered, AreBehind, HaveSeen}
 use Rattle.dk_play_laws.specs.Told.{told_of, is_release, AreKept}
 use Rattle.dk_play_laws.specs.WorkedLaw.{IsUnclaimed, AllWork, HasWorked}
 use Rattle.dk_play_laws.specs.Worked.{AreWorked}
@@ -211,6 +216,8 @@ module _ (o : Opened) (n : ℕ) (done : List (List Line)) (front : List Event) (
         record {
           unclaimed = subst IsUnclaimed at_last unclaimed_last;
           places = all-append (λ mark. mark ≤ length (front ++ events)) marks (length front ∷ []) (within-more (length front) (length (front ++ events)) marks longer h.before.places) (longer, tt);
+          ordered = IsNonDecreasingBy-push (λ m. m) marks (length front) h.before.ordered (λ d some. h.before.within (length marks - 1) d (omega (arith, some)));
+          within = All-push (λ mark. mark ≤ length (front ++ events)) marks (length front) (λ k d l. let below = h.before.within k d l in omega (arith, below, longer)) longer;
           small = subst AreSmall (sym cut) (all-append (AllByRecursion IsSmall) (phases_of front marks) (events ∷ []) h.before.small (small, tt));
           played = λ kept.
               let before = h.before.played (all_first (λ e. is_release e ≡ false) front events kept) in
@@ -226,102 +233,204 @@ module _ (o : Opened) (n : ℕ) (done : List (List Line)) (front : List Event) (
 
 -- ---- a phase by its passes
 
-module _ (o : Opened) (done : List (List Line)) (marks : List ℕ) (lines : List Line) (s t : Said) (mark : ℕ) (workers after : List (Known Event)) (old new : Known Event) (lawful : AreLawful o.rules)
-    (between : IsBetween o done marks s workers old) (ph : IsPhase lines s t mark workers after old new) (legal : IsLegal o new.front) (named : AreNamed (length workers) new.front) where
+-- a front begins a log, so its events are named too
+named_by : (n : ℕ) (front log : List Event) → IsPrefix front log → AreNamed n log → AreNamed n front
+named_by n front log begins all = named_first n front begins.0 (subst (AreNamed n) (sym begins.1) all)
+
+-- what a step of the main pass entered, by its number
+own_at : (k : ℕ) (events : List Event) (a b : Known Event) → GoesOn events a b → a.number ≡ k → of_pass k b.front ≡ of_pass k a.front ++ events
+own_at k events a b goes is = subst (λ (j : ℕ). of_pass j b.front ≡ of_pass j a.front ++ events) is goes.own_events
+
+module _ (reply : ClaimReply) (o : Opened) (done : List (List Line)) (marks : List ℕ) (lines : List Line) (s t : Said) (mark : ℕ) (workers after : List (Known Event)) (old new : Known Event)
+    (between : IsBetween o done marks s workers old) (to : IsPhaseTo reply lines s t mark workers after old new) (named : AreNamed (length workers) new.front) where
   abbrev n : ℕ
   n = length workers
 
-  entered_number : ph.entered.number ≡ n
-  entered_number = ph.to_lines.number ∙ ph.to_mark.number ∙ between.number
+  entered_number : to.entered.number ≡ n
+  entered_number = to.to_lines.number ∙ to.to_mark.number ∙ between.number
 
-  drained_number : ph.drained.number ≡ n
-  drained_number = ph.drain.last.goes.number ∙ ph.drain.second.main.number ∙ ph.drain.first.main.number ∙ entered_number
+  pub drained_number : new.number ≡ n
+  drained_number = to.drain.last.goes.number ∙ to.drain.second.main.number ∙ to.drain.first.main.number ∙ entered_number
 
-  behind_mark : AreBehind workers ph.marked.front
-  behind_mark = behind_more workers old.front ph.marked.front ph.to_mark.begins between.behind
+  behind_mark : AreBehind workers to.marked.front
+  behind_mark = behind_more workers old.front to.marked.front to.to_mark.begins between.behind
 
-  behind_lines : AreBehind workers ph.entered.front
-  behind_lines = behind_more workers ph.marked.front ph.entered.front ph.to_lines.begins behind_mark
+  behind_lines : AreBehind workers to.entered.front
+  behind_lines = behind_more workers to.marked.front to.entered.front to.to_lines.begins behind_mark
 
-  -- the fronts before the last are named too
-  named_by : (front log : List Event) → IsPrefix front log → AreNamed n log → AreNamed n front
-  named_by front log begins all = named_first n front begins.0 (subst (AreNamed n) (sym begins.1) all)
+  pub tells : DrainTells reply workers after to.entered new
+  tells = drains_end reply workers after to.entered new between.numbered entered_number behind_lines named to.drain
 
-  named_drained : AreNamed n ph.drained.front
-  named_drained = named_by ph.drained.front new.front ph.to_hands.begins named
+  -- what is known of the phase up to its drain, where the workers have entered nothing since
+  pub record IsKnown : Type 0 where
+    pub worked : List Event
+    pub all : new.front ≡ old.front ++ (to.line_events ++ (worked ++ event.Claim old.number reply ∷ []))
+    pub at_mark : mark ≡ length old.front
+    pub before : HavePlayed o n done old.front marks s
+    pub work : AllWork (worked ++ event.Claim old.number reply ∷ [])
+    pub turns : n ≡ 1 → AreWorked None (worked ++ event.Claim old.number reply ∷ []) None
 
-  tells : DrainTells claimed.Nothing workers after ph.entered ph.drained
-  tells = drains_end claimed.Nothing workers after ph.entered ph.drained between.numbered entered_number behind_lines named_drained ph.drain
+  module _ (now : HaveSeen after new.front) where
+    drained : IsDrained reply workers to.entered new
+    drained = tells.tells now
 
-  -- what a step of the main pass entered, by its number
-  own_at : (k : ℕ) (events : List Event) (a b : Known Event) → GoesOn events a b → a.number ≡ k → of_pass k b.front ≡ of_pass k a.front ++ events
-  own_at k events a b goes is = subst (λ (j : ℕ). of_pass j b.front ≡ of_pass j a.front ++ events) is goes.own_events
+    named_lines : AreNamed n to.entered.front
+    named_lines = named_first n to.entered.front (drained.events ++ event.Claim new.number reply ∷ []) (subst (AreNamed n) drained.all named)
+
+    lines_alone : IsAlone workers to.marked.front to.line_events to.entered.front
+    lines_alone =
+        alone workers to.marked.front to.line_events to.entered.front between.numbered named_lines behind_mark drained.seen to.to_lines.begins
+        (own_at n to.line_events to.marked to.entered to.to_lines (to.to_mark.number ∙ between.number))
+
+    mark_alone : IsAlone workers old.front [] to.marked.front
+    mark_alone =
+        alone workers old.front [] to.marked.front between.numbered (named_by n to.marked.front to.entered.front to.to_lines.begins named_lines) between.behind lines_alone.seen to.to_mark.begins
+        (own_at n [] old to.marked to.to_mark between.number)
+
+    claim_is : drained.events ++ event.Claim new.number reply ∷ [] ≡ drained.events ++ event.Claim old.number reply ∷ []
+    claim_is = ap (λ (k : ℕ). drained.events ++ event.Claim k reply ∷ []) (drained_number ∙ sym between.number)
+
+    pub known_to : IsKnown
+    known_to =
+        let at_mark : to.marked.front ≡ old.front = mark_alone.all ∙ append-nil old.front in
+        let c : List Event = drained.events ++ event.Claim new.number reply ∷ [] in
+        record {
+          worked = drained.events;
+          all = drained.all ∙ ap (λ (es : List Event). es ++ c) (lines_alone.all ∙ ap (λ (es : List Event). es ++ to.line_events) at_mark)
+              ∙ append_assoc old.front to.line_events c ∙ ap (λ (d : List Event). old.front ++ (to.line_events ++ d)) claim_is;
+          at_mark = to.at_mark ∙ ap length at_mark;
+          before = between.played mark_alone.seen;
+          work = subst AllWork claim_is drained.work;
+          turns = λ one. subst (λ es. AreWorked None es None) claim_is (drained.turns one);
+        }
+
+module _ (o : Opened) (done : List (List Line)) (marks : List ℕ) (lines : List Line) (s t : Said) (mark : ℕ) (workers after : List (Known Event)) (old new : Known Event) (lawful : AreLawful o.rules)
+    (between : IsBetween o done marks s workers old) (ph : IsPhase lines s t mark workers after old new) (legal : IsLegal o new.front) (named : AreNamed (length workers) new.front) where
+  abbrev size : ℕ
+  size = length workers
+
+  named_drained : AreNamed size ph.drained.front
+  named_drained = named_by size ph.drained.front new.front ph.to_hands.begins named
+
+  phase_tells : DrainTells claimed.Nothing workers after ph.to_drain.entered ph.drained
+  phase_tells = tells claimed.Nothing o done marks lines s t mark workers after old ph.drained between ph.to_drain named_drained
+
+  number_then : ph.drained.number ≡ size
+  number_then = drained_number claimed.Nothing o done marks lines s t mark workers after old ph.drained between ph.to_drain named_drained
 
   module _ (now : HaveSeen after new.front) where
     hands_alone : IsAlone after ph.drained.front ph.hand_events new.front
     hands_alone =
-        alone after ph.drained.front ph.hand_events new.front tells.numbered (subst (λ (k : ℕ). AreNamed k new.front) (sym tells.count) named) tells.behind now ph.to_hands.begins
-        (own_at (length after) ph.hand_events ph.drained new ph.to_hands (drained_number ∙ sym tells.count))
+        alone after ph.drained.front ph.hand_events new.front phase_tells.numbered (subst (λ (k : ℕ). AreNamed k new.front) (sym phase_tells.count) named) phase_tells.behind now ph.to_hands.begins
+        (own_at (length after) ph.hand_events ph.drained new ph.to_hands (number_then ∙ sym phase_tells.count))
 
-    drained : IsDrained claimed.Nothing workers ph.entered ph.drained
-    drained = tells.tells hands_alone.seen
+    known : IsKnown claimed.Nothing o done marks lines s t mark workers after old ph.drained between ph.to_drain named_drained
+    known = known_to claimed.Nothing o done marks lines s t mark workers after old ph.drained between ph.to_drain named_drained hands_alone.seen
 
-    named_lines : AreNamed n ph.entered.front
-    named_lines = named_first n ph.entered.front (drained.events ++ event.Claim ph.drained.number claimed.Nothing ∷ []) (subst (AreNamed n) drained.all named_drained)
-
-    lines_alone : IsAlone workers ph.marked.front ph.line_events ph.entered.front
-    lines_alone =
-        alone workers ph.marked.front ph.line_events ph.entered.front between.numbered named_lines behind_mark drained.seen ph.to_lines.begins
-        (own_at n ph.line_events ph.marked ph.entered ph.to_lines (ph.to_mark.number ∙ between.number))
-
-    mark_alone : IsAlone workers old.front [] ph.marked.front
-    mark_alone =
-        alone workers old.front [] ph.marked.front between.numbered (named_by ph.marked.front ph.entered.front ph.to_lines.begins named_lines) between.behind lines_alone.seen ph.to_mark.begins
-        (own_at n [] old ph.marked ph.to_mark between.number)
-
-    at_mark : ph.marked.front ≡ old.front
-    at_mark = mark_alone.all ∙ append-nil old.front
-
-    abbrev worked : List Event
-    worked = drained.events
+    abbrev c : List Event
+    c = known.worked ++ event.Claim old.number claimed.Nothing ∷ []
 
     -- the front is these parts
-    all : new.front ≡ old.front ++ (ph.line_events ++ ((worked ++ event.Claim old.number claimed.Nothing ∷ []) ++ ph.hand_events))
+    all : new.front ≡ old.front ++ (ph.to_drain.line_events ++ (c ++ ph.hand_events))
     all =
-        let c : List Event = worked ++ event.Claim ph.drained.number claimed.Nothing ∷ [] in
-        let is : c ≡ worked ++ event.Claim old.number claimed.Nothing ∷ [] = ap (λ (k : ℕ). worked ++ event.Claim k claimed.Nothing ∷ []) (drained_number ∙ sym between.number) in
-        hands_alone.all ∙ ap (λ (es : List Event). es ++ ph.hand_events) (drained.all ∙ ap (λ (es : List Event). es ++ c) (lines_alone.all ∙ ap (λ (es : List Event). es ++ ph.line_events) at_mark))
-        ∙ append_assoc (old.front ++ ph.line_events) c ph.hand_events ∙ append_assoc old.front ph.line_events (c ++ ph.hand_events)
-        ∙ ap (λ (d : List Event). old.front ++ (ph.line_events ++ (d ++ ph.hand_events))) is
+        hands_alone.all ∙ ap (λ (es : List Event). es ++ ph.hand_events) known.all ∙ append_assoc old.front (ph.to_drain.line_events ++ c) ph.hand_events
+        ∙ ap (λ (es : List Event). old.front ++ es) (append_assoc ph.to_drain.line_events c ph.hand_events)
 
-    claim_is : worked ++ event.Claim ph.drained.number claimed.Nothing ∷ [] ≡ worked ++ event.Claim old.number claimed.Nothing ∷ []
-    claim_is = ap (λ (k : ℕ). worked ++ event.Claim k claimed.Nothing ∷ []) (drained_number ∙ sym between.number)
-
-    by : IsPhaseBy o n done old.front marks s t lines old.number ph.line_events worked ph.hand_events lawful
-    by = record {
-      before = between.played mark_alone.seen;
-      legal = subst (IsLegal o) all legal;
-      are_lines = ph.are_lines;
-      work = subst AllWork claim_is drained.work;
-      turns = λ one. subst (λ es. AreWorked None es None) claim_is (drained.turns one);
-      are_hands = ph.are_hands;
-    }
+    by : IsPhaseBy o size done old.front marks s t lines old.number ph.to_drain.line_events known.worked ph.hand_events lawful
+    by = record { before = known.before; legal = subst (IsLegal o) all legal; are_lines = ph.to_drain.are_lines; work = known.work; turns = known.turns; are_hands = ph.are_hands }
 
     phase_played : HavePlayed o (length after) (done ++ lines ∷ []) new.front (marks ++ mark ∷ []) t
     phase_played =
-        let at : mark ≡ length old.front = ph.at_mark ∙ ap length at_mark in
-        subst (λ (k : ℕ). HavePlayed o k (done ++ lines ∷ []) new.front (marks ++ mark ∷ []) t) (sym tells.count)
-        (subst (λ (m : ℕ). HavePlayed o n (done ++ lines ∷ []) new.front (marks ++ m ∷ []) t) (sym at)
-        (subst (λ (es : List Event). HavePlayed o n (done ++ lines ∷ []) es (marks ++ length old.front ∷ []) t) (sym all)
-        (played o n done old.front marks s t lines old.number ph.line_events worked ph.hand_events lawful by)))
+        subst (λ (k : ℕ). HavePlayed o k (done ++ lines ∷ []) new.front (marks ++ mark ∷ []) t) (sym phase_tells.count)
+        (subst (λ (m : ℕ). HavePlayed o size (done ++ lines ∷ []) new.front (marks ++ m ∷ []) t) (sym known.at_mark)
+        (subst (λ (es : List Event). HavePlayed o size (done ++ lines ∷ []) es (marks ++ length old.front ∷ []) t) (sym all)
+        (played o size done old.front marks s t lines old.number ph.to_drain.line_events known.worked ph.hand_events lawful by)))
 
   pub next_between : IsBetween o (done ++ lines ∷ []) (marks ++ mark ∷ []) t after new
   next_between = record {
-    numbered = tells.numbered;
-    number = ph.to_hands.number ∙ drained_number ∙ sym tells.count;
-    behind = behind_more after ph.drained.front new.front ph.to_hands.begins tells.behind;
+    numbered = phase_tells.numbered;
+    number = ph.to_hands.number ∙ number_then ∙ sym phase_tells.count;
+    behind = behind_more after ph.drained.front new.front ph.to_hands.begins phase_tells.behind;
     played = phase_played;
   }
+
+-- ---- a budget that is spent in a phase
+
+module _ (o : Opened) (most granted : ℕ) (done : List (List Line)) (marks : List ℕ) (lines : List Line) (s t : Said) (mark : ℕ) (workers after : List (Known Event)) (old new : Known Event) (budget : o.budget ≡ Some most)
+    (between : IsBetween o done marks s workers old) (to : IsPhaseTo (claimed.Spent granted) lines s t mark workers after old new) (legal : IsLegal o new.front) (named : AreNamed (length workers) new.front) where
+  spent_tells : DrainTells (claimed.Spent granted) workers after to.entered new
+  spent_tells = tells (claimed.Spent granted) o done marks lines s t mark workers after old new between to named
+
+  module _ (now : HaveSeen after new.front) where
+    spent_known : IsKnown (claimed.Spent granted) o done marks lines s t mark workers after old new between to named
+    spent_known = known_to (claimed.Spent granted) o done marks lines s t mark workers after old new between to named now
+
+    abbrev e : Event
+    e = event.Claim old.number (claimed.Spent granted)
+
+    abbrev d : List Event
+    d = spent_known.worked ++ e ∷ []
+
+    -- nothing is claimed at the end
+    spent_unclaimed : IsUnclaimed (world_after o new.front)
+    spent_unclaimed =
+        let w = opening_of o in
+        let whole = subst (λ (es : List Event). Leads o.rules w es legal.history.last) spent_known.all legal.history.leads in
+        let p = parted o.rules w old.front (to.line_events ++ d) legal.history.last whole in
+        let q = parted o.rules p.at to.line_events d legal.history.last p.second in
+        let first : IsUnclaimed p.at = subst IsUnclaimed (sym (events_lead o.rules w old.front p.at p.first)) spent_known.before.unclaimed in
+        let entered = unclaimed_after o.rules p.at to.line_events q.at (lines_grant old.number s lines to.line_events t to.are_lines) first q.first in
+        subst IsUnclaimed (events_lead o.rules w new.front legal.history.last legal.history.leads) (workers_leave o.rules q.at d legal.history.last entered spent_known.work q.second).unclaimed
+
+    spent_last : new.front ≡ (old.front ++ (to.line_events ++ spent_known.worked)) ++ e ∷ []
+    spent_last =
+        spent_known.all ∙ ap (λ (es : List Event). old.front ++ es) (sym (append_assoc to.line_events spent_known.worked (e ∷ []))) ∙ sym (append_assoc old.front (to.line_events ++ spent_known.worked) (e ∷ []))
+
+    spent_then : IsBudgetSpent o new.front granted
+    spent_then =
+        let events : List Event = old.front ++ (to.line_events ++ spent_known.worked) in
+        subst (λ (es : List Event). IsBudgetSpent o es granted) (sym spent_last)
+        (spent_committed o most old.number granted events budget (subst (IsLegal o) spent_last legal) (subst (λ (es : List Event). IsUnclaimed (world_after o es)) spent_last spent_unclaimed))
+
+  pub spent_at : IsSpentAt o granted after new
+  spent_at = record {
+    numbered = spent_tells.numbered;
+    number = drained_number (claimed.Spent granted) o done marks lines s t mark workers after old new between to named ∙ sym spent_tells.count;
+    behind = spent_tells.behind;
+    spent = spent_then;
+  }
+
+pub spent_phases : SpentPhasesEnd
+spent_phases = spent_at
+
+-- ---- the main pass goes on, or the history is closed
+
+pub stand_on : PlaysStandOn
+stand_on o done marks s workers old new between goes named = record {
+  numbered = between.numbered;
+  number = goes.number ∙ between.number;
+  behind = behind_more workers old.front new.front goes.begins between.behind;
+  played = λ seen.
+      let still = alone workers old.front [] new.front between.numbered named between.behind seen goes.begins (own_at (length workers) [] old new goes between.number) in
+      subst (λ (es : List Event). HavePlayed o (length workers) done es marks s) (sym (still.all ∙ append-nil old.front)) (between.played still.seen);
+}
+
+-- the history is what the main pass has seen
+seen_all : (workers : List (Known Event)) (main : Known Event) (log : List Event) → AreNumbered 0 workers → main.number ≡ length workers → AreBehind workers main.front → IsSeenBy workers main log → IsAlone workers main.front [] log
+seen_all workers main log numbered number behind seen =
+    let n : ℕ = length workers in
+    alone workers main.front [] log numbered seen.named behind seen.of_workers seen.of_main.begins
+    (subst (λ (k : ℕ). of_pass k log ≡ of_pass k main.front) number seen.of_main.none_beyond ∙ sym (append-nil (of_pass n main.front)))
+
+pub plays_seen : PlaysAreSeen
+plays_seen o done marks s workers main log between seen =
+    let still = seen_all workers main log between.numbered between.number between.behind seen in
+    subst (λ (es : List Event). HavePlayed o (length workers) done es marks s) (sym (still.all ∙ append-nil main.front)) (between.played still.seen)
+
+pub spent_seen : SpentIsSeen
+spent_seen o granted workers main log spent seen =
+    let still = seen_all workers main log spent.numbered spent.number spent.behind seen in
+    subst (λ (es : List Event). IsBudgetSpent o es granted) (sym (still.all ∙ append-nil main.front)) (spent.spent still.seen)
 
 pub phases_follow : PhasesFollow
 phases_follow = next_between
@@ -331,10 +440,12 @@ nothing_played o workers main numbered number behind none = record {
   numbered = numbered;
   number = number;
   behind = behind;
-  played = λ seen. subst (λ (es : List Event). HavePlayed o (length workers) [] es [] nothing_said) (sym none) record {
-    unclaimed = opening_unclaimed o.durable o.budget;
+  played = λ seen. record {
+    unclaimed = subst (λ (es : List Event). IsUnclaimed (world_after o es)) (sym none) (opening_unclaimed o.durable o.budget);
     places = tt;
+    ordered = λ i j d le inside. absurd (omega (arith, inside));
+    within = All-nil (λ mark. mark ≤ length main.front);
     small = tt;
-    played = λ kept. record { order = []; plays = refl; turns = λ one. tt };
+    played = λ kept. record { order = []; plays = ap (λ (es : List Event). playing_at (world_after o es) nothing_said) none; turns = λ one. tt };
   };
 }

@@ -4,7 +4,6 @@ pub mod Seen
 pub mod AloneLaw
 pub mod WorkedLaw
 pub mod LineEvents
-pub mod LineEventsLaw
 pub mod Phased
 pub mod PhasedLaw
 pub mod BudgetLaw

@@ -1,6 +1,7 @@
 -- A play by a main pass and workers, phase by phase: what stands between two phases, and what each part of a phase does.
 use Rattle.std.specs.Prelude.{◌≡◌, ℕ, ◌≤◌, None, List, [], ◌∷◌, ◌++◌, length, map}
-use Rattle.std.specs.List.{AllByRecursion}
+use Rattle.std.specs.List.{All, AllByRecursion}
+use Rattle.std.specs.List.Sorted.{IsNonDecreasing}
 use mathlib.Core.List.{IsPrefix}
 use Rattle.dk_types.specs.declared.event.Event.{Event}
 use Rattle.dk_types.specs.declared.event.Event.TheVariants as event
@@ -12,6 +13,7 @@ use Rattle.dk_model.specs.Orders.{OrderItem, AreInTurn}
 use Rattle.dk_model.specs.Phases.{AreSmall, phases_of}
 use Rattle.dk_model.specs.Transcripts.{Plays, playing}
 use Rattle.dk_turn.specs.Fronts.{Known, own, Continues}
+use Rattle.dk_play_laws.specs.BudgetLaw.{IsBudgetSpent}
 use Rattle.dk_play_laws.specs.LineEvents.{Said, playing_at, AreLineEvents, AreHandEvents}
 use Rattle.dk_play_laws.specs.Seen.{AreNumbered, AreBehind, HaveSeen, ArePaired}
 use Rattle.dk_play_laws.specs.Told.{told_of, AreKept}
@@ -28,6 +30,8 @@ pub record ArePlayed (o : Opened) (workers : ℕ) (done : List (List Line)) (eve
 pub record HavePlayed (o : Opened) (workers : ℕ) (done : List (List Line)) (events : List Event) (marks : List ℕ) (s : Said) : Type 0 where
   pub unclaimed : IsUnclaimed (world_after o events)
   pub places : AllByRecursion (λ mark. mark ≤ length events) marks
+  pub ordered : IsNonDecreasing marks
+  pub within : All (λ mark. mark ≤ length events) marks
   pub small : AreSmall (phases_of events marks)
   pub played : AreKept events → ArePlayed o workers done events marks s
 
@@ -87,17 +91,28 @@ pub record IsDrained (reply : ClaimReply) (workers : List (Known Event)) (old ne
   pub work : AllWork (events ++ event.Claim new.number reply ∷ [])
   pub turns : length workers ≡ 1 → AreWorked None (events ++ event.Claim new.number reply ∷ []) None
 
--- A PHASE: the main pass goes on to its mark, enters the lines, and after a drain that left nothing to run hands each connection its messages
-pub record IsPhase (lines : List Line) (s t : Said) (mark : ℕ) (workers after : List (Known Event)) (old new : Known Event) : Type 0 where
+-- a phase up to its drain, whose last claim was answered so: the main pass goes on to its mark, and enters the lines before anything is run
+pub record IsPhaseTo (reply : ClaimReply) (lines : List Line) (s t : Said) (mark : ℕ) (workers after : List (Known Event)) (old new : Known Event) : Type 0 where
   pub marked : Known Event
   pub entered : Known Event
-  pub drained : Known Event
   pub line_events : List Event
-  pub hand_events : List Event
   pub to_mark : GoesOn [] old marked
   pub at_mark : mark ≡ length marked.front
   pub to_lines : GoesOn line_events marked entered
   pub are_lines : AreLineEvents old.number s lines line_events t
-  pub drain : IsDrain claimed.Nothing workers after entered drained
+  pub drain : IsDrain reply workers after entered new
+
+-- A PHASE: its drain left nothing to run, and then the main pass hands each connection its messages
+pub record IsPhase (lines : List Line) (s t : Said) (mark : ℕ) (workers after : List (Known Event)) (old new : Known Event) : Type 0 where
+  pub drained : Known Event
+  pub hand_events : List Event
+  pub to_drain : IsPhaseTo claimed.Nothing lines s t mark workers after old drained
   pub to_hands : GoesOn hand_events drained new
   pub are_hands : AreHandEvents old.number t.opened hand_events
+
+-- WHERE THE BUDGET IS SPENT: the main pass has met each worker; where the workers have entered nothing else, so many runs were committed, and something can still be run
+pub record IsSpentAt (o : Opened) (granted : ℕ) (workers : List (Known Event)) (main : Known Event) : Type 0 where
+  pub numbered : AreNumbered 0 workers
+  pub number : main.number ≡ length workers
+  pub behind : AreBehind workers main.front
+  pub spent : HaveSeen workers main.front → IsBudgetSpent o main.front granted
