@@ -416,7 +416,7 @@ stand_on o done marks s workers old new between goes named = record {
 }
 
 -- the history is what the main pass has seen
-seen_all : (workers : List (Known Event)) (main : Known Event) (log : List Event) → AreNumbered 0 workers → main.number ≡ length workers → AreBehind workers main.front → IsSeenBy workers main log → IsAlone workers main.front [] log
+pub seen_all : (workers : List (Known Event)) (main : Known Event) (log : List Event) → AreNumbered 0 workers → main.number ≡ length workers → AreBehind workers main.front → IsSeenBy workers main log → IsAlone workers main.front [] log
 seen_all workers main log numbered number behind seen =
     let n : ℕ = length workers in
     alone workers main.front [] log numbered seen.named behind seen.of_workers seen.of_main.begins
