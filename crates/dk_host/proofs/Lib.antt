@@ -1,5 +1,6 @@
 pub mod Stepping
 pub mod Calling
+pub mod Entering
 pub mod Opening
 pub mod Committing
 pub mod Looking
@@ -8,6 +9,12 @@ pub mod Storing
 pub mod Looked
 pub mod Published
 pub mod Refusing
+pub mod Settling
+pub mod Answered
 pub mod Begun
-pub mod Dealing
 pub mod Ended
+pub mod Copying
+pub mod Rewriting
+pub mod Owing
+pub mod KeptEvents
+pub mod Unentered

@@ -1,15 +1,20 @@
-//! Why a commit is refused.
+//! Why a commit is refused, and why a checkpoint is.
+ghost use Rattle.std.specs.Prelude.{◌≡◌};
 ghost use Rattle.dk_journal.specs.Refusals.{IsAppendFault};
 ghost use Rattle.dk_host.specs.Refusals.{IsWhyOfAppend, IsWhyOfLook};
+ghost use Rattle.dk_host.specs.Checkpoints.{refusal_of};
+ghost use Rattle.dk_host.specs.declared.refused.CheckpointRefused.TheVariants.{NoMemory as WantOfMemory};
 
+use dk_checkpoint::CheckpointRefused as NotWritten;
 use dk_core::{Claimed, PrepareRefused};
 use dk_journal::JournalRefused;
-use dk_types::{Item, Seen};
+use dk_types::{Item, NoMemory, Seen};
 
 /// Why a run was not committed. The first cause in this order is told.
 #[derive(Debug, Drop, PartialEq, Eq)]
 pub enum Why {
-    /// The disk failed in an earlier commit, and `faults` was its count then. The store is to be opened again.
+    /// The disk failed in an earlier commit or checkpoint, and `faults` was its count then. The store is to be opened
+    /// again.
     Stopped { faults: u64 },
     /// A read no longer stands: the first in the order of the reads, with what it saw and what is seen now. The job is to
     /// be run again.
@@ -27,6 +32,42 @@ pub enum Why {
 pub struct CommitRefused {
     pub claimed: Claimed,
     pub why: Why,
+}
+
+/// Why a store was not written anew. The first cause in this order is told. But for `DiskFault`, nothing was written.
+#[derive(Clone, Copy, Debug, Drop, PartialEq, Eq)]
+pub enum CheckpointRefused {
+    /// The disk failed in an earlier commit or checkpoint, and `faults` was its count then.
+    Stopped { faults: u64 },
+    /// The disk failed in this call. The host commits no more.
+    DiskFault,
+    /// The image would have this length, in bytes, which 32 bits do not hold.
+    TooLarge { length: u64 },
+    /// The store was written anew as often as its header can count.
+    EpochEnd { epoch: u64 },
+    /// There was no memory.
+    NoMemory,
+}
+
+impl From<NoMemory> for CheckpointRefused {
+    ghost from_gives = { λ _ refused. refused ≡ WantOfMemory };
+
+    fn from(_: NoMemory) -> CheckpointRefused {
+        CheckpointRefused::NoMemory
+    }
+}
+
+impl From<NotWritten> for CheckpointRefused {
+    ghost from_gives = { λ not_written refused. refused ≡ refusal_of not_written };
+
+    fn from(refused: NotWritten) -> CheckpointRefused {
+        match refused {
+            NotWritten::DiskFault => CheckpointRefused::DiskFault,
+            NotWritten::TooLarge { length } => CheckpointRefused::TooLarge { length },
+            NotWritten::EpochEnd { epoch } => CheckpointRefused::EpochEnd { epoch },
+            NotWritten::NoMemory => CheckpointRefused::NoMemory,
+        }
+    }
 }
 
 pub(crate) fn why_of_look(refused: PrepareRefused) -> Why

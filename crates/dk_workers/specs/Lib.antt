@@ -1,1 +1,4 @@
 pub mod Working
+pub mod Refused
+pub mod Tries
+pub mod Workers
