@@ -48,14 +48,14 @@ module _ (begun : ℕ) (was : Opening) (old new n : ℕ) (opens opens_after : Op
 -- a count that rose is no less
 no_less : (begun old new : ℕ) → begun ≤ old → HasRisen old new → begun ≤ new
 no_less begun old new le (inl more) = omega (arith, le, more)
-no_less begun old new le (inr ends) = omega (arith, le, ends.0, ends.1)
+no_less begun old new le (inr ends) = subst (λ (n : ℕ). begun ≤ n) (ends.0 ∙ sym ends.1) le
 
 -- whatever came of reading the log of a store that runs
-module _ {A : Type 0} (begun : ℕ) (was : Opening) (old new : ℕ) (opens opens_after : Opening) (h : IsSameHome begun was None old opens) (opening : opens_after ≡ opens) where
+module _ (begun : ℕ) (was : Opening) (old new : ℕ) (opens opens_after : Opening) (h : IsSameHome begun was None old opens) (opening : opens_after ≡ opens) where
   read_on : begun ≤ new → IsSameHome begun was None new opens_after
   read_on le = record { counts = le; same = opening ∙ h.same }
 
-  pub read_home : (r : Result A LogRefused) → (IsErrOf r log.DiskFault → HasRisen old new) → ((IsErrOf r log.DiskFault → ⊥) → new ≡ old) → IsSameHome begun was None new opens_after
+  pub read_home : {A : Type 0} (r : Result A LogRefused) → (IsErrOf r log.DiskFault → HasRisen old new) → ((IsErrOf r log.DiskFault → ⊥) → new ≡ old) → IsSameHome begun was None new opens_after
   read_home (Ok x) cause steady = read_on (subst (λ (n : ℕ). begun ≤ n) (sym (steady (λ no. absurd cc))) h.counts)
   read_home (Err log.DiskFault) cause steady = read_on (no_less begun old new h.counts (cause refl))
   read_home (Err log.NoMemory) cause steady = read_on (subst (λ (n : ℕ). begun ≤ n) (sym (steady (λ no. absurd cc))) h.counts)
