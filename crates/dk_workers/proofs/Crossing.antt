@@ -81,7 +81,7 @@ stamped_send = search (sendable, crosses, runs.the_send, objects_send, names_sen
 pub core_send : IsSend core.the_row
 core_send = search (sendable, crosses, stamped_send, connections_send, claims_send) depth 20
 pub inside_send : (W : RattleType) (h : hosting.Ghosts W.Denot) → IsSend W → IsSend (inside.the_row W h)
-inside_send W h s = declared_send (inside.the_type W h) (search (sendable, core_send), (search (sendable, history.the_send, s), (search (sendable, crosses, ledger.the_send) depth 20, (search (sendable, crosses, ledger.the_send) depth 20, tt))))
+inside_send W h s = declared_send (inside.the_type W h) (search (sendable, core_send), (search (sendable, history.the_send), (search (sendable, crosses, ledger.the_send) depth 20, (search (sendable, crosses, ledger.the_send) depth 20, tt))))
 
 pub book_send : (W : RattleType) (h : hosting.Ghosts W.Denot) → IsSend W → IsSend (book.the_row W h)
 book_send W h s = view_send (inside.the_row W h) _ _ _ _ (inside_send W h s)
