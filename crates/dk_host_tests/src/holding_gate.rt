@@ -9,6 +9,7 @@ use std::thread;
 const TURNS: u32 = 100_000_000;
 
 /// Holds the first run that comes, before its commit, until another run was committed. It tells what it was called for.
+#[derive(Drop)]
 pub(crate) struct HoldingGate {
     // The run that is held, plus one.
     held: AtomicU64,
@@ -60,8 +61,7 @@ fn mark(run: RunNo) -> u64 {
 impl Gate for HoldingGate {
     fn before_commit(&self, worker: u32, run: RunNo) {
         self.tried.fetch_add(1, Ordering::SeqCst);
-        self.workers
-            .fetch_or(1 << (worker % 64), Ordering::SeqCst);
+        self.workers.fetch_or(1 << (worker % 64), Ordering::SeqCst);
         let held = self
             .held
             .compare_exchange(0, mark(run), Ordering::SeqCst, Ordering::SeqCst);

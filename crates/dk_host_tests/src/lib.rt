@@ -1,7 +1,12 @@
-//! What a worker stands on, over the shared host by its public calls alone.
+//! Tests of workers over a shared host on a home in memory, by their public calls.
 //!
-//! A job that a pass claims and runs over a look at the host comes to a finished run that is honest for that very claim at
-//! that very front, whatever other passes do meanwhile. Nothing stands on this crate.
+//! Two clients log in to SwordWorld, and their jobs are run by two workers at once, or by one while a call of the disk
+//! fails. Nothing stands on this crate.
 #![tactic(auto)]
 
-pub mod runs;
+#[cfg(test)]
+mod holding_gate;
+#[cfg(test)]
+mod hosting;
+#[cfg(test)]
+mod tests;
