@@ -75,6 +75,7 @@ fn on_ledgers<W: Hosting, R: Wait>(
     requires opened { W.opened ≡ opened_on store.durable }
     requires began { past_of store.home ≡ W.began }
     requires keep { W.keeps ≡ keep }
+    requires epoch { store.journal.epoch ≡ W.first }
 {
     let Ok(blank) = Blank::new(alloc, 1) else {
         return Err(Fail::from("a turn"));
@@ -101,6 +102,7 @@ fn on_host<W: Hosting, J: Naming, R: Wait>(
     requires opened { W.opened ≡ opened_on store.durable }
     requires began { past_of store.home ≡ W.began }
     requires keep { W.keeps ≡ keep }
+    requires epoch { store.journal.epoch ≡ W.first }
 {
     let opened =
         Host::<W, J, MemoryHome>::open(alloc, blank, commits, places, store, None, keep);
