@@ -16,6 +16,7 @@ pub mod Begun
 pub mod Ended
 pub mod Copying
 pub mod Rewriting
+pub mod Homes
 pub mod Owing
 pub mod KeptEvents
 pub mod Unentered

@@ -106,6 +106,16 @@ pub record IsKeptOn (side : Side) (journal : Journal) (base : Option ℕ) (begun
   pub later : begun ≤ journal.epoch
   pub most : (n : ℕ) → base ≡ Some n → n ≤ NUMBERS_END
 
+-- the home's count of faults, which was so much as the host was opened: it did not fall, and where the store is stopped it rose
+abbrev pub CountsOn : ℕ → Option ℕ → ℕ → Type 0
+CountsOn begun None now = begun ≤ now
+CountsOn begun (Some n) now = (before : ℕ) × ((begun ≤ before) × HasRisen before now)
+
+-- the home is the one that was handed in: how it was opened stays, and its faults are counted on
+pub record IsSameHome (begun : ℕ) (was : Opening) (faults : Option ℕ) (now : ℕ) (opening : Opening) : Type 0 where
+  pub counts : CountsOn begun faults now
+  pub same : opening ≡ was
+
 -- What the store keeps: its right counts the commits that its watcher has seen; at every moment since its files had this past what a stop leaves recovers to a beginning; and unless it is stopped
 -- the files now recover to the world after all that the watcher has seen, followed by the record that waits
 pub record IsStored (o : Opened) (began : DiskHistory) (tells : Bool) (past : DiskHistory) (opening : Opening) (game : List ℕ) (journal : Journal) (base : Option ℕ) (front : List Event) (commits places : ℕ) (waiting : Option Prepared) (faults : Option ℕ) : Type 0 where

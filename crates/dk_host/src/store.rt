@@ -52,7 +52,7 @@ pub struct CommitStore<W: Hosting, J: Naming, M: Home> {
 
 impl<W: Hosting, J: Naming, M: Home> Model for CommitStore<W, J, M> {
     ghost use Rattle.std.specs.Prelude.{◌≡◌};
-    ghost use Rattle.dk_host.specs.Stores.{Stored, stored, IsKeptOn, IsStored};
+    ghost use Rattle.dk_host.specs.Stores.{Stored, stored, IsKeptOn, IsSameHome, IsStored};
 
     ghost Value = { Stored };
 
@@ -61,7 +61,8 @@ impl<W: Hosting, J: Naming, M: Home> Model for CommitStore<W, J, M> {
     ghost invariant = { λ s. (s.right.commits.parts ≡ 1)
         × (s.right.places.parts ≡ 1)
         × IsKeptOn s.side s.journal s.base W.first s.first
-        × IsStored W.opened W.began M.tells (M.past s.home) (M.opening s.home) s.game s.journal s.base s.watcher.front s.right.commits.amount s.right.places.amount s.waiting s.faults };
+        × IsStored W.opened W.began M.tells (M.past s.home) (M.opening s.home) s.game s.journal s.base s.watcher.front s.right.commits.amount s.right.places.amount s.waiting s.faults
+        × IsSameHome W.counted W.opening s.faults (M.counted s.home) (M.opening s.home) };
 }
 
 // What waits after an append, and the kept count of faults where it stopped the store.
@@ -104,6 +105,8 @@ impl<W: Hosting, J: Naming, M: Home> CommitStore<W, J, M> {
         requires is_open { IsOpen (M.opening home) }
         requires here { journal.side ≡ side }
         requires first { journal.epoch ≡ W.first }
+        requires opening { M.opening home ≡ W.opening }
+        requires counted { M.counted home ≡ W.counted }
         requires format { journal.format ≡ 2 }
         requires holds { IsTrue M.tells → HoldsNow (M.past home) game journal W.opened.durable }
         requires since { IsTrue M.tells → HasRecovered W.opened W.began (M.past home) [] [] }

@@ -16,6 +16,7 @@ invariant_of-self g c =
       c.self.invariant.2,
       as_front _ _ (sym c.with_watcher-right.ensures.same)
           (as_waiting _ _ (sym none) (seen_stored g.W.Hosting.opened _ _ _ _ _ _ _ _ _ _ _ (as_waiting _ _ none c.self.invariant.3) c.args.pass.now _ _ _ c.lend-right.ensures.commits.1 _ _ _ _ _ (λ before added h. h.sees) c.with_watcher-right.ensures.called)),
+      c.self.invariant.4,
     )
 
 pub returns-clause-entered : goal.returns-clause-entered

@@ -25,6 +25,7 @@ invariant_of-self-2 g c =
       c.with_watcher-right.ensures.called.given.1.1,
       c.self.invariant.2,
       as_front _ _ (sym c.with_watcher-right.ensures.same) (as_waiting _ _ (sym c.take.ensures.after) (published_stored o _ _ _ _ _ _ _ _ _ _ _ c.args.claimed c.args.finished c.in-Some.prepared (as_waiting _ _ some c.self.invariant.3) next c.args.pass.now c.requires.claim _ _ c.lend-right.ensures.commits.1 _ _ _ _ _ c.with_watcher-right.ensures.called)),
+      c.self.invariant.4,
     )
 
 pub returns-clause-entered : goal.returns-clause-entered

@@ -8,6 +8,7 @@ use Rattle.dk_commit_log.proofs.Walks.{reads_still}
 use Rattle.dk_host.specs.Stores.{Stored}
 use Rattle.dk_host.specs.Tails.{IsLogPart, BeginsAt}
 use Rattle.dk_host.proofs.Rereading.{log_there, rests_there, file_there, file_log, part_there, begins_there, stored_looked, rests_still, some_number, some_most, damage_of, exit_of, older_of}
+use Rattle.dk_host.proofs.Homes.{as_stopped, read_home}
 use Rattle.dk_host.proofs.Storing.{as_waiting, as_faults}
 use Rattle.dk_host.proofs.store.CommitStore.read_after.Goals as goal
 
@@ -23,6 +24,7 @@ invariant_of-self g c =
       c.self.invariant.2,
       as_waiting _ _ (sym none)
           (as_faults _ _ (sym running) (stored_looked o _ _ _ _ _ _ _ _ _ _ _ s here _ _ c.known_commits.ensures.opening (λ h. c.known_commits.ensures.looks h (rests_there o _ _ _ _ _ _ _ _ _ _ _ s here h)) c.self.inside.base (λ h n is. (log_there o _ _ _ _ _ _ _ _ _ _ _ s here h).known n is))),
+      as_stopped _ _ (sym running) (read_home _ _ _ _ _ _ (as_stopped _ _ running c.self.invariant.4) c.known_commits.ensures.opening c.known_commits.result c.known_commits.ensures.cause c.known_commits.ensures.steady),
     )
 
 pub invariant_of-self-then-after-base : goal.invariant_of-self-then-after-base
@@ -40,6 +42,7 @@ invariant_of-self-then-after-base g c =
       c.self.invariant.1,
       record { here = here; same = c.self.invariant.2.same; later = c.self.invariant.2.later; most = λ n is. some_most c.in_ok-base.base n c.in_ok-base.ensures.most is },
       as_waiting _ _ (sym none) (as_faults _ _ (sym running) (stored_looked o _ _ _ _ _ _ _ _ _ _ _ s here _ _ c.known_commits.ensures.opening looked (Some c.in_ok-base.base) (λ h n is. some_number c.in_ok-base.base n (there h).first.commits (begins h) is))),
+      as_stopped _ _ (sym running) (read_home _ _ _ _ _ _ (as_stopped _ _ running c.self.invariant.4) c.known_commits.ensures.opening c.known_commits.result c.known_commits.ensures.cause c.known_commits.ensures.steady),
     )
 
 pub invariant_of-self-in_err-entries : goal.invariant_of-self-in_err-entries
@@ -58,6 +61,8 @@ invariant_of-self-in_err-entries g c =
       c.self.invariant.1,
       record { here = here; same = c.self.invariant.2.same; later = c.self.invariant.2.later; most = λ n is. some_most c.in_ok-base.base n c.in_ok-base.ensures.most is },
       as_waiting _ _ (sym none) (as_faults _ _ (sym running) (stored_looked o _ _ _ _ _ _ _ _ _ _ _ s here _ _ (c.read_commits.ensures.opening ∙ c.known_commits.ensures.opening) later (Some c.in_ok-base.base) (λ h n is. some_number c.in_ok-base.base n (there h).first.commits (begins h) is))),
+      as_stopped _ _ (sym running) (read_home _ _ _ _ _ _ (read_home _ _ _ _ _ _ (as_stopped _ _ running c.self.invariant.4) c.known_commits.ensures.opening c.known_commits.result c.known_commits.ensures.cause c.known_commits.ensures.steady)
+          c.read_commits.ensures.opening c.read_commits.result c.read_commits.ensures.cause c.read_commits.ensures.steady),
     )
 
 pub invariant_of-self-2 : goal.invariant_of-self-2
@@ -76,6 +81,8 @@ invariant_of-self-2 g c =
       c.self.invariant.1,
       record { here = here; same = c.self.invariant.2.same; later = c.self.invariant.2.later; most = λ n is. some_most c.in_ok-base.base n c.in_ok-base.ensures.most is },
       as_waiting _ _ (sym none) (as_faults _ _ (sym running) (stored_looked o _ _ _ _ _ _ _ _ _ _ _ s here _ _ (c.read_commits.ensures.opening ∙ c.known_commits.ensures.opening) later (Some c.in_ok-base.base) (λ h n is. some_number c.in_ok-base.base n (there h).first.commits (begins h) is))),
+      as_stopped _ _ (sym running) (read_home _ _ _ _ _ _ (read_home _ _ _ _ _ _ (as_stopped _ _ running c.self.invariant.4) c.known_commits.ensures.opening c.known_commits.result c.known_commits.ensures.cause c.known_commits.ensures.steady)
+          c.read_commits.ensures.opening c.read_commits.result c.read_commits.ensures.cause c.read_commits.ensures.steady),
     )
 
 pub returns-in_err-base-clause-undamaged : goal.returns-in_err-base-clause-undamaged
