@@ -93,6 +93,8 @@ fn on_ledgers<G: Game, W: Hosting, R: Wait>(
     requires opened { W.opened ≡ opened_on (G.rules game.now) store.durable }
     requires began { past_of store.home ≡ W.began }
     requires first { store.journal.epoch ≡ W.first }
+    requires opening { store.home.opening ≡ W.opening }
+    requires counted { store.home.plan.faults ≡ W.counted }
     requires keeps { W.keeps ≡ false }
 {
     let Ok(blank) = Blank::new(alloc, 1) else {
@@ -117,6 +119,8 @@ fn on_host<G: Game, W: Hosting, J: Naming, R: Wait>(
     requires opened { W.opened ≡ opened_on (G.rules game.now) store.durable }
     requires began { past_of store.home ≡ W.began }
     requires first { store.journal.epoch ≡ W.first }
+    requires opening { store.home.opening ≡ W.opening }
+    requires counted { store.home.plan.faults ≡ W.counted }
     requires keeps { W.keeps ≡ false }
 {
     let opened = Host::<W, J, MemoryHome>::open(alloc, blank, commits, places, store, None, false);
