@@ -20,8 +20,6 @@ mod saving;
 mod staging;
 mod text;
 
-pub use fault::PlayFault;
-
 use dk_disk::Home;
 use dk_game::Game;
 use dk_host::{Hosting, OpenedStore};
@@ -30,6 +28,7 @@ use dk_script::Script;
 use dk_turn::Blank;
 use dk_types::{Blob, Listed};
 use dk_workers::Gate;
+pub use fault::PlayFault;
 use staging::play_on_turn;
 use std::alloc::Global;
 use std::marker::Brand;
