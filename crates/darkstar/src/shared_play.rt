@@ -18,6 +18,8 @@ mod logins;
 mod phases;
 mod saving;
 mod staging;
+#[cfg(test)]
+mod tests;
 mod text;
 
 use dk_disk::Home;
