@@ -71,6 +71,8 @@ fn play_on_ledgers<
     requires opened { W.opened ≡ opened_on (G.rules game.now) store.durable budget }
     requires began { M.past store.home ≡ W.began }
     requires first { store.journal.epoch ≡ W.first }
+    requires opening { M.opening store.home ≡ W.opening }
+    requires counted { M.counted store.home ≡ W.counted }
     requires keeps { W.keeps ≡ true }
     requires stand { AllStand sets.empty script.now }
     ensures { IsUnopened store.home result.home result.text ⊎ IsPlayOn W.opened workers asked script.now M.tells W.began (M.past result.home) W.first before (M.counted result.home) result.text }

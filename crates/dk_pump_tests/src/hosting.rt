@@ -76,6 +76,8 @@ fn on_ledgers<W: Hosting, R: Wait>(
     requires began { past_of store.home ≡ W.began }
     requires keep { W.keeps ≡ keep }
     requires epoch { store.journal.epoch ≡ W.first }
+    requires opening { store.home.opening ≡ W.opening }
+    requires counted { store.home.plan.faults ≡ W.counted }
 {
     let Ok(blank) = Blank::new(alloc, 1) else {
         return Err(Fail::from("a turn"));
@@ -103,6 +105,8 @@ fn on_host<W: Hosting, J: Naming, R: Wait>(
     requires began { past_of store.home ≡ W.began }
     requires keep { W.keeps ≡ keep }
     requires epoch { store.journal.epoch ≡ W.first }
+    requires opening { store.home.opening ≡ W.opening }
+    requires counted { store.home.plan.faults ≡ W.counted }
 {
     let opened =
         Host::<W, J, MemoryHome>::open(alloc, blank, commits, places, store, None, keep);

@@ -26,6 +26,8 @@ use Rattle.dk_core.specs.contracts.durable.world.StampedWorld as stamped
 use Rattle.dk_core.specs.contracts.world.Core as core
 
 use denote.RattleType.{RattleType}
+use denote.Ref.{NamedLft}
+use Rattle.std.proofs.alloc.Global.TheSendSync as global
 use Rattle.std.proofs.marker.PhantomData.TheSendSync as phantom
 use Rattle.std.proofs.sync.ledger.Book.TheSendSync as ledger
 use Rattle.dk_turn.proofs.ghost_list.GhostList.TheSendSync as ghost_list
@@ -50,6 +52,7 @@ use Rattle.dk_host.specs.contracts.store.CommitStore as store
 use Rattle.dk_host.specs.contracts.store.CommitStore.TheInside as store_inside
 use Rattle.dk_host.specs.contracts.commit.FreeStore as free
 use Rattle.dk_host.specs.contracts.host.Host as host
+use Rattle.dk_workers.specs.contracts.team.Team as team
 use Rattle.dk_host.specs.contracts.book.WorldBook.TheInside as inside
 
 pub objects_send : IsSend objects.the_row
@@ -94,10 +97,16 @@ module _ (W J : RattleType) (w : hosting.Ghosts W.Denot) (j : naming.Ghosts J.De
 module _ (W J M : RattleType) (w : hosting.Ghosts W.Denot) (j : naming.Ghosts J.Denot) (m : home.Ghosts M.Denot) (a : IsSend W) (b : IsSend J) (c : IsSend M) where
   pub store_send : IsSend (store.the_row W J M w j m)
   store_send = view_send (store_inside.the_row W J M w j m) _ _ _ _ (declared_send (store_inside.the_type W J M w j m)
-      (search (sendable, crosses, as_row_send, c, pass_send W J w j a b, journal.the_send, right.the_send, options.the_send, prepared.the_send) depth 20))
+      (search (sendable, crosses, as_row_send, c, pass_send W J w j a b, journal.the_send, right.the_send, prepared.the_send) depth 20))
 
   pub free_send : IsSend (free.the_row W J M j m w)
   free_send = declared_send (free.the_type W J M j m w) (search (sendable, store_send))
 
   pub host_sync : IsSync (host.the_row W J M j m w)
-  host_sync = declared_sync (host.the_type W J M j m w) (search (sendable, crosses, as_row_send, as_row_sync, turn_sync W J w j a b, free_send) depth 20)
+  host_sync = declared_sync (host.the_type W J M j m w) (search (sendable, crosses, as_row_sync, turn_sync W J w j a b, free_send) depth 20)
+
+-- what the workers share
+pub team_sync : (ℓ : NamedLft) (G W J M T R : RattleType) (j : naming.Ghosts J.Denot) (m : home.Ghosts M.Denot) (w : hosting.Ghosts W.Denot)
+    → IsSync G → IsSend W → IsSend J → IsSend M → IsSync T → IsSync R → IsSync (team.the_row ℓ G W J M T R j m w)
+team_sync ℓ G W J M T R j m w g a b c t r =
+    declared_sync (team.the_type ℓ G W J M T R j m w) (search (sendable, crosses, host_sync W J M w j m a b c, global.the_sync, g, t, r) depth 20)
