@@ -60,12 +60,21 @@ fn entries_are_read_back(rt: HostRuntime) -> Result<(), Fail> {
     ];
     assert_eq!(rt; ended.told.len(), 11);
     assert_eq!(rt; &ended.told.as_slice()[5..], told.as_slice());
-    let (zero, one) = (ended.home.contents(Side::Zero), ended.home.contents(Side::One));
-    let again = [Ask::Entries(1, 1), Ask::Connect("carol"), Ask::Work, Ask::Entries(3, 9)];
+    let (zero, one) = (
+        ended.home.contents(Side::Zero),
+        ended.home.contents(Side::One),
+    );
+    let again = [
+        Ask::Entries(1, 1),
+        Ask::Connect("carol"),
+        Ask::Work,
+        Ask::Entries(3, 9),
+    ];
     let later = asked(&rt, alloc, &game, zero, one, &again, 0)?;
     assert_eq!(rt; later.told.len(), 4);
     assert_eq!(rt; later.told[0], Told::Older(4));
-    assert_eq!(rt; later.told[3], Told::From(4, 1));
+    // The two sessions that were cut off are told of their end, and carol logs in.
+    assert_eq!(rt; later.told[3], Told::From(4, 3));
     Ok(())
 }
 
@@ -88,7 +97,10 @@ fn a_checkpoint_begins_the_next_epoch(rt: HostRuntime) -> Result<(), Fail> {
     assert_eq!(rt; ended.told.as_slice(), told.as_slice());
     assert_eq!(rt; (ended.first, ended.epoch, ended.commits), (0, 1, 3));
     assert_eq!(rt; ended.faults, None);
-    assert_eq!(rt; ended.home.contents(Side::Zero), before.home.contents(Side::Zero));
+    assert_eq!(rt;
+        ended.home.contents(Side::Zero),
+        before.home.contents(Side::Zero)
+    );
     Ok(())
 }
 
@@ -97,7 +109,10 @@ fn a_store_goes_from_file_to_file(rt: HostRuntime) -> Result<(), Fail> {
     let alloc = rt.alloc();
     let game = SwordWorld;
     let first = asked(&rt, alloc, &game, b"", b"", &WITH_CHECKPOINT, 0)?;
-    let (zero, one) = (first.home.contents(Side::Zero), first.home.contents(Side::One));
+    let (zero, one) = (
+        first.home.contents(Side::Zero),
+        first.home.contents(Side::One),
+    );
     let again = [Ask::Durable, Ask::Checkpoint, Ask::Checkpoint];
     let ended = asked(&rt, alloc, &game, zero, one, &again, 0)?;
     let told = [Told::Number(3), Told::Done, Told::Done];
@@ -120,7 +135,11 @@ fn a_stop_leaves_the_world(rt: HostRuntime) -> Result<(), Fail> {
     let ended = asked(&rt, alloc, &game, b"", b"", &AFTER_A_FAULT[..5], 0)?;
     assert!(rt; from < ended.home.calls());
     for moment in from..=ended.home.calls() {
-        assert_eq!(rt; held_at(alloc, &ended.home, moment, &id)?, world, "{moment}");
+        assert_eq!(rt;
+            held_at(alloc, &ended.home, moment, &id)?,
+            world,
+            "{moment}"
+        );
     }
     Ok(())
 }
@@ -147,7 +166,10 @@ fn a_fault_stops_the_host(rt: HostRuntime) -> Result<(), Fail> {
         let ended = asked(&rt, alloc, &game, b"", b"", &AFTER_A_FAULT, failing)?;
         assert_eq!(rt; ended.told.as_slice(), told.as_slice(), "{failing}");
         assert_eq!(rt; ended.faults, Some(1));
-        let (zero, one) = (ended.home.contents(Side::Zero), ended.home.contents(Side::One));
+        let (zero, one) = (
+            ended.home.contents(Side::Zero),
+            ended.home.contents(Side::One),
+        );
         assert_eq!(rt; held(alloc, zero, one, &id)?, world, "{failing}");
     }
     Ok(())
