@@ -1,7 +1,6 @@
 -- A host may be shared by threads, and a pass may go to one.
 use denote.Param.Send.{IsSend, IsSync, sendable, view_send}
 use denote.Param.SendFields.{as_row_send, as_row_sync, declared_send, declared_sync}
-use denote.Struct.Record.{declared}
 use Rattle.std.proofs.Crossing.{crosses}
 use Rattle.std.proofs.option.Option.TheSendSync as options
 use Rattle.dk_map.proofs.tree.Tree.TheLaws.TheKnot as knot
@@ -10,8 +9,6 @@ use Rattle.dk_types.proofs.number.ConnNo.TheSendSync as conns
 use Rattle.dk_types.proofs.number.RunNo.TheSendSync as runs
 use Rattle.dk_types.proofs.number.TaskKey.TheSendSync as keys
 use Rattle.dk_types.proofs.object.Object.TheSendSync as object
-use Rattle.dk_types.proofs.blob.Blob.TheSendSync as blob
-use Rattle.dk_types.proofs.job.Job.TheSendSync as job
 use Rattle.dk_types.proofs.name.Name.TheSendSync as name
 use Rattle.dk_tasks.proofs.stored.Stored.TheSendSync as task
 use Rattle.dk_tasks.proofs.stored.TaskRank.TheSendSync as task_rank
@@ -24,18 +21,11 @@ use Rattle.dk_connections.specs.contracts.connections.Connections as connections
 use Rattle.dk_core.specs.contracts.claims.Claims as claims
 use Rattle.dk_core.specs.contracts.durable.world.StampedWorld as stamped
 use Rattle.dk_core.specs.contracts.world.Core as core
-
 use denote.RattleType.{RattleType}
 use denote.Ref.{NamedLft}
 use Rattle.std.proofs.alloc.Global.TheSendSync as global
-use Rattle.std.proofs.marker.PhantomData.TheSendSync as phantom
 use Rattle.std.proofs.sync.ledger.Book.TheSendSync as ledger
-use Rattle.dk_turn.proofs.ghost_list.GhostList.TheSendSync as ghost_list
-use Rattle.dk_turn.specs.contracts.ghost_list.GhostList as ghost_lists
 use Rattle.dk_types.specs.contracts.event.Event as events
-use Rattle.dk_types.proofs.event.Event.TheSendSync as event
-use Rattle.dk_host.proofs.hosting.CommitLedger.TheSendSync as commits
-use Rattle.dk_host.proofs.hosting.PlaceLedger.TheSendSync as places
 use Rattle.dk_host.specs.declared.hosting.Hosting as hosting
 use Rattle.dk_host.specs.contracts.book.WorldBook as book
 use Rattle.dk_turn.specs.declared.naming.Naming as naming
@@ -80,6 +70,7 @@ stamped_send = search (sendable, crosses, runs.the_send, objects_send, names_sen
 
 pub core_send : IsSend core.the_row
 core_send = search (sendable, crosses, stamped_send, connections_send, claims_send) depth 20
+
 pub inside_send : (W : RattleType) (h : hosting.Ghosts W.Denot) → IsSend W → IsSend (inside.the_row W h)
 inside_send W h s = declared_send (inside.the_type W h) (search (sendable, core_send), (search (sendable, history.the_send), (search (sendable, crosses, ledger.the_send) depth 20, (search (sendable, crosses, ledger.the_send) depth 20, tt))))
 
