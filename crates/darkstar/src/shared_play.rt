@@ -73,9 +73,11 @@ fn play_on_ledgers<
     requires first { store.journal.epoch ≡ W.first }
     requires opening { M.opening store.home ≡ W.opening }
     requires counted { M.counted store.home ≡ W.counted }
+    requires before { before ≡ W.counted }
     requires keeps { W.keeps ≡ true }
     requires stand { AllStand sets.empty script.now }
-    ensures { IsUnopened store.home result.home result.text ⊎ IsPlayOn W.opened workers asked script.now M.tells W.began (M.past result.home) W.first before (M.counted result.home) result.text }
+    ensures play { IsUnopened store.home result.home result.text ⊎ IsPlayOn W.opened workers asked script.now M.tells W.began (M.past result.home) W.first before (M.counted result.home) result.text }
+    ensures opening { M.opening result.home ≡ W.opening }
 {
     match Blank::new(alloc, workers + 1) {
         Ok(blank) => play_on_turn::<W, Brand, G, M, T, R>(
@@ -105,7 +107,9 @@ pub fn play_store<G: Game + Sync, M: Home + Send, T: Gate + Sync, R: Threads + W
 ) -> Played<M>
     requires workers { workers < PASSES_MOST_COUNT }
     requires stand { AllStand sets.empty script.now.phases }
-    ensures { IsUnopened store.home result.home result.text ⊎ IsPlayOn (opened_on (G.rules game.now) store.durable budget) workers checkpoint script.now.phases M.tells (M.past store.home) (M.past result.home) store.journal.epoch before (M.counted result.home) result.text }
+    requires counted { M.counted store.home ≡ before }
+    ensures play { IsUnopened store.home result.home result.text ⊎ IsPlayOn (opened_on (G.rules game.now) store.durable budget) workers checkpoint script.now.phases M.tells (M.past store.home) (M.past result.home) store.journal.epoch before (M.counted result.home) result.text }
+    ensures opening { M.opening result.home ≡ M.opening store.home }
 {
     let commits = ledger::Blank::new(1);
     let places = ledger::Blank::new(1);
