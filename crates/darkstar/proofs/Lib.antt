@@ -10,3 +10,5 @@ pub mod PlayOrder
 pub mod SinkPieces
 pub mod Fronts
 pub mod Told
+pub mod ReportEnds
+pub mod Askings
