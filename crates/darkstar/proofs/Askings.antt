@@ -1,13 +1,13 @@
 -- What words ask for.
-use Rattle.std.proofs.Common.{◌≡◌, ◌∙◌, ⊎_elim, Bool, true, false, IsTrue, ℕ, List, Result, Ok, Err, IfOk, sum, sym, ap, subst, arith, Some}
+use Rattle.std.proofs.Common.{◌≡◌, ◌∙◌, ⊎_elim, Bool, true, false, IsTrue, ℕ, List, Result, Err, sum, sym, ap, subst, arith, Some}
 use Rattle.dk_command.specs.declared.command.Command.{Command}
 use Rattle.dk_command.specs.declared.parse.CommandRefused.{CommandRefused}
 use Rattle.dk_command.specs.declared.parse.CommandRefused.TheVariants.{Usage, NoMemory}
 use Rattle.dk_command.specs.declared.command.Command.TheVariants as command
 use Rattle.clap.specs.Words.{App}
 use Rattle.dk_command.specs.Grammar.{app_named, check_app, inspect_app, play_app}
-use Rattle.dk_command.specs.Commands.{IsCommandLine, IsCommandOf, app_of_command, app_of_words}
-use Rattle.dk_command.specs.Requests.{Asks, Plays, Report, Reports, Request, Serves, Stresses, request_of}
+use Rattle.dk_command.specs.Commands.{IsCommandLine, IsCommandOf}
+use Rattle.dk_command.specs.Requests.{Asks, Report, Reports, Request, request_of}
 use Rattle.darkstar.specs.Headline.{play_words, IsAsked}
 use Rattle.darkstar.specs.Reports.{ForReport}
 
@@ -52,4 +52,4 @@ refused_line words e is usage = (usage (λ no. let same : e ≡ NoMemory = cc in
 
 -- a test that failed
 pub untrue : (b : Bool) → b ≡ false → IsTrue b → ⊥
-untrue b is yes = let same : b ≡ true = yes in cc
+untrue b is holds = let same : b ≡ true = holds in cc

@@ -1,6 +1,5 @@
-use Rattle.std.proofs.Common.{◌≡◌, ⊎_elim, inl, inr, refl}
-use Rattle.dk_command.specs.Commands.{IsCommandLine}
-use Rattle.dk_command.specs.Requests.{Asks, Report, Reports, request_of}
+use Rattle.std.proofs.Common.{◌≡◌, inl, inr, refl}
+use Rattle.dk_command.specs.Requests.{Asks, Report, Reports}
 use Rattle.dk_disk.specs.Opening.{Opened}
 use Rattle.dk_recover.specs.Files.{OnlyReads}
 use Rattle.dk_reports.specs.Causes.{IsOpenedAt}
