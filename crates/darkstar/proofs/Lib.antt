@@ -12,3 +12,12 @@ pub mod Fronts
 pub mod Told
 pub mod ReportEnds
 pub mod Askings
+pub mod Meanings
+pub mod Passing
+pub mod Rounds
+pub mod Working
+pub mod Draining
+pub mod Standing
+pub mod Playing
+pub mod Closing
+pub mod Closed

@@ -4,3 +4,9 @@ pub mod Reports
 pub mod Asked
 pub mod Reading
 pub mod Plays
+pub mod Logins
+pub mod Faults
+pub mod Lines
+pub mod Drains
+pub mod Phases
+pub mod Played

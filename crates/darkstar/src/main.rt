@@ -12,6 +12,7 @@ mod play;
 mod program;
 mod report;
 mod session;
+mod shared_play;
 #[cfg(test)]
 mod tests;
 

@@ -36,7 +36,7 @@ one_durable zero one a d has it = ⊎_elim
     has
 
 -- nor have two files that hold none yet
-durable_once : (zero one : List ℕ) (a b : DurableWorld) → HasDurable zero one a → HasDurable zero one b → a ≡ b
+pub durable_once : (zero one : List ℕ) (a b : DurableWorld) → HasDurable zero one a → HasDurable zero one b → a ≡ b
 durable_once zero one a b x y = ⊎_elim
     (λ (held_b : Recovers zero one (Holding b)). one_durable zero one a b x held_b)
     (λ none_b. ⊎_elim

@@ -6,7 +6,7 @@ ghost use Rattle.dk_model.specs.declared.waiting.Waiting.TheVariants as waits;
 ghost use Rattle.dk_model.specs.Worlds.{World, new_connection};
 ghost use Rattle.dk_model.specs.Openings.{ended_connection};
 ghost use Rattle.dk_model.specs.Deliveries.{change_connection, without_done};
-ghost use Rattle.dk_model.specs.Events.{outbox_at, put_last};
+ghost use Rattle.dk_model.specs.Events.{is_open_at, outbox_at, put_last};
 ghost use Rattle.dk_model.specs.Picks.{pick_input};
 ghost use Rattle.dk_connections.specs.MarkedConnections.{all_of, change, left, less_first, linked, released, unclaimed, with_turn, IsSwept};
 ghost use Rattle.dk_connections.specs.Posts.{PostAnswer};
@@ -16,7 +16,7 @@ use crate::answers::{Handed, PostRefused};
 use crate::place::ConnectionRank;
 use crate::stored_connection::StoredConnection;
 use dk_map::OrderedMap;
-use dk_types::{ConnNo, Input, Job, Listed, Name, NoMemory, Session};
+use dk_types::{ConnNo, Input, Job, Listed, Name, NoMemory, Out, Session};
 use std::alloc::Global;
 use std::marker::Model;
 
@@ -87,6 +87,26 @@ impl Connections {
         ensures world { result ≡ map.contains_key (all_of self.now.connections) conn }
     {
         self.slots.contains_key(&conn)
+    }
+
+    /// Whether a connection is there and takes inputs.
+    pub fn is_open(&self, conn: ConnNo) -> bool
+        ensures { result ≡ is_open_at (map.get (all_of self.now.connections) conn) }
+    {
+        match self.slots.get(&conn) {
+            Some(slot) => slot.is_open(),
+            None => false,
+        }
+    }
+
+    /// Copies of a connection's first messages, `most` of them or all. They stay there.
+    pub fn copy_first(&self, conn: ConnNo, most: u32) -> Result<Listed<Out>, NoMemory>
+        ensures { IfOk result (λ copies. copies ≡ take most (outbox_at (map.get (all_of self.now.connections) conn))) }
+    {
+        match self.slots.get(&conn) {
+            Some(slot) => slot.copy_first(most),
+            None => Ok(Listed::from_vec(Vec::new(self.alloc))),
+        }
     }
 
     /// Adds a new connection, whose login waits and whose number is its turn. Refused, it changes nothing.

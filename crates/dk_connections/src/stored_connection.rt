@@ -5,7 +5,7 @@ ghost use Rattle.dk_model.specs.declared.waiting.Waiting.TheVariants as waits;
 ghost use Rattle.dk_model.specs.Worlds.{new_connection};
 ghost use Rattle.dk_model.specs.Openings.{ended_connection};
 ghost use Rattle.dk_model.specs.Deliveries.{close_off as closed_off, is_disconnect, is_done as is_done_at, takes, with_out};
-ghost use Rattle.dk_model.specs.Events.{put_last};
+ghost use Rattle.dk_model.specs.Events.{is_open_at, put_last};
 ghost use Rattle.dk_connections.specs.MarkedConnections.{less_first, linked, over_now, released, run_ended, unclaimed, with_turn};
 ghost use Rattle.dk_connections.specs.Places.{place_of};
 ghost use Rattle.dk_connections.specs.Posts.{has_no_place_at, PostAnswer};
@@ -105,6 +105,20 @@ impl StoredConnection {
         ensures { result ≡ is_done_at (Some self.now.connection) }
     {
         self.over && self.outbox.is_empty()
+    }
+
+    /// Whether it takes inputs.
+    pub(crate) fn is_open(&self) -> bool
+        ensures { result ≡ is_open_at (Some self.now.connection) }
+    {
+        !self.closed
+    }
+
+    /// Copies of the first messages, `most` of them or all.
+    pub(crate) fn copy_first(&self, most: u32) -> Result<Listed<Out>, NoMemory>
+        ensures { IfOk result (λ copies. copies ≡ take most self.now.connection.outbox) }
+    {
+        self.outbox.copy_first(most)
     }
 
     /// The job of the first input, copied.

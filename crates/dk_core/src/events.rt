@@ -1,15 +1,16 @@
 // Connect, Post, Hand and Tick.
-ghost use Rattle.std.specs.Prelude.{◌≡◌, ℕ, ◌∷◌, [], All, IfOk};
+ghost use Rattle.std.specs.Prelude.{◌≡◌, ℕ, ◌∷◌, [], All, IfOk, take};
 ghost use Rattle.dk_types.specs.declared.event.Event.TheVariants as event;
+ghost use Rattle.dk_model.specs.Events.{is_open as is_open_in, outbox};
 ghost use Rattle.dk_model.specs.Lawful.{HasShortBody, IsInput};
 ghost use Rattle.dk_core.specs.Answers.{Connected, Posted, Hands};
-ghost use Rattle.dk_core.specs.Cores.{Adds, IsStanding, KeepsReady};
+ghost use Rattle.dk_core.specs.Cores.{world_of, Adds, IsStanding, KeepsReady};
 
 use crate::answers::ConnectRefused;
 use crate::world::Core;
 use dk_connections::{Handed, PostRefused};
 use dk_types::limits::{MOMENT_MOST_MS, NUMBERS_END};
-use dk_types::{ConnNo, Input, Name, NoMemory};
+use dk_types::{ConnNo, Input, Listed, Name, NoMemory, Out};
 
 impl Core {
     /// Makes a connection, whose login waits.
@@ -36,6 +37,20 @@ impl Core {
         ensures ready { KeepsReady self.old self.new }
     {
         self.connections.post(conn, input)
+    }
+
+    /// Whether a connection is there and not closed.
+    pub fn is_open(&self, conn: ConnNo) -> bool
+        ensures { result ≡ is_open_in (world_of self.now) conn }
+    {
+        self.connections.is_open(conn)
+    }
+
+    /// Copies of the messages that a hand of at most so many would give. They stay.
+    pub fn copy_messages(&self, conn: ConnNo, most: u32) -> Result<Listed<Out>, NoMemory>
+        ensures { IfOk result (λ copies. copies ≡ take most (outbox (world_of self.now) conn)) }
+    {
+        self.connections.copy_first(conn, most)
     }
 
     /// Hands a connection's first messages, `most` of them or all, none with a body that is too long; `end` says whether it is gone.

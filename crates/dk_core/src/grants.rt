@@ -2,8 +2,9 @@
 ghost use Rattle.std.specs.Prelude.{◌≡◌, ◌∷◌, [], Some, IfOk, IfSome};
 ghost use Rattle.dk_types.specs.declared.event.Event.TheVariants as event;
 ghost use Rattle.dk_core.specs.Answers.{Claims};
-ghost use Rattle.dk_core.specs.Cores.{Adds, IsGranted, KeepsReady};
-ghost use Rattle.dk_core.specs.Picking.{job_of, IsDueTask, IsFirstRun, IsPick, IsReadyInput, IsThere};
+ghost use Rattle.dk_model.specs.Picks.{pick as pick_of};
+ghost use Rattle.dk_core.specs.Cores.{world_of, Adds, IsGranted, KeepsReady};
+ghost use Rattle.dk_core.specs.Picking.{job_of, AreMarks, IsDueTask, IsFirstRun, IsPick, IsReadyInput, IsThere};
 ghost use Rattle.dk_core.specs.Marking.{IsMarked, IsFreed, IsTaskFreed};
 ghost use Rattle.dk_core.specs.declared.choice.Choice.TheVariants as choose;
 
@@ -53,6 +54,16 @@ impl Core {
     {
         self.claims.release(claimed.run);
         self.unmark(&claimed.job);
+    }
+
+    /// A copy of the job that a claim would take. None where nothing can be run.
+    pub fn next_job(&self) -> Result<Option<Job>, NoMemory>
+        ensures { IfOk result (λ job. AreMarks self.now → pick_of (world_of self.now) ≡ job) }
+    {
+        match self.pick() {
+            Some(choice) => Ok(Some(self.job(choice)?)),
+            None => Ok(None),
+        }
     }
 
     /// What a claim takes: before the first commit the first run alone, unless it is claimed; then the soonest due task

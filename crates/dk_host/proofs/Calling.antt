@@ -1,6 +1,7 @@
 -- What a call by a pass tells, from what its turn tells.
-use Rattle.std.proofs.Common.{◌≡◌, ◌≢◌, ℕ, ◌==◌, true, false, cond, List, [], ◌∷◌, ◌++◌, Option, Result, refl, sym, ap, subst, ◌∙◌, eq-eqb}
+use Rattle.std.proofs.Common.{◌≡◌, ◌≢◌, ℕ, ◌==◌, true, false, cond, List, [], ◌∷◌, ◌++◌, length, Bool, Option, Result, refl, sym, ap, subst, ◌∙◌, eq-eqb}
 use Rattle.std.specs.List.{All, AllByRecursion}
+use Rattle.std.specs.Result.{OnErr}
 use Rattle.std.proofs.lemmas.List.{append-nil, append_cancel_left}
 use Rattle.dk_types.specs.declared.event.Event.{Event}
 use Rattle.dk_types.specs.declared.fault.NoMemory.{NoMemory}
@@ -8,7 +9,8 @@ use Rattle.dk_types.specs.declared.item.Item.{Item}
 use Rattle.dk_types.specs.declared.item.Read.{Read}
 use Rattle.dk_types.specs.declared.job.Input.{Input}
 use Rattle.dk_types.specs.declared.number.ConnNo.{ConnNo}
-use Rattle.dk_model.specs.Legal.{Opened, opening_of, IsLegal, IsFront, pass_of}
+use Rattle.dk_model.specs.Events.{is_open}
+use Rattle.dk_model.specs.Legal.{Opened, opening_of, world_after, IsLegal, IsFront, pass_of}
 use Rattle.dk_laws.proofs.LaterOn.{claims_stand, honest_on}
 use Rattle.dk_txn.specs.declared.finished.Finished.{Finished}
 use Rattle.dk_txn.specs.Finishes.{told}
@@ -18,8 +20,8 @@ use Rattle.dk_core.specs.declared.claimed.Claimed.{Claimed}
 use Rattle.dk_core.specs.declared.answers.ClaimRefused.{ClaimRefused}
 use Rattle.dk_turn.proofs.Beginnings.{own-append}
 use Rattle.dk_turn.specs.Fronts.{Known, known, own, Continues, Called}
-use Rattle.dk_host.specs.Calls.{Entered, Grants, ReadsAt, IsClaimOf, IsHonestAt, IsSpared, AreShort, claim_events, post_events, hand_events}
-use Rattle.dk_host.specs.Steps.{Adds, Posts, Hands, Claims, Reads, MayEnd}
+use Rattle.dk_host.specs.Calls.{Entered, Grants, ReadsAt, IsClaimOf, IsHonestAt, IsSpared, AreShort, claim_events, post_events, hand_events, tick_events}
+use Rattle.dk_host.specs.Steps.{Adds, Posts, Ticks, CountsKept, Hands, Claims, Reads, MayEnd}
 
 -- events of which none is the pass's are of others
 others : (pass : ℕ) (events : List Event) → own pass_of pass events ≡ [] → AllByRecursion (λ e. pass_of e ≢ pass) events
@@ -71,12 +73,26 @@ module _ (o : Opened) (pass : ℕ) (r : Result (Option Claimed) ClaimRefused) (o
   pub claim_granted : new.number ≡ pass → Grants o new r
   claim_granted number = subst (λ n. Grants o (known n new.front) r) (sym number) (subst (λ es. Grants o (known pass es) r) (sym c.front) c.given.grants)
 
-module _ (o : Opened) (pass : ℕ) (conn : ConnNo) (input : Input) (r : Result (Unit {0}) PostRefused) (old new : List Event) (c : Called pass_of pass (λ before added. Posts o pass conn input before r added) old new) where
+module _ (o : Opened) (keeps : Bool) (pass : ℕ) (conn : ConnNo) (input : Input) (r : Result (Unit {0}) PostRefused) (old new : List Event) (c : Called pass_of pass (λ before added. Posts o keeps pass conn input before r added) old new) where
   pub post_entered : Entered o pass (post_events pass conn input r) old new
   post_entered = entered_by o pass (post_events pass conn input r) old new c c.given.adds
 
-  pub post_spared : IsSpared input r
-  post_spared = c.given.spared
+  pub post_spared : IsSpared keeps (is_open (world_after o new) conn) input r
+  post_spared = subst (λ es. IsSpared keeps (is_open (world_after o es) conn) input r) (sym c.front) c.given.spared
+
+module _ (o : Opened) (keeps : Bool) (pass moment : ℕ) (r : Result (Unit {0}) NoMemory) (old new : List Event) (c : Called pass_of pass (λ before added. Ticks o keeps pass moment before r added) old new) where
+  pub tick_entered : Entered o pass (tick_events pass moment r) old new
+  tick_entered = entered_by o pass (tick_events pass moment r) old new c c.given.adds
+
+  pub tick_only : OnErr r (keeps ≡ true)
+  tick_only = c.given.only
+
+module _ (o : Opened) (keeps : Bool) (pass count : ℕ) (old new : List Event) (c : Called pass_of pass (λ before added. CountsKept o keeps before count added) old new) where
+  pub count_entered : Entered o pass [] old new
+  count_entered = entered_by o pass [] old new c c.given.adds
+
+  pub count_kept : keeps ≡ true → count ≡ length new
+  count_kept on = c.given.counts on ∙ ap length (sym (c.front ∙ ap (λ es. c.before ++ es) c.given.adds.same ∙ append-nil c.before))
 
 module _ (o : Opened) (pass : ℕ) (conn : ConnNo) (most : ℕ) (r : Result Handed NoMemory) (old new : List Event) (c : Called pass_of pass (λ before added. Hands o pass conn most before r added) old new) where
   pub hand_entered : Entered o pass (hand_events pass conn most r) old new

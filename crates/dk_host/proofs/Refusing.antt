@@ -17,7 +17,7 @@ use Rattle.dk_core.specs.declared.claimed.Claimed.{Claimed}
 use Rattle.dk_core.specs.declared.prepared.Prepared.{Prepared}
 use Rattle.dk_core.specs.declared.answers.PrepareRefused.{PrepareRefused}
 use Rattle.dk_core.specs.declared.answers.PrepareRefused.TheVariants as prepare_refused
-use Rattle.dk_turn.specs.Fronts.{Known, own}
+use Rattle.dk_turn.specs.Fronts.{Known, Watched, own}
 use Rattle.dk_host.specs.declared.refused.Why.{Why}
 use Rattle.dk_host.specs.Calls.{Entered, IsClaimOf, IsHonestAt}
 use Rattle.dk_host.specs.Refusals.{IsRetry, IsCauseAt, IsLeftBy, IsFree, IsWhyOfLook, IsWhyOfAppend}
@@ -101,10 +101,10 @@ append_fault old new p (journal_refused.Damaged at) h = absurd h
 append_fault old new p journal_refused.NoMemory h = absurd h
 
 -- after an append the record waits
-pub append_waits : (o : Opened) (old new : Stored) (claimed : Claimed) (f : Finished) (p : Prepared) (r : Result (Unit {0}) JournalRefused) (x : Unit {0}) → r ≡ Ok x → Appends old new p r → new.pass ≡ old.pass → new.room ≡ old.room
-    → IsNextCommit o old.pass.front claimed f p × (old.room ≡ places_of f.effects) → WaitsOf o new claimed f
-append_waits o old new claimed f p r x is h pass room next =
-    (p, ((subst (Appends old new p) is h).0, (subst (λ (q : Known Event). IsNextCommit o q.front claimed f p) (sym pass) next.0, room ∙ next.1)))
+pub append_waits : (o : Opened) (old new : Stored) (claimed : Claimed) (f : Finished) (p : Prepared) (r : Result (Unit {0}) JournalRefused) (x : Unit {0}) → r ≡ Ok x → Appends old new p r → new.watcher ≡ old.watcher → new.room ≡ old.room
+    → IsNextCommit o old.watcher.front claimed f p × (old.room ≡ places_of f.effects) → WaitsOf o new claimed f
+append_waits o old new claimed f p r x is h watcher room next =
+    (p, ((subst (Appends old new p) is h).0, (subst (λ (q : Watched Event). IsNextCommit o q.front claimed f p) (sym watcher) next.0, room ∙ next.1)))
 
 pub append_runs : (old new : Stored) (p : Prepared) (r : Result (Unit {0}) JournalRefused) (x : Unit {0}) → r ≡ Ok x → Appends old new p r → new.faults ≡ None
 append_runs old new p r x is h = (subst (Appends old new p) is h).1

@@ -1,5 +1,5 @@
 -- What the steps of a host owe.
-use Rattle.std.proofs.Common.{◌≡◌, ℕ, zero, suc, List, [], ◌∷◌, ◌++◌, Option, Some, None, Result, Ok, Err, refl, sym, ap, subst, ◌∙◌, arith}
+use Rattle.std.proofs.Common.{◌≡◌, ℕ, Bool, zero, suc, List, [], ◌∷◌, ◌++◌, Option, Some, None, Result, Ok, Err, refl, sym, ap, subst, ◌∙◌, arith}
 use Rattle.std.specs.List.{All}
 use Rattle.std.specs.FinMap.{get}
 use Rattle.std.proofs.lemmas.List.{append-nil}
@@ -112,11 +112,11 @@ module _ (o : Opened) (before : List Event) (old new : Core) (total places : ℕ
   post_at pass conn input (Err (post_refused.QueueFull waiting)) h = more _ (h pass)
   post_at pass conn input (Err post_refused.NoMemory) h = none_at h.0
 
-  pub post_spared : (conn : ConnNo) (input : Input) (r : Result (Unit {0}) PostRefused) → core.Posted old new conn input r → IsSpared input r
-  post_spared conn input (Ok taken) h = tt
-  post_spared conn input (Err post_refused.Closed) h = tt
-  post_spared conn input (Err (post_refused.QueueFull waiting)) h = tt
-  post_spared conn input (Err post_refused.NoMemory) h = h.1
+  pub post_spared : (keeps takes : Bool) (conn : ConnNo) (input : Input) (r : Result (Unit {0}) PostRefused) → core.Posted old new conn input r → IsSpared keeps takes input r
+  post_spared keeps takes conn input (Ok taken) h = tt
+  post_spared keeps takes conn input (Err post_refused.Closed) h = tt
+  post_spared keeps takes conn input (Err (post_refused.QueueFull waiting)) h = tt
+  post_spared keeps takes conn input (Err post_refused.NoMemory) h = λ is. absurd (let none = h.1 in cc (is, none))
 
   pub claim_at : (pass : ℕ) (r : Result (Option Claimed) ClaimRefused) → core.Claims old new pass r → IsAt o (before ++ claim_events pass r) new
   claim_at pass (Ok (Some c)) h = more _ h.0
@@ -148,6 +148,10 @@ module _ (o : Opened) (before : List Event) (old new : Core) (total places : ℕ
     k.2 ∙ (let both = commits_of-append before events in let none = of.none in let same = ap commits_of noted in omega (arith, both, none, same)),
     subst (λ r. HasPlaces r places) (sym ready.room) k.3,
   )
+
+  -- what is entered behind the events of before is legal
+  pub entering : (events made : List Event) → made ≡ before → IsAt o (before ++ events) new → IsLegal o (made ++ events)
+  entering events made same at = subst (λ es. IsLegal o (es ++ events)) (sym same) (legal o (before ++ events) new at)
 
   pub adds : (events : List Event) → IsAt o (before ++ events) new → Adds o events before events
   adds events at = record { same = refl; legal = legal o (before ++ events) new at }

@@ -1,5 +1,5 @@
 -- What a call by a pass does to the one history, and what it is answered.
-use Rattle.std.specs.Prelude.{◌≡◌, ℕ, List, [], ◌∷◌, ◌++◌, false, Option, Some, None, Result, Ok, Err, IfOk, IfSome}
+use Rattle.std.specs.Prelude.{◌≡◌, ℕ, List, [], ◌∷◌, ◌++◌, Bool, true, false, Option, Some, None, Result, Ok, Err, IfOk, IfSome}
 use Rattle.std.specs.List.{All}
 use Rattle.std.specs.FinMap.{get}
 use Rattle.dk_types.specs.declared.event.Event.{Event}
@@ -7,6 +7,7 @@ use Rattle.dk_types.specs.declared.event.Event.TheVariants as event
 use Rattle.dk_types.specs.declared.event.ConnectReply.TheVariants as connected
 use Rattle.dk_types.specs.declared.event.PostReply.TheVariants as posted
 use Rattle.dk_types.specs.declared.event.ClaimReply.TheVariants as claimed
+use Rattle.dk_types.specs.declared.durable.Durable.{Durable}
 use Rattle.dk_types.specs.declared.fault.NoMemory.{NoMemory}
 use Rattle.dk_types.specs.declared.item.Item.{Item}
 use Rattle.dk_types.specs.declared.item.Read.{Read}
@@ -16,6 +17,7 @@ use Rattle.dk_model.specs.Legal.{Opened, opening_of, world_after, IsLegal, IsFro
 use Rattle.dk_model.specs.declared.waiting.Waiting.TheVariants as waits
 use Rattle.dk_model.specs.Deliveries.{is_disconnect}
 use Rattle.dk_model.specs.Finishes.{IsHonest}
+use Rattle.dk_model.specs.Images.{world_lists}
 use Rattle.dk_model.specs.Lawful.{HasShortBody}
 use Rattle.dk_model.specs.Sights.{IsReadAt}
 use Rattle.dk_txn.specs.declared.finished.Finished.{Finished}
@@ -53,12 +55,17 @@ post_events pass conn input (Err post_refused.Closed) = event.Post pass conn inp
 post_events pass conn input (Err (post_refused.QueueFull waiting)) = event.Post pass conn input (posted.QueueFull waiting) ∷ []
 post_events pass conn input (Err post_refused.NoMemory) = []
 
--- want of memory is no answer to a Disconnect
-abbrev pub IsSpared : Input → Result (Unit {0}) PostRefused → Type 0
-IsSpared input (Ok taken) = Unit {0}
-IsSpared input (Err post_refused.Closed) = Unit {0}
-IsSpared input (Err (post_refused.QueueFull waiting)) = Unit {0}
-IsSpared input (Err post_refused.NoMemory) = is_disconnect (waits.Input input) ≡ false
+-- Want of memory is no answer to a Disconnect, unless events are kept and the connection is not open: a Disconnect that ends a session has its place since the Connect
+abbrev pub IsSpared : Bool → Bool → Input → Result (Unit {0}) PostRefused → Type 0
+IsSpared keeps takes input (Ok taken) = Unit {0}
+IsSpared keeps takes input (Err post_refused.Closed) = Unit {0}
+IsSpared keeps takes input (Err (post_refused.QueueFull waiting)) = Unit {0}
+IsSpared keeps takes input (Err post_refused.NoMemory) = is_disconnect (waits.Input input) ≡ true → (keeps ≡ true) × (takes ≡ false)
+
+-- the event of a Tick; want of memory enters none
+abbrev pub tick_events : ℕ → ℕ → Result (Unit {0}) NoMemory → List Event
+tick_events pass moment (Ok done) = event.Tick pass moment ∷ []
+tick_events pass moment (Err refused) = []
 
 -- the event of a claim that was answered; want of memory enters none
 abbrev pub claim_events : ℕ → Result (Option Claimed) ClaimRefused → List Event
@@ -94,6 +101,10 @@ Grants o p r = IfOk r (λ granted. IfSome granted (IsClaimOf o p))
 -- what was read is what the history up to this front answers, and what is seen there
 abbrev pub ReadsAt : Opened → List Event → Item → Result Read NoMemory → Type 0
 ReadsAt o front item r = IfOk r (IsReadAt o.rules (opening_of o) front item)
+
+-- what was copied is the durable world that the history up to this front leaves, as lists in order
+abbrev pub IsCopyAt : Opened → List Event → Result Durable NoMemory → Type 0
+IsCopyAt o front r = IfOk r (λ d. d ≡ world_lists (world_after o front).durable)
 
 -- the finished run is honest for this claim at this front
 abbrev pub IsHonestAt : Opened → List Event → Claimed → Finished → Type 0

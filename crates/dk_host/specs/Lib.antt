@@ -1,8 +1,15 @@
 pub mod Openings
+pub mod OpenedStores
+pub mod Keeping
+pub mod Kept
 pub mod Books
 pub mod Calls
+pub mod Passes
 pub mod Commits
 pub mod Steps
+pub mod Logs
 pub mod Stores
 pub mod Refusals
 pub mod Looks
+pub mod Checkpoints
+pub mod Tails

@@ -1,12 +1,14 @@
 -- What the steps of a host give, at the history before them.
-use Rattle.std.specs.Prelude.{◌≡◌, ℕ, ◌+◌, List, [], ◌∷◌, ◌++◌, Option, Result, Ok, Err, IfOk}
+use Rattle.std.specs.Prelude.{◌≡◌, ℕ, ◌+◌, Bool, true, List, [], ◌∷◌, ◌++◌, length, Option, Result, Ok, Err, IfOk, OnErr}
 use Rattle.dk_types.specs.declared.event.Event.{Event}
 use Rattle.dk_types.specs.declared.event.Event.TheVariants as event
+use Rattle.dk_types.specs.declared.durable.Durable.{Durable}
 use Rattle.dk_types.specs.declared.fault.NoMemory.{NoMemory}
 use Rattle.dk_types.specs.declared.item.Item.{Item}
 use Rattle.dk_types.specs.declared.item.Read.{Read}
 use Rattle.dk_types.specs.declared.job.Input.{Input}
 use Rattle.dk_types.specs.declared.number.ConnNo.{ConnNo}
+use Rattle.dk_model.specs.Events.{is_open}
 use Rattle.dk_model.specs.Finishes.{told_step}
 use Rattle.dk_model.specs.Steps.{step}
 use Rattle.dk_model.specs.Legal.{Opened, IsLegal, commits_of, world_after}
@@ -20,7 +22,7 @@ use Rattle.dk_core.specs.Rooms.{places_of}
 use Rattle.dk_txn.specs.declared.finished.Finished.{Finished}
 use Rattle.dk_txn.specs.Finishes.{told}
 use Rattle.dk_turn.specs.Fronts.{known}
-use Rattle.dk_host.specs.Calls.{Stands, Grants, ReadsAt, IsSpared, IsHonestAt, AreShort, claim_events, post_events, hand_events}
+use Rattle.dk_host.specs.Calls.{Stands, Grants, ReadsAt, IsCopyAt, IsSpared, IsHonestAt, AreShort, claim_events, post_events, hand_events, tick_events}
 use Rattle.dk_host.specs.Commits.{IsPreparedAt, Finds}
 
 -- these events are added, and the history is legal with them
@@ -33,10 +35,20 @@ pub record Claims (o : Opened) (pass : ℕ) (before : List Event) (r : Result (O
   pub adds : Adds o (claim_events pass r) before added
   pub grants : Grants o (known pass (before ++ added)) r
 
--- a post adds its event, and spares a Disconnect
-pub record Posts (o : Opened) (pass : ℕ) (conn : ConnNo) (input : Input) (before : List Event) (r : Result (Unit {0}) PostRefused) (added : List Event) : Type 0 where
+-- a post adds its event, and spares a Disconnect that ends a session
+pub record Posts (o : Opened) (keeps : Bool) (pass : ℕ) (conn : ConnNo) (input : Input) (before : List Event) (r : Result (Unit {0}) PostRefused) (added : List Event) : Type 0 where
   pub adds : Adds o (post_events pass conn input r) before added
-  pub spared : IsSpared input r
+  pub spared : IsSpared keeps (is_open (world_after o (before ++ added)) conn) input r
+
+-- a tick adds its event; there is no want of memory where no events are kept
+pub record Ticks (o : Opened) (keeps : Bool) (pass moment : ℕ) (before : List Event) (r : Result (Unit {0}) NoMemory) (added : List Event) : Type 0 where
+  pub adds : Adds o (tick_events pass moment r) before added
+  pub only : OnErr r (keeps ≡ true)
+
+-- a look at what is kept adds nothing; where events are kept, all are
+pub record CountsKept (o : Opened) (keeps : Bool) (before : List Event) (count : ℕ) (added : List Event) : Type 0 where
+  pub adds : Adds o [] before added
+  pub counts : keeps ≡ true → count ≡ length before
 
 -- a hand adds its event, and no body that it hands is too long
 pub record Hands (o : Opened) (pass : ℕ) (conn : ConnNo) (most : ℕ) (before : List Event) (r : Result Handed NoMemory) (added : List Event) : Type 0 where
@@ -85,3 +97,27 @@ pub record PublishesBy (o : Opened) (pass : ℕ) (claimed : Claimed) (f : Finish
   pub adds : Adds o (event.Commit pass claimed.run seq f.outcome ∷ []) before added
   pub counted : commits_of before ≡ commits
   pub number : seq ≡ (world_after o before).durable.commits + 1
+
+-- a copy adds nothing, and is of the durable world of the history
+pub record Copies (o : Opened) (before : List Event) (r : Result Durable NoMemory) (added : List Event) : Type 0 where
+  pub adds : Adds o [] before added
+  pub copied : IsCopyAt o (before ++ added) r
+
+-- both ledgers' whole shares
+abbrev pub IsWhole : ℕ → ℕ → Type 0
+IsWhole commits places = (commits ≡ 1) × (places ≡ 1)
+
+-- nothing is added, and so many commits came before
+pub record SeesLast (o : Opened) (commits : ℕ) (before added : List Event) : Type 0 where
+  pub adds : Adds o [] before added
+  pub counted : commits_of before ≡ commits
+
+-- a copy of the durable world of the history, before which so many commits came
+pub record CopiesLast (o : Opened) (commits : ℕ) (before : List Event) (r : Result Durable NoMemory) (added : List Event) : Type 0 where
+  pub sees : SeesLast o commits before added
+  pub copied : IsCopyAt o (before ++ added) r
+
+-- how many commits the durable world of the history has
+pub record CountsLast (o : Opened) (commits : ℕ) (before : List Event) (n : ℕ) (added : List Event) : Type 0 where
+  pub sees : SeesLast o commits before added
+  pub number : n ≡ (world_after o (before ++ added)).durable.commits

@@ -1,10 +1,13 @@
 -- What the store behind the commit lock keeps.
 use Rattle.std.specs.Prelude.{◌≡◌, ℕ, ◌<◌, ◌≤◌, ◌^◌, Bool, IsTrue, List, [], ◌∷◌, ◌++◌, length, Option, None, Some, Result, Ok, Err}
 use Rattle.dk_types.specs.Faults.{HasRisen}
+use Rattle.dk_types.specs.declared.durable.Entry.{Entry}
 use Rattle.dk_types.specs.declared.event.Event.{Event}
 use Rattle.dk_types.specs.declared.event.Event.TheVariants as event
+use Rattle.dk_types.specs.declared.limits.TheConstants.{NUMBERS_END}
 use Rattle.dk_types.specs.declared.side.Side.{Side}
-use Rattle.dk_disk.specs.DiskHistories.{DiskHistory}
+use Rattle.dk_types.specs.declared.side.Side.TheVariants.{Zero, One}
+use Rattle.dk_disk.specs.DiskHistories.{DiskHistory, now}
 use Rattle.dk_disk.specs.Opening.{Opening, IsOpen}
 use Rattle.dk_model.specs.DurableWorlds.{DurableWorld}
 use Rattle.dk_model.specs.Effects.{after}
@@ -13,13 +16,14 @@ use Rattle.dk_model.specs.Lawful.{AreLawful}
 use Rattle.dk_model.specs.Legal.{Opened, opening_of, IsLegal, commits_of, world_after}
 use Rattle.dk_model.specs.Recovered.{IsNext}
 use Rattle.dk_model.specs.Retries.{IsFirstStale}
-use Rattle.dk_model.specs.Stores.{StoreHeader}
+use Rattle.dk_model.specs.Stores.{StoreHeader, StandsOn, standing}
 use Rattle.dk_model.specs.Tails.{MayCommit, IsTail, IsAfterSomeOrTail}
 use Rattle.dk_journal.specs.declared.journal.Journal.{Journal}
 use Rattle.dk_journal.specs.declared.refused.JournalRefused.{JournalRefused}
 use Rattle.dk_journal.specs.declared.refused.JournalRefused.TheVariants as journal_refused
 use Rattle.dk_journal.specs.Recoveries.{AllRecover, RecoverSince, HeldNeverFalls, IsWorld}
-use Rattle.dk_journal.specs.Stores.{HasStore}
+use Rattle.dk_journal.specs.Stores.{HasStore, AreSettled}
+use Rattle.dk_commit_log.specs.Logs.{HasLog}
 use Rattle.dk_txn.specs.declared.finished.Finished.{Finished}
 use Rattle.dk_core.specs.declared.claimed.Claimed.{Claimed}
 use Rattle.dk_core.specs.declared.prepared.Prepared.{Prepared}
@@ -27,23 +31,25 @@ use Rattle.dk_core.specs.declared.answers.PrepareRefused.{PrepareRefused}
 use Rattle.dk_core.specs.declared.answers.PrepareRefused.TheVariants as prepare_refused
 use Rattle.dk_core.specs.Changes.{stale_of}
 use Rattle.dk_core.specs.Rooms.{places_of}
-use Rattle.dk_turn.specs.Fronts.{Known}
+use Rattle.dk_turn.specs.Fronts.{Watched}
 use Rattle.dk_host.specs.declared.prepared.PreparedCommit.{PreparedCommit}
 use Rattle.dk_host.specs.Commits.{IsPreparedAt}
+use Rattle.dk_host.specs.Logs.{AreOfCommits}
 use Rattle.dk_host.specs.Steps.{TellsStep}
 
--- what contracts see of a store: its pass, the record that waits, how much room is kept, the kept count of faults where it is stopped, the home's count, and the journal's length
+-- what contracts see of a store: its watcher, the record that waits, how much room is kept, the kept count of faults where it is stopped, the home's count, and the journal's length and epoch
 pub record Stored : Type 0 where
-  pub pass : Known Event
+  pub watcher : Watched Event
   pub waiting : Option Prepared
   pub room : ℕ
   pub faults : Option ℕ
   pub counted : ℕ
   pub journal_length : ℕ
+  pub epoch : ℕ
 
 -- a store by its parts
-abbrev pub stored : Known Event → Option Prepared → ℕ → Option ℕ → ℕ → ℕ → Stored
-stored pass waiting room faults counted journal_length = record { pass = pass; waiting = waiting; room = room; faults = faults; counted = counted; journal_length = journal_length }
+abbrev pub stored : Watched Event → Option Prepared → ℕ → Option ℕ → ℕ → Journal → Stored
+stored watcher waiting room faults counted journal = record { watcher = watcher; waiting = waiting; room = room; faults = faults; counted = counted; journal_length = journal.length; epoch = journal.epoch }
 
 -- the commit of a prepared run, as the event that it is
 abbrev pub commit_of : Claimed → Finished → Prepared → Event
@@ -70,22 +76,49 @@ abbrev pub Waits : Opened → List Event → ℕ → Option Prepared → List Ev
 Waits o events places None tail = tail ≡ []
 Waits o events places (Some p) tail = (claimed : Claimed) × ((f : Finished) × WaitsFor o events places claimed f p tail)
 
--- since this moment each image recovers to the world after some first commits, or after all of them and then the tail's; and what is held does not fall
-pub record HasRecovered (o : Opened) (began : ℕ) (past : DiskHistory) (events tail : List Event) : Type 0 where
-  pub begun : began ≤ past.clock
-  pub recovers : RecoverSince (IsAfterSomeOrTail o events tail) began past
-  pub held : HeldNeverFalls began past
+-- Since the files had this past, what was stays; each image recovers to the world after some first commits, or after all of them and then the tail's; and what is held does not fall.
+pub record HasRecovered (o : Opened) (began past : DiskHistory) (events tail : List Event) : Type 0 where
+  pub begun : began.clock ≤ past.clock
+  pub kept : (t : ℕ) (side : Side) → t ≤ began.clock → past.disks t side ≡ began.disks t side
+  pub recovers : RecoverSince (IsAfterSomeOrTail o events tail) began.clock past
+  pub held : HeldNeverFalls began.clock past
 
--- a store stands on the home's files, and has this world
-pub record HoldsNow (past : DiskHistory) (journal : Journal) (d : DurableWorld) : Type 0 where
-  pub side : Side
+-- this game's store stands on the home's files, the journal on its side, and has this world
+pub record HoldsNow (past : DiskHistory) (game : List ℕ) (journal : Journal) (d : DurableWorld) : Type 0 where
   pub header : StoreHeader
   pub payloads : List (List ℕ)
-  pub store : HasStore past side journal header payloads d
+  pub ours : header.game ≡ game
+  pub store : HasStore past journal.side journal header payloads d
 
--- What the store keeps: its right counts the commits that its pass has seen; at every moment since this one what a stop leaves recovers to a beginning; and unless it is stopped
--- the files now recover to the world after all that the pass has seen, followed by the record that waits
-pub record IsStored (o : Opened) (began : ℕ) (tells : Bool) (past : DiskHistory) (opening : Opening) (journal : Journal) (front : List Event) (commits places : ℕ) (waiting : Option Prepared) (faults : Option ℕ) : Type 0 where
+-- the store that stands has the world after these events, behind a log of entries: each that is numbered behind the opened world's commits is of one of these events. It begins with as many commits as are known
+pub record HoldsLog (o : Opened) (events : List Event) (past : DiskHistory) (game : List ℕ) (journal : Journal) (base : Option ℕ) : Type 0 where
+  pub stands : HoldsNow past game journal (world_after o events).durable
+  pub first : DurableWorld
+  pub entries : List Entry
+  pub log : HasLog stands.header stands.payloads (world_after o events).durable first entries
+  pub known : (n : ℕ) → base ≡ Some n → first.commits ≡ n
+  pub of_commits : AreOfCommits o events entries
+
+-- the journal stands on this side, and its epoch is no less than the one that the store was opened with, which is this number; and no more commits come before its entries than there are numbers
+pub record IsKeptOn (side : Side) (journal : Journal) (base : Option ℕ) (begun first : ℕ) : Type 0 where
+  pub here : journal.side ≡ side
+  pub same : first ≡ begun
+  pub later : begun ≤ journal.epoch
+  pub most : (n : ℕ) → base ≡ Some n → n ≤ NUMBERS_END
+
+-- the home's count of faults, which was so much as the host was opened: it did not fall, and where the store is stopped it rose
+abbrev pub CountsOn : ℕ → Option ℕ → ℕ → Type 0
+CountsOn begun None now = begun ≤ now
+CountsOn begun (Some n) now = (before : ℕ) × ((begun ≤ before) × HasRisen before now)
+
+-- the home is the one that was handed in: how it was opened stays, and its faults are counted on
+pub record IsSameHome (begun : ℕ) (was : Opening) (faults : Option ℕ) (now : ℕ) (opening : Opening) : Type 0 where
+  pub counts : CountsOn begun faults now
+  pub same : opening ≡ was
+
+-- What the store keeps: its right counts the commits that its watcher has seen; at every moment since its files had this past what a stop leaves recovers to a beginning; and unless it is stopped
+-- the files now recover to the world after all that the watcher has seen, followed by the record that waits
+pub record IsStored (o : Opened) (began : DiskHistory) (tells : Bool) (past : DiskHistory) (opening : Opening) (game : List ℕ) (journal : Journal) (base : Option ℕ) (front : List Event) (commits places : ℕ) (waiting : Option Prepared) (faults : Option ℕ) : Type 0 where
   pub lawful : AreLawful o.rules
   pub legal : IsLegal o front
   pub counted : commits ≡ commits_of front
@@ -94,7 +127,7 @@ pub record IsStored (o : Opened) (began : ℕ) (tells : Bool) (past : DiskHistor
   pub tail : List Event
   pub waits : Waits o front places waiting tail
   pub since : IsTrue tells → HasRecovered o began past front tail
-  pub holds : IsTrue tells → faults ≡ None → HoldsNow past journal (world_after o (front ++ tail)).durable
+  pub holds : IsTrue tells → faults ≡ None → HoldsLog o (front ++ tail) past game journal base
 
 -- what a prepare of the store finds: the commit comes next, and its room is kept; or the first stale read
 abbrev pub FindsNext : Opened → List Event → Claimed → Finished → ℕ → Result PreparedCommit PrepareRefused → Type 0
@@ -110,11 +143,11 @@ LooksNext o events claimed f room (Err prepare_refused.NoMemory) = Unit {0}
 
 -- the commit of some run comes next, and its room is kept
 abbrev pub IsReady : Opened → Stored → Prepared → Type 0
-IsReady o s p = (claimed : Claimed) × ((f : Finished) × (IsNextCommit o s.pass.front claimed f p × (s.room ≡ places_of f.effects)))
+IsReady o s p = (claimed : Claimed) × ((f : Finished) × (IsNextCommit o s.watcher.front claimed f p × (s.room ≡ places_of f.effects)))
 
 -- the record of this run's commit waits
 abbrev pub WaitsOf : Opened → Stored → Claimed → Finished → Type 0
-WaitsOf o s claimed f = (p : Prepared) × ((s.waiting ≡ Some p) × (IsNextCommit o s.pass.front claimed f p × (s.room ≡ places_of f.effects)))
+WaitsOf o s claimed f = (p : Prepared) × ((s.waiting ≡ Some p) × (IsNextCommit o s.watcher.front claimed f p × (s.room ≡ places_of f.effects)))
 
 -- what an append leaves: at Ok the record waits; a full journal changes nothing; a fault of the disk stops the store, with its count
 abbrev pub Appends : Stored → Stored → Prepared → Result (Unit {0}) JournalRefused → Type 0
@@ -143,14 +176,24 @@ faults_after (Err (journal_refused.NotAStore at)) n = None
 faults_after (Err (journal_refused.Damaged at)) n = None
 faults_after (Err journal_refused.NoMemory) n = None
 
--- HOW A HOST ENDS: at every moment since this one what a stop leaves recovers to the world after some first commits of the history, or after all of them and then the tail's, and what
--- is held does not fall. Unless the store was stopped, the files now recover to the world after all events. No commit came since the tail was looked for
-pub record EndsAs (o : Opened) (began : ℕ) (past : DiskHistory) (events : List Event) (faults : Option ℕ) : Type 0 where
+-- nothing is pending on either file, and by the table a store of this epoch stands
+pub record StandsAs (past : DiskHistory) (epoch : ℕ) : Type 0 where
+  pub side : Side
+  pub header : StoreHeader
+  pub table : standing (now past Zero).reads (now past One).reads ≡ StandsOn side header
+  pub counted : epoch ≡ header.epoch
+  pub rests : AreSettled past
+
+-- HOW A HOST ENDS: at every moment since its files had this past what a stop leaves recovers to the world after some first commits of the history, or after all of them and then the tail's, and what
+-- is held does not fall. Unless the store was stopped there is no tail, the files now recover to the world after all events, and the store that stands has this epoch. No commit came since the tail was looked for
+pub record EndsAs (o : Opened) (began past : DiskHistory) (events : List Event) (faults : Option ℕ) (epoch : ℕ) : Type 0 where
   pub front : List Event
   pub later : List Event
   pub tail : List Event
   pub all : events ≡ front ++ later
   pub none : commits_of later ≡ 0
   pub is_tail : IsTail o front tail
+  pub whole : faults ≡ None → tail ≡ []
   pub since : HasRecovered o began past front tail
   pub now : faults ≡ None → AllRecover (IsWorld (world_after o events).durable) past past.clock
+  pub stands : faults ≡ None → StandsAs past epoch

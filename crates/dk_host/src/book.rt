@@ -1,8 +1,9 @@
 //! The value behind the world's lock.
 
+use crate::history::History;
 use crate::hosting::{CommitLedger, Hosting, PlaceLedger};
 use dk_core::Core;
-use dk_turn::{Book, GhostList};
+use dk_turn::Book;
 use dk_types::Event;
 use std::marker::Model;
 use std::sync::ledger;
@@ -12,7 +13,7 @@ use std::sync::ledger;
 #[derive(Drop)]
 pub struct WorldBook<W: Hosting> {
     pub(crate) core: Core,
-    pub(crate) events: GhostList<Event>,
+    pub(crate) history: History<W>,
     pub(crate) commits: ledger::Book<CommitLedger<W>>,
     pub(crate) places: ledger::Book<PlaceLedger<W>>,
 }
@@ -24,9 +25,9 @@ impl<W: Hosting> Model for WorldBook<W> {
 
     ghost Value = { List Event };
 
-    ghost view = { λ b. b.events };
+    ghost view = { λ b. b.history.events };
 
-    ghost invariant = { λ b. IsKept W.opened b.events b.core b.commits.total b.places.total };
+    ghost invariant = { λ b. IsKept W.opened b.history.events b.core b.commits.total b.places.total };
 }
 
 impl<W: Hosting> Book for WorldBook<W> {

@@ -1,17 +1,18 @@
 //! The calls by a pass.
-ghost use Rattle.std.specs.Prelude.{◌≡◌, ◌≤◌, ◌<◌, ◌∷◌, []};
+ghost use Rattle.std.specs.Prelude.{◌≡◌, ◌≤◌, ◌<◌, ◌∷◌, [], length, IsTrue, OnErr};
 ghost use Rattle.std.specs.List.{All};
 ghost use Rattle.dk_types.specs.declared.event.Event.TheVariants as event;
 ghost use Rattle.dk_model.specs.Lawful.{IsInput};
-ghost use Rattle.dk_model.specs.Legal.{pass_of};
+ghost use Rattle.dk_model.specs.Events.{is_open};
+ghost use Rattle.dk_model.specs.Legal.{pass_of, world_after};
 ghost use Rattle.dk_host.specs.Refusals.{IsBackAt, commit_events};
-ghost use Rattle.dk_host.specs.Calls.{AreShort, Entered, Grants, IsClaimOf, IsHonestAt, IsSpared, ReadsAt, claim_events, connect_events, hand_events, post_events};
+ghost use Rattle.dk_host.specs.Calls.{AreShort, Entered, Grants, IsClaimOf, IsHonestAt, IsSpared, ReadsAt, claim_events, connect_events, hand_events, post_events, tick_events};
 
 use crate::book::WorldBook;
 use crate::host::Host;
 use crate::hosting::Hosting;
 use crate::refused::CommitRefused;
-use crate::steps::{Claim, Connect, Hand, Post, ReadItem, Release, Tick};
+use crate::steps::{Claim, Connect, CountKept, Hand, Post, ReadItem, Release, Tick};
 use dk_core::{ClaimRefused, Claimed, ConnectRefused, Handed, PostRefused};
 use dk_disk::Home;
 use dk_turn::{Naming, Pass, Turn};
@@ -49,7 +50,8 @@ impl<W: Hosting, J: Naming, M: Home> Host<W, J, M> {
         self.world.with(rt, pass, Connect { name })
     }
 
-    /// Puts an input last in its connection's queue. A Disconnect takes no memory.
+    /// Puts an input last in its connection's queue. A Disconnect takes no memory, unless events are kept and it ends no
+    /// session, since the connection is not open.
     pub fn post<R: Wait>(
         &self,
         rt: &R,
@@ -60,7 +62,7 @@ impl<W: Hosting, J: Naming, M: Home> Host<W, J, M> {
         requires within { IsInput input }
         ensures number { pass.new.number ≡ pass.old.number }
         ensures entered { Entered W.opened pass.old.number (post_events pass.old.number conn input result) pass.old.front pass.new.front }
-        ensures spared { IsSpared input result }
+        ensures spared { IsSpared W.keeps (is_open (world_after W.opened pass.new.front) conn) input result }
         ensures named { All (λ e. pass_of e < J.name.passes) pass.new.front }
     {
         self.world.with(rt, pass, Post { conn, input })
@@ -122,13 +124,29 @@ impl<W: Hosting, J: Naming, M: Home> Host<W, J, M> {
         self.world.with(rt, pass, Hand { conn, most })
     }
 
-    /// Time goes on to a moment, in ms, and never back. It takes no memory.
-    pub fn tick<R: Wait>(&self, rt: &R, pass: &mut Pass<WorldBook<W>, J>, moment: u64)
+    /// Time goes on to a moment, in ms, and never back. It takes no memory unless events are kept.
+    pub fn tick<R: Wait>(
+        &self,
+        rt: &R,
+        pass: &mut Pass<WorldBook<W>, J>,
+        moment: u64,
+    ) -> Result<(), NoMemory>
         ensures number { pass.new.number ≡ pass.old.number }
-        ensures entered { Entered W.opened pass.old.number (event.Tick pass.old.number moment ∷ []) pass.old.front pass.new.front }
+        ensures entered { Entered W.opened pass.old.number (tick_events pass.old.number moment result) pass.old.front pass.new.front }
+        ensures only { OnErr result (IsTrue W.keeps) }
         ensures named { All (λ e. pass_of e < J.name.passes) pass.new.front }
     {
         self.world.with(rt, pass, Tick { moment })
+    }
+
+    /// How many events are kept: all that there are at the new front, where events are kept.
+    pub fn kept_count<R: Wait>(&self, rt: &R, pass: &mut Pass<WorldBook<W>, J>) -> u64
+        ensures number { pass.new.number ≡ pass.old.number }
+        ensures entered { Entered W.opened pass.old.number [] pass.old.front pass.new.front }
+        ensures count { IsTrue W.keeps → result ≡ length pass.new.front }
+        ensures named { All (λ e. pass_of e < J.name.passes) pass.new.front }
+    {
+        self.world.with(rt, pass, CountKept)
     }
 
     /// Commits a finished run where all its reads stand: first its record is on the disk, and then its event is entered.

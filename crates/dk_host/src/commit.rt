@@ -65,7 +65,7 @@ impl<W: Hosting, J: Naming, M: Home> CommitStore<W, J, M> {
     ) -> Result<u64, CommitRefused>
         requires none_waits { self.old.waiting ≡ None }
         requires running { self.old.faults ≡ None }
-        requires next { IsNextCommit W.opened self.old.pass.front claimed finished commit.prepared × (self.old.room ≡ places_of finished.effects) }
+        requires next { IsNextCommit W.opened self.old.watcher.front claimed finished commit.prepared × (self.old.room ≡ places_of finished.effects) }
         requires claim { IsClaimOf W.opened pass.old claimed }
         requires honest { IsHonestAt W.opened pass.old.front claimed finished }
         requires named { All (λ e. pass_of e < J.name.passes) pass.old.front }

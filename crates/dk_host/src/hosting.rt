@@ -1,17 +1,31 @@
 //! What tells one host from another.
-ghost use Rattle.std.specs.Prelude.{ℕ};
+ghost use Rattle.std.specs.Prelude.{ℕ, Bool, false};
+ghost use Rattle.dk_disk.specs.DiskHistories.{DiskHistory};
+ghost use Rattle.dk_disk.specs.Opening.{Opening, NotCalled};
 ghost use Rattle.dk_model.specs.Legal.{Opened};
-ghost use Rattle.dk_host.specs.Openings.{nothing_opened};
+ghost use Rattle.dk_host.specs.Openings.{nothing_opened, empty_files};
 
 use std::marker::{Brand, PhantomData};
 use std::sync::ledger::Ledger;
 
-/// What a host was opened with and when, and its two ledgers. A program picks it once, when it opens the host.
+/// What a host was opened with, on which files, and its two ledgers. A program picks it once, when it opens the host.
 pub trait Hosting {
     ghost opened: { Opened };
 
-    // The home's moment as it was opened.
-    ghost began: { ℕ };
+    // What its files were, up to the moment at which it was opened.
+    ghost began: { DiskHistory };
+
+    // The store's epoch as it was opened.
+    ghost first: { ℕ };
+
+    // How its home was opened.
+    ghost opening: { Opening };
+
+    // The home's count of faults as the host was opened.
+    ghost counted: { ℕ };
+
+    // Whether it keeps its events in memory.
+    ghost keeps: { Bool };
 
     // The name of the ledger of its commits.
     ghost commits: { ℕ };
@@ -23,7 +37,15 @@ pub trait Hosting {
 impl Hosting for Brand {
     ghost opened = { nothing_opened };
 
-    ghost began = { 0 };
+    ghost began = { empty_files };
+
+    ghost first = { 0 };
+
+    ghost opening = { NotCalled };
+
+    ghost counted = { 0 };
+
+    ghost keeps = { false };
 
     ghost commits = { 0 };
 

@@ -8,21 +8,30 @@
 
 mod book;
 mod calls;
+mod checkpointing;
 mod commit;
+mod entries;
+mod fault;
+mod history;
 mod host;
 mod hosting;
+mod keeping;
 mod look;
+mod opened;
 mod prepared;
 mod refused;
 mod right;
+mod standing;
 mod steps;
 mod store;
 
 pub use book::WorldBook;
-pub use host::{Closed, Host, OpenRefused};
+pub use fault::{OpenFault, OpenRefused};
+pub use host::{Closed, Host};
 pub use hosting::{CommitLedger, Hosting, PlaceLedger};
 pub use look::HostLook;
+pub use opened::{OpenedStore, open_store};
 pub use prepared::PreparedCommit;
-pub use refused::{CommitRefused, Why};
+pub use refused::{CheckpointRefused, CommitRefused, TailRefused, Why};
 pub use right::CommitRight;
 pub use store::CommitStore;

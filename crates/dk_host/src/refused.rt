@@ -1,15 +1,22 @@
-//! Why a commit is refused.
+//! Why a commit is refused, and why a checkpoint is.
+ghost use Rattle.std.specs.Prelude.{◌≡◌};
 ghost use Rattle.dk_journal.specs.Refusals.{IsAppendFault};
 ghost use Rattle.dk_host.specs.Refusals.{IsWhyOfAppend, IsWhyOfLook};
+ghost use Rattle.dk_host.specs.Checkpoints.{refusal_of};
+ghost use Rattle.dk_host.specs.Tails.{refusal_of as tail_of};
+ghost use Rattle.dk_host.specs.declared.refused.CheckpointRefused.TheVariants.{NoMemory as WantOfMemory};
 
+use dk_checkpoint::CheckpointRefused as NotWritten;
+use dk_commit_log::LogRefused;
 use dk_core::{Claimed, PrepareRefused};
 use dk_journal::JournalRefused;
-use dk_types::{Item, Seen};
+use dk_types::{Item, NoMemory, Seen};
 
 /// Why a run was not committed. The first cause in this order is told.
 #[derive(Debug, Drop, PartialEq, Eq)]
 pub enum Why {
-    /// The disk failed in an earlier commit, and `faults` was its count then. The store is to be opened again.
+    /// The disk failed in an earlier commit or checkpoint, and `faults` was its count then. The store is to be opened
+    /// again.
     Stopped { faults: u64 },
     /// A read no longer stands: the first in the order of the reads, with what it saw and what is seen now. The job is to
     /// be run again.
@@ -27,6 +34,70 @@ pub enum Why {
 pub struct CommitRefused {
     pub claimed: Claimed,
     pub why: Why,
+}
+
+/// Why a store was not written anew. The first cause in this order is told. But for `DiskFault`, nothing was written.
+#[derive(Clone, Copy, Debug, Drop, PartialEq, Eq)]
+pub enum CheckpointRefused {
+    /// The disk failed in an earlier commit or checkpoint, and `faults` was its count then.
+    Stopped { faults: u64 },
+    /// The disk failed in this call. The host commits no more.
+    DiskFault,
+    /// The image would have this length, in bytes, which 32 bits do not hold.
+    TooLarge { length: u64 },
+    /// The store was written anew as often as its header can count.
+    EpochEnd { epoch: u64 },
+    /// There was no memory.
+    NoMemory,
+}
+
+impl From<NoMemory> for CheckpointRefused {
+    ghost from_gives = { λ _ refused. refused ≡ WantOfMemory };
+
+    fn from(_: NoMemory) -> CheckpointRefused {
+        CheckpointRefused::NoMemory
+    }
+}
+
+impl From<NotWritten> for CheckpointRefused {
+    ghost from_gives = { λ not_written refused. refused ≡ refusal_of not_written };
+
+    fn from(refused: NotWritten) -> CheckpointRefused {
+        match refused {
+            NotWritten::DiskFault => CheckpointRefused::DiskFault,
+            NotWritten::TooLarge { length } => CheckpointRefused::TooLarge { length },
+            NotWritten::EpochEnd { epoch } => CheckpointRefused::EpochEnd { epoch },
+            NotWritten::NoMemory => CheckpointRefused::NoMemory,
+        }
+    }
+}
+
+/// Why commits were not read back. The first cause in this order is told. Nothing was written.
+#[derive(Clone, Copy, Debug, Drop, PartialEq, Eq)]
+pub enum TailRefused {
+    /// The disk failed in an earlier commit or checkpoint, and `faults` was its count then.
+    Stopped { faults: u64 },
+    /// The journal begins with the entry of this number.
+    Older { first: u64 },
+    /// The disk failed in this call. The host goes on.
+    DiskFault,
+    /// There was no memory.
+    NoMemory,
+    /// What stands at this place of the file is no record of the commits that should come next. A home that tells its
+    /// content never has such.
+    Damaged { at: u64 },
+}
+
+impl From<LogRefused> for TailRefused {
+    ghost from_gives = { λ log refused. refused ≡ tail_of log };
+
+    fn from(refused: LogRefused) -> TailRefused {
+        match refused {
+            LogRefused::DiskFault => TailRefused::DiskFault,
+            LogRefused::NoMemory => TailRefused::NoMemory,
+            LogRefused::Damaged { at } => TailRefused::Damaged { at },
+        }
+    }
 }
 
 pub(crate) fn why_of_look(refused: PrepareRefused) -> Why

@@ -2,12 +2,14 @@
 
 mod commits;
 mod connections;
+mod copies;
 mod events;
 mod runs;
 
 pub(crate) use commits::{Prepare, Publish};
 pub(crate) use connections::{Connect, Hand, Post};
-pub(crate) use events::{ReadItem, Tick};
+pub(crate) use copies::{CopyLast, CopyWorld, CountLast, Glance};
+pub(crate) use events::{CountKept, ReadItem, Tick};
 pub(crate) use runs::{Claim, Release};
 
 /// A call by a pass: what was asked, and what was answered.

@@ -1,5 +1,5 @@
 //! The store behind the commit lock.
-ghost use Rattle.std.specs.Prelude.{◌≡◌, ◌<◌, ◌^◌, ◌↔◌, ◌+◌, ℕ, min, None, [], ◌∷◌, length, IsErrOf, IsTrue};
+ghost use Rattle.std.specs.Prelude.{◌≡◌, ◌<◌, ◌^◌, ◌↔◌, ◌+◌, ℕ, min, None, Some, [], ◌∷◌, length, IsErrOf, IsTrue};
 ghost use Rattle.std.specs.List.{All};
 ghost use Rattle.dk_types.specs.Faults.{COUNT_END};
 ghost use Rattle.dk_types.specs.declared.event.Event.TheVariants as event;
@@ -20,20 +20,28 @@ use crate::steps::{Prepare, Publish};
 use dk_core::{Claimed, PrepareRefused, Prepared};
 use dk_disk::Home;
 use dk_journal::{Journal, JournalRefused};
-use dk_turn::{Naming, Pass, Turn};
+use dk_turn::{Naming, Pass, Turn, Watcher};
 use dk_txn::Finished;
+use dk_types::{GameId, Side};
 use std::alloc::Global;
 use std::marker::Model;
 use std::sync::Wait;
 
-/// The journal and its home, with a pass that has seen just the commits that are stored, and the record that waits to be
-/// published. Unless it is stopped, the files recover to the world after all that its pass has seen, followed by that
+/// The journal and its home, with a watcher that has seen just the commits that are stored, and the record that waits to be
+/// published. Unless it is stopped, the files recover to the world after all that its watcher has seen, followed by that
 /// record.
 #[derive(Drop)]
 pub struct CommitStore<W: Hosting, J: Naming, M: Home> {
     pub(crate) home: M,
+    pub(crate) game: GameId,
+    // The side that the journal stands on.
+    pub(crate) side: Side,
     pub(crate) journal: Journal,
-    pub(crate) pass: Pass<WorldBook<W>, J>,
+    // The epoch of the store as it was opened.
+    pub(crate) first: u64,
+    // How many commits come before the journal's entries: those of its image, once they are known.
+    pub(crate) base: Option<u64>,
+    pub(crate) watcher: Watcher<WorldBook<W>, J>,
     pub(crate) right: CommitRight<W>,
     // Where the store is stopped, the one whose record the disk did not take.
     pub(crate) waiting: Option<Prepared>,
@@ -44,15 +52,17 @@ pub struct CommitStore<W: Hosting, J: Naming, M: Home> {
 
 impl<W: Hosting, J: Naming, M: Home> Model for CommitStore<W, J, M> {
     ghost use Rattle.std.specs.Prelude.{◌≡◌};
-    ghost use Rattle.dk_host.specs.Stores.{Stored, stored, IsStored};
+    ghost use Rattle.dk_host.specs.Stores.{Stored, stored, IsKeptOn, IsSameHome, IsStored};
 
     ghost Value = { Stored };
 
-    ghost view = { λ s. stored s.pass s.waiting s.right.places.amount s.faults (M.counted s.home) s.journal.length };
+    ghost view = { λ s. stored s.watcher s.waiting s.right.places.amount s.faults (M.counted s.home) s.journal };
 
     ghost invariant = { λ s. (s.right.commits.parts ≡ 1)
         × (s.right.places.parts ≡ 1)
-        × IsStored W.opened W.began M.tells (M.past s.home) (M.opening s.home) s.journal s.pass.front s.right.commits.amount s.right.places.amount s.waiting s.faults };
+        × IsKeptOn s.side s.journal s.base W.first s.first
+        × IsStored W.opened W.began M.tells (M.past s.home) (M.opening s.home) s.game s.journal s.base s.watcher.front s.right.commits.amount s.right.places.amount s.waiting s.faults
+        × IsSameHome W.counted W.opening s.faults (M.counted s.home) (M.opening s.home) };
 }
 
 // What waits after an append, and the kept count of faults where it stopped the store.
@@ -70,29 +80,47 @@ fn settle(
     }
 }
 
+// How many commits come before the entries of a journal of this epoch, if no image has to tell it.
+fn base_of(epoch: u64) -> Option<u64>
+    ensures { (n : ℕ) → result ≡ Some n → (n ≡ 0) × (epoch ≡ 0) }
+{
+    if epoch == 0 { Some(0) } else { None }
+}
+
 impl<W: Hosting, J: Naming, M: Home> CommitStore<W, J, M> {
-    // A store whose pass has seen nothing.
+    // A store whose watcher has seen nothing.
     pub(crate) fn new(
         home: M,
+        game: GameId,
+        side: Side,
         journal: Journal,
-        pass: Pass<WorldBook<W>, J>,
+        watcher: Watcher<WorldBook<W>, J>,
         right: CommitRight<W>,
         alloc: Global,
     ) -> CommitStore<W, J, M>
         requires lawful { AreLawful W.opened.rules }
         requires valid { IsValid W.opened.durable }
-        requires pass { pass.front ≡ [] }
+        requires watcher { watcher.front ≡ [] }
         requires right { (right.commits.parts ≡ 1) × (right.places.parts ≡ 1) × (right.commits.amount ≡ 0) }
         requires is_open { IsOpen (M.opening home) }
+        requires here { journal.side ≡ side }
+        requires first { journal.epoch ≡ W.first }
+        requires opening { M.opening home ≡ W.opening }
+        requires counted { M.counted home ≡ W.counted }
         requires format { journal.format ≡ 2 }
-        requires holds { IsTrue M.tells → HoldsNow (M.past home) journal W.opened.durable }
+        requires holds { IsTrue M.tells → HoldsNow (M.past home) game journal W.opened.durable }
         requires since { IsTrue M.tells → HasRecovered W.opened W.began (M.past home) [] [] }
         ensures free { IsFree result }
     {
+        let first = journal.epoch();
         CommitStore {
             home,
+            game,
+            side,
             journal,
-            pass,
+            first,
+            base: base_of(first),
+            watcher,
             right,
             waiting: None,
             faults: None,
@@ -114,10 +142,10 @@ impl<W: Hosting, J: Naming, M: Home> CommitStore<W, J, M> {
         requires honest { IsHonestAt W.opened pass.old.front claimed.now finished.now }
         ensures number { pass.new.number ≡ pass.old.number }
         ensures entered { Entered W.opened pass.old.number [] pass.old.front pass.new.front }
-        ensures same { self.new.pass.front ≡ pass.new.front }
+        ensures same { self.new.watcher.front ≡ pass.new.front }
         ensures finds { FindsNext W.opened pass.new.front claimed.now finished.now self.new.room result }
         ensures none_waits { self.new.waiting ≡ None }
-        ensures faults { (self.new.faults ≡ self.old.faults) × (self.new.counted ≡ self.old.counted) × (self.new.journal_length ≡ self.old.journal_length) }
+        ensures faults { (self.new.faults ≡ self.old.faults) × (self.new.counted ≡ self.old.counted) × (self.new.journal_length ≡ self.old.journal_length) × (self.new.epoch ≡ self.old.epoch) }
         ensures named { All (λ e. pass_of e < J.name.passes) pass.new.front }
     {
         let result = self.look(rt, world, pass, claimed, finished);
@@ -137,17 +165,17 @@ impl<W: Hosting, J: Naming, M: Home> CommitStore<W, J, M> {
         requires honest { IsHonestAt W.opened pass.old.front claimed.now finished.now }
         ensures number { pass.new.number ≡ pass.old.number }
         ensures entered { Entered W.opened pass.old.number [] pass.old.front pass.new.front }
-        ensures same { self.new.pass.front ≡ pass.new.front }
+        ensures same { self.new.watcher.front ≡ pass.new.front }
         ensures finds { LooksNext W.opened pass.new.front claimed.now finished.now self.new.room result }
         ensures none_waits { self.new.waiting ≡ None }
-        ensures faults { (self.new.faults ≡ self.old.faults) × (self.new.counted ≡ self.old.counted) × (self.new.journal_length ≡ self.old.journal_length) }
+        ensures faults { (self.new.faults ≡ self.old.faults) × (self.new.counted ≡ self.old.counted) × (self.new.journal_length ≡ self.old.journal_length) × (self.new.epoch ≡ self.old.epoch) }
         ensures named { All (λ e. pass_of e < J.name.passes) pass.new.front }
     {
         let right = self.right.lend();
-        let (right, result) = world.with_both(
+        let (right, result) = world.with_watcher(
             rt,
             pass,
-            &mut self.pass,
+            &mut self.watcher,
             Prepare {
                 claimed,
                 finished,
@@ -164,7 +192,7 @@ impl<W: Hosting, J: Naming, M: Home> CommitStore<W, J, M> {
         requires none_waits { self.old.waiting ≡ None }
         requires running { self.old.faults ≡ None }
         requires ready { IsReady W.opened self.old commit.prepared }
-        ensures pass { (self.new.pass ≡ self.old.pass) × (self.new.room ≡ self.old.room) }
+        ensures watcher { (self.new.watcher ≡ self.old.watcher) × (self.new.room ≡ self.old.room) × (self.new.epoch ≡ self.old.epoch) }
         ensures appends { Appends self.old self.new commit.prepared result }
         ensures full { (n : ℕ) → IsErrOf result (Full n) ↔ ((n ≡ min (self.old.journal_length + (5 + length commit.payload)) COUNT_END) × (2 ^ 40 < n)) }
     {
@@ -190,19 +218,19 @@ impl<W: Hosting, J: Naming, M: Home> CommitStore<W, J, M> {
         requires honest { IsHonestAt W.opened pass.old.front claimed finished }
         ensures number { pass.new.number ≡ pass.old.number }
         ensures entered { Entered W.opened pass.old.number (event.Commit pass.old.number claimed.run result finished.outcome ∷ []) pass.old.front pass.new.front }
-        ensures same { self.new.pass.front ≡ pass.new.front }
+        ensures same { self.new.watcher.front ≡ pass.new.front }
         ensures none_waits { self.new.waiting ≡ None }
-        ensures faults { (self.new.faults ≡ self.old.faults) × (self.new.counted ≡ self.old.counted) }
+        ensures faults { (self.new.faults ≡ self.old.faults) × (self.new.counted ≡ self.old.counted) × (self.new.epoch ≡ self.old.epoch) }
         ensures named { All (λ e. pass_of e < J.name.passes) pass.new.front }
     {
         let Some(prepared) = self.waiting.take() else {
             return 0;
         };
         let right = self.right.lend();
-        let (right, seq) = world.with_both(
+        let (right, seq) = world.with_watcher(
             rt,
             pass,
-            &mut self.pass,
+            &mut self.watcher,
             Publish {
                 claimed,
                 finished,

@@ -224,3 +224,7 @@ module _ (header : StoreHeader) (behind : List ℕ) (spelled : behind ≡ header
 pub not_begun : (header : List ℕ) (side : Side) (past : DiskHistory) → IsReady side past → length (now past side).reads ≤ 65 → Runs side (IsNewOrEmpty header) past past
 not_begun header side past ready short =
     begun side (IsNewOrEmpty header) past (λ image left. inl (subst (IsBlankUpTo 65) (sym (settled_only (now past side).reads image (subst (λ (d : Disk). IsImage d image) ready.settled left))) (ready.blank, short)))
+
+-- and some image is there while it is made
+pub some_while : (side : Side) (most : ℕ) (this : List ℕ) (old new : DiskHistory) → Runs side (AreBlankOr most this) old new → Runs side HasSome old new
+some_while side most this old new run = weakened side (AreBlankOr most this) HasSome old new (λ d are. are.1) run

@@ -123,6 +123,17 @@ impl Outbox {
         }
     }
 
+    /// Copies of the first messages, `most` of them or all. They stay.
+    pub fn copy_first(&self, most: u32) -> Result<Listed<Out>, NoMemory>
+        ensures { IfOk result (λ copies. copies ≡ take most self.now.outs) }
+    {
+        let mut copies = Vec::new(self.alloc);
+        for out in self.outs.iter().take(most as usize) {
+            copies.push(copy_of(out)?)?;
+        }
+        Ok(Listed::from_vec(copies))
+    }
+
     /// Takes the first messages off, `most` of them or all. Its list alone takes memory; refused, it changes nothing.
     pub fn hand(&mut self, most: u32) -> Result<Listed<Out>, NoMemory>
         ensures handed { IfOk result (λ handed. handed ≡ take most self.old.outs) }
@@ -134,6 +145,13 @@ impl Outbox {
         let handed = take_front(&mut self.outs, self.alloc, count)?;
         Ok(Listed::from_vec(handed))
     }
+}
+
+/// A copy of a message.
+fn copy_of(out: &Out) -> Result<Out, NoMemory>
+    ensures { IfOk result (λ copy. copy ≡ out.now) }
+{
+    Ok(out.clone()?)
 }
 
 /// Adds rooms until there are `most`. Where memory is refused there are as many as before.

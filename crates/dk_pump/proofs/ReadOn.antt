@@ -1,5 +1,5 @@
 -- A session's reading goes on from piece to piece, and comes to its end.
-use Rattle.std.proofs.Common.{◌≡◌, ℕ, List, [], ◌∷◌, ◌++◌, Option, Ok, Err, refl, sym, ap, subst, ◌∙◌, append_assoc}
+use Rattle.std.proofs.Common.{◌≡◌, ℕ, Bool, List, [], ◌∷◌, ◌++◌, Option, Ok, Err, refl, sym, ap, subst, ◌∙◌, append_assoc}
 use Rattle.std.proofs.lemmas.List.{append-nil}
 use Rattle.std.specs.Io.KnownBytes.{Consumes}
 use Rattle.dk_types.specs.declared.number.ConnNo.{ConnNo}
@@ -243,7 +243,7 @@ module _ (o : Opened) (count pass : ℕ) (conn : ConnNo) (rest : List Frame) whe
     }
 
 -- reading, and then its Disconnect
-pub reads_session : (o : Opened) (count pass : ℕ) (conn : ConnNo) (rest : List Frame) (end : SessionEnd) (left left' : Option (List ℕ)) (old new : Decoding) (counted counted' : ℕ) (front mid front' : List Event)
-    → ReadsTo o count pass conn end rest left left' old new counted counted' front mid → IsClosed o count pass conn end mid front' → ReadsSession o count pass conn end rest left left' old new counted counted' front front'
+pub reads_session : {keeps : Bool} (o : Opened) (count pass : ℕ) (conn : ConnNo) (rest : List Frame) (end : SessionEnd) (left left' : Option (List ℕ)) (old new : Decoding) (counted counted' : ℕ) (front mid front' : List Event)
+    → ReadsTo o count pass conn end rest left left' old new counted counted' front mid → IsClosed o keeps count pass conn end mid front' → ReadsSession o keeps count pass conn end rest left left' old new counted counted' front front'
 reads_session o count pass conn rest end left left' old new counted counted' front mid front' r d =
     record { mid = mid; closing = d.events; reads = r; closes = d.closes; enters = enters_then o count pass r.events d.events front mid front' r.enters d.enters }

@@ -1,10 +1,11 @@
 -- A session's writing goes on from Hand to Hand, and comes to its end.
-use Rattle.std.proofs.Common.{◌≡◌, ◌&&◌, ◌||◌, ℕ, ◌+◌, ◌<◌, Bool, true, false, cond, List, [], ◌∷◌, ◌++◌, length, take, drop, get_or, Option, Some, None, is_none, if◌then◌else◌, refl, sym, ap, subst, ◌∙◌, append_assoc, length-append, arith}
+use Rattle.std.proofs.Common.{◌≡◌, ◌&&◌, ◌||◌, ℕ, ◌+◌, ◌<◌, Bool, true, false, cond, inl, inr, List, [], ◌∷◌, ◌++◌, length, take, drop, get_or, Option, Some, None, is_none, if◌then◌else◌, refl, sym, ap, subst, ◌∙◌, append_assoc, length-append, arith}
 use Rattle.std.proofs.lemmas.List.{append-nil, take-append-le, take_all, take-append-drop, drop_more}
 use Rattle.std.proofs.lemmas.List.Concat.{flat_map-append}
 use Rattle.std.proofs.lemmas.List.Folds.{list_any-append}
 use Rattle.std.proofs.Math.Seq.{take-append-add}
 use Rattle.std.specs.List.{list_any}
+use mathlib.Core.List.{IsPrefix}
 use Rattle.std.specs.Io.KnownBytes.{Appends}
 use Rattle.dk_types.specs.Faults.{HasRisen}
 use Rattle.dk_types.specs.declared.number.ConnNo.{ConnNo}
@@ -28,7 +29,7 @@ use Rattle.dk_host.specs.Calls.{Entered}
 use Rattle.dk_pump.specs.declared.ends.WriteEnd.{WriteEnd}
 use Rattle.dk_pump.specs.declared.ends.WriteEnd.TheVariants as ends
 use Rattle.dk_pump.specs.Passes.{Enters}
-use Rattle.dk_pump.specs.Reading.{IsDisconnect, Disconnects}
+use Rattle.dk_pump.specs.Reading.{EndsSession, Disconnects}
 use Rattle.dk_pump.specs.Writing.{frames_of, IsHand, AreHands, tells_end, hands_to, IsGivenUp, WritesSession, IsWriting, EndsHands, HandsOn}
 use Rattle.dk_pump.proofs.Entering.{enters_none, enters_then}
 use Rattle.dk_pump.proofs.Streams.{appends_none, appends_then}
@@ -102,12 +103,17 @@ told_one pass conn most outs false = ap (λ b. (b && false) || false) (itself co
 pub hands-append : (pass : ℕ) (conn : ConnNo) (events later : List Event) → AreHands pass conn events → AreHands pass conn later → AreHands pass conn (events ++ later)
 hands-append pass conn events later first second = all_append (IsHand pass conn) events later first second
 
--- a Disconnect hands nothing
-pub disconnect_hands : (pass : ℕ) (conn : ConnNo) (e : Event) (later : List Event) → IsDisconnect pass conn false e → handed (e ∷ later) conn ≡ handed later conn
-disconnect_hands pass conn e later d = ap (λ x. handed_by conn x ++ handed later conn) d.is
+-- the end of a session tells of no hand
+pub ending_tells : (o : Opened) (keeps : Bool) (pass : ℕ) (conn : ConnNo) (front closing later : List Event) → EndsSession o keeps pass conn false front closing → list_any (tells_end conn) (closing ++ later) ≡ list_any (tells_end conn) later
+ending_tells o keeps pass conn front closing later (inl d) = ap (λ es. list_any (tells_end conn) (es ++ later)) d.1 ∙ ap (λ x. tells_end conn x || list_any (tells_end conn) later) d.2.is
+ending_tells o keeps pass conn front closing later (inr d) = ap (λ es. list_any (tells_end conn) (es ++ later)) d.0
 
-pub disconnect_tells : (pass : ℕ) (conn : ConnNo) (e : Event) (later : List Event) → IsDisconnect pass conn false e → list_any (tells_end conn) (e ∷ later) ≡ list_any (tells_end conn) later
-disconnect_tells pass conn e later d = ap (λ x. tells_end conn x || list_any (tells_end conn) later) d.is
+-- what ended a session at a front ended it for every front that goes on from there
+pub ended_on : (o : Opened) (keeps : Bool) (pass : ℕ) (conn : ConnNo) (front front' closing : List Event) → IsPrefix front front' → EndsSession o keeps pass conn false front closing → EndsSession o keeps pass conn false front' closing
+ended_on o keeps pass conn front front' closing on (inl d) = inl d
+ended_on o keeps pass conn front front' closing on (inr d) =
+    let was = d.1.1 in
+    inr (d.0, (d.1.0, record { at = was.at; seen = (was.seen.0 ++ on.0, sym (append_assoc was.at was.seen.0 on.0) ∙ (ap (λ es. es ++ on.0) was.seen.1 ∙ on.1)); shut = was.shut }))
 
 -- what was handed was handed by Hands
 handed_by_hands : (conn : ConnNo) (events : List Event) → handed events conn ≡ handed (hands_to conn events) conn
@@ -219,30 +225,30 @@ module _ (o : Opened) (count pass : ℕ) (conn : ConnNo) where
         part_with : (more : List ℕ) → AppendsPrefix a c (frames_of (handed with_hand conn) ++ more)
         part_with more = part_wider a c _ more (subst (AppendsPrefix a c) (sym frames_with) (part_then a b c _ _ w.put put))
 
-        pub gives_up : (counted' : ℕ) (front' : List Event) → Disconnects o count pass conn false mid front' → WritesSession o count pass conn ends.NoMemory a c counted counted' front front'
+        pub gives_up : {keeps : Bool} (counted' : ℕ) (front' : List Event) → Disconnects o keeps count pass conn false mid front' → WritesSession o keeps count pass conn ends.NoMemory a c counted counted' front front'
         gives_up counted' front' d = record {
           events = with_hand ++ d.events;
-          is = record { before = with_hand; disconnect = d.one.0; after = []; parts = ap (λ es. with_hand ++ es) d.one.1; hands_before = hands_with; hands_after = tt; is = d.one.2 };
+          is = record { before = with_hand; closing = d.events; after = []; parts = ap (λ es. with_hand ++ es) (sym (append-nil d.events)); hands_before = hands_with; hands_after = tt; ends = d.ends };
           put = subst (λ bs. AppendsPrefix a c bs) (sym (ap frames_of (handed-append with_hand d.events conn) ∙ frames_of-append (handed with_hand conn) (handed d.events conn))) (part_with (frames_of (handed d.events conn)));
           counts = tt;
           all = tt;
           enters = enters_then o count pass with_hand d.events front mid front' enters_with d.enters;
         }
 
-        by_end : (r : WriteEnd) (all later : List Event) (counted' : ℕ) (front' : List Event) → IsGivenUp pass conn all → AppendsPrefix a c (frames_of (handed all conn)) → HasRisen counted counted' → Enters o count pass all front front'
-            → list_any (tells_end conn) all ≡ (list_any (tells_end conn) w.events || (end || list_any (tells_end conn) later)) → EndsHands conn end r later → WritesSession o count pass conn r a c counted counted' front front'
+        by_end : {keeps : Bool} (r : WriteEnd) (all later : List Event) (counted' : ℕ) (front' : List Event) → IsGivenUp o keeps pass conn front' all → AppendsPrefix a c (frames_of (handed all conn)) → HasRisen counted counted' → Enters o count pass all front front'
+            → list_any (tells_end conn) all ≡ (list_any (tells_end conn) w.events || (end || list_any (tells_end conn) later)) → EndsHands conn end r later → WritesSession o keeps count pass conn r a c counted counted' front front'
         by_end ends.Done all later n front' given part risen enters told ended = absurd ended
         by_end ends.WriteFault all later n front' given part risen enters told ended =
             record { events = all; is = (given, told ∙ or_right (list_any (tells_end conn) w.events) _ ended); put = part; counts = risen; all = tt; enters = enters }
         by_end ends.NoMemory all later n front' given part risen enters told ended = record { events = all; is = given; put = part; counts = tt; all = tt; enters = enters }
 
         -- and what was handed on was not put
-        pub goes_without : (result : WriteEnd) (counted' : ℕ) (between front' : List Event) → HasRisen counted counted' → Disconnects o count pass conn false mid between → HandsOn o count pass conn end result between front'
-            → WritesSession o count pass conn result a c counted counted' front front'
-        goes_without result counted' between front' risen d h =
+        pub goes_without : {keeps : Bool} (result : WriteEnd) (counted' : ℕ) (between front' : List Event) → HasRisen counted counted' → Disconnects o keeps count pass conn false mid between → HandsOn o count pass conn end result between front'
+            → WritesSession o keeps count pass conn result a c counted counted' front front'
+        goes_without {keeps = keeps} result counted' between front' risen d h =
             let all = with_hand ++ (d.events ++ h.events) in
-            let spelled : d.events ++ h.events ≡ d.one.0 ∷ h.events = ap (λ es. es ++ h.events) d.one.1 in
-            let given : IsGivenUp pass conn all = record { before = with_hand; disconnect = d.one.0; after = h.events; parts = ap (λ es. with_hand ++ es) spelled; hands_before = hands_with; hands_after = h.hands; is = d.one.2 } in
+            let given : IsGivenUp o keeps pass conn front' all =
+            record { before = with_hand; closing = d.events; after = h.events; parts = refl; hands_before = hands_with; hands_after = h.hands; ends = ended_on o keeps pass conn between front' d.events h.enters.begins d.ends } in
             let part : AppendsPrefix a c (frames_of (handed all conn)) =
             subst (λ bs. AppendsPrefix a c bs) (sym (ap frames_of (handed-append with_hand (d.events ++ h.events) conn) ∙ frames_of-append (handed with_hand conn) (handed (d.events ++ h.events) conn)))
             (part_with (frames_of (handed (d.events ++ h.events) conn))) in
@@ -250,13 +256,13 @@ module _ (o : Opened) (count pass : ℕ) (conn : ConnNo) where
             let told : list_any (tells_end conn) all ≡ (list_any (tells_end conn) w.events || (end || list_any (tells_end conn) h.events)) =
             list_any-append (tells_end conn) with_hand (d.events ++ h.events)
             ∙ ap (λ b. b || list_any (tells_end conn) (d.events ++ h.events)) (list_any-append (tells_end conn) w.events _ ∙ ap (λ b. list_any (tells_end conn) w.events || b) (told_one pass conn most outs end))
-            ∙ ap (λ b. (list_any (tells_end conn) w.events || end) || b) (ap (list_any (tells_end conn)) spelled ∙ disconnect_tells pass conn d.one.0 h.events d.one.2)
+            ∙ ap (λ b. (list_any (tells_end conn) w.events || end) || b) (ending_tells o keeps pass conn between d.events h.events d.ends)
             ∙ or_assoc (list_any (tells_end conn) w.events) end (list_any (tells_end conn) h.events) in
             by_end result all h.events counted' front' given part risen enters told h.ends
 
     -- the Hand told that the connection is gone, and its frames were put
-    pub writing_done : (most : ℕ) (outs : List Out) (c : Option (List ℕ)) (counted' : ℕ) (front' : List Event) → Entered o pass (event.Hand pass conn most outs true ∷ []) at front' → Enters o count pass (event.Hand pass conn most outs true ∷ []) at front'
-        → Appends b c (frames_of outs) → counted' ≡ counted_at → WritesSession o count pass conn ends.Done a c counted counted' front front'
+    pub writing_done : {keeps : Bool} (most : ℕ) (outs : List Out) (c : Option (List ℕ)) (counted' : ℕ) (front' : List Event) → Entered o pass (event.Hand pass conn most outs true ∷ []) at front' → Enters o count pass (event.Hand pass conn most outs true ∷ []) at front'
+        → Appends b c (frames_of outs) → counted' ≡ counted_at → WritesSession o keeps count pass conn ends.Done a c counted counted' front front'
     writing_done most outs c counted' front' entered e put same =
         let events = with_hand most outs true front' e in
         record {
@@ -269,10 +275,10 @@ module _ (o : Opened) (count pass : ℕ) (conn : ConnNo) where
         }
 
     -- nothing more was handed
-    pub gives_up_early : (mid front' : List Event) → Enters o count pass [] at mid → Disconnects o count pass conn false mid front' → WritesSession o count pass conn ends.NoMemory a b counted counted_at front front'
+    pub gives_up_early : {keeps : Bool} (mid front' : List Event) → Enters o count pass [] at mid → Disconnects o keeps count pass conn false mid front' → WritesSession o keeps count pass conn ends.NoMemory a b counted counted_at front front'
     gives_up_early mid front' none d = record {
       events = w.events ++ d.events;
-      is = record { before = w.events; disconnect = d.one.0; after = []; parts = ap (λ es. w.events ++ es) d.one.1; hands_before = w.hands; hands_after = tt; is = d.one.2 };
+      is = record { before = w.events; closing = d.events; after = []; parts = ap (λ es. w.events ++ es) (sym (append-nil d.events)); hands_before = w.hands; hands_after = tt; ends = d.ends };
       put = subst (λ bs. AppendsPrefix a b bs) (sym (ap frames_of (handed-append w.events d.events conn) ∙ frames_of-append (handed w.events conn) (handed d.events conn))) (part_of_more a b _ _ w.put);
       counts = tt;
       all = tt;

@@ -2,8 +2,9 @@
 --
 -- A session's stream is what its source gave. The decoder stands for it: `HasDecoded` says which whole frames it begins
 -- with and what follows them. Everything that a session enters is told by these frames.
-use Rattle.std.specs.Prelude.{◌≡◌, ℕ, ◌<◌, ◌≤◌, Bool, true, false, List, [], ◌∷◌, ◌++◌, map, Option, Some, None, Result, Ok, Err}
+use Rattle.std.specs.Prelude.{◌≡◌, ◌⊎◌, ℕ, ◌<◌, ◌≤◌, Bool, true, false, List, [], ◌∷◌, ◌++◌, map, Option, Some, None, Result, Ok, Err}
 use Rattle.std.specs.List.{flat_map}
+use mathlib.Core.List.{IsPrefix}
 use Rattle.std.specs.Io.KnownBytes.{Consumes}
 use Rattle.dk_types.specs.Faults.{HasRisen}
 use Rattle.dk_types.specs.declared.number.ConnNo.{ConnNo}
@@ -16,7 +17,8 @@ use Rattle.dk_types.specs.declared.event.PostReply.{PostReply}
 use Rattle.dk_types.specs.declared.event.PostReply.TheVariants as posted
 use Rattle.dk_model.specs.Frames.{Frame, Login, Message, Channel, Logout, InSession, Nothing, Begun, Bad, stage_behind, stage_after}
 use Rattle.dk_model.specs.Lawful.{IsInput}
-use Rattle.dk_model.specs.Legal.{Opened}
+use Rattle.dk_model.specs.Events.{is_open}
+use Rattle.dk_model.specs.Legal.{Opened, world_after}
 use Rattle.dk_connections.specs.declared.answers.PostRefused.{PostRefused}
 use Rattle.dk_connections.specs.declared.answers.PostRefused.TheVariants as refused
 use Rattle.dk_frame.specs.Meanings.{frame_of, fault_of}
@@ -261,28 +263,38 @@ pub record IsDisconnect (pass : ℕ) (conn : ConnNo) (graceful : Bool) (e : Even
 abbrev pub IsOneDisconnect : ℕ → ConnNo → Bool → List Event → Type 0
 IsOneDisconnect pass conn graceful events = (e : Event) × (events ≡ e ∷ []) × IsDisconnect pass conn graceful e
 
+-- the connection was not open at a time that the front has seen
+pub record WasShut (o : Opened) (conn : ConnNo) (front : List Event) : Type 0 where
+  pub at : List Event
+  pub seen : IsPrefix at front
+  pub shut : is_open (world_after o at) conn ≡ false
+
+-- a session ends by one Disconnect; where events are kept it may be none, since there was no memory to keep it, but the connection was closed then
+abbrev pub EndsSession : Opened → Bool → ℕ → ConnNo → Bool → List Event → List Event → Type 0
+EndsSession o keeps pass conn graceful front events = IsOneDisconnect pass conn graceful events ⊎ ((events ≡ []) × ((keeps ≡ true) × WasShut o conn front))
+
 -- the pass entered that, and no more
-pub record Disconnects (o : Opened) (count pass : ℕ) (conn : ConnNo) (graceful : Bool) (front front' : List Event) : Type 0 where
+pub record Disconnects (o : Opened) (keeps : Bool) (count pass : ℕ) (conn : ConnNo) (graceful : Bool) (front front' : List Event) : Type 0 where
   pub events : List Event
-  pub one : IsOneDisconnect pass conn graceful events
+  pub ends : EndsSession o keeps pass conn graceful front' events
   pub enters : Enters o count pass events front front'
 
--- what a session's reader enters last: a Disconnect, graceful exactly after a LOGOUT; nothing where a post found the connection closed
-abbrev pub Closes : ℕ → ConnNo → SessionEnd → List Event → Type 0
-Closes pass conn ends.Closed events = events ≡ []
-Closes pass conn ends.Logout events = IsOneDisconnect pass conn true events
-Closes pass conn _ events = IsOneDisconnect pass conn false events
+-- what a session's reader enters last: its end, graceful exactly after a LOGOUT; nothing where a post found the connection closed
+abbrev pub Closes : Opened → Bool → ℕ → ConnNo → SessionEnd → List Event → List Event → Type 0
+Closes o keeps pass conn ends.Closed front events = events ≡ []
+Closes o keeps pass conn ends.Logout front events = EndsSession o keeps pass conn true front events
+Closes o keeps pass conn _ front events = EndsSession o keeps pass conn false front events
 
 -- the pass entered that, and no more
-pub record IsClosed (o : Opened) (count pass : ℕ) (conn : ConnNo) (end : SessionEnd) (front front' : List Event) : Type 0 where
+pub record IsClosed (o : Opened) (keeps : Bool) (count pass : ℕ) (conn : ConnNo) (end : SessionEnd) (front front' : List Event) : Type 0 where
   pub events : List Event
-  pub closes : Closes pass conn end events
+  pub closes : Closes o keeps pass conn end front' events
   pub enters : Enters o count pass events front front'
 
 -- The whole of a session's reading: to this end, and then its Disconnect.
-pub record ReadsSession (o : Opened) (count pass : ℕ) (conn : ConnNo) (end : SessionEnd) (rest : List Frame) (left left' : Option (List ℕ)) (old new : Decoding) (counted counted' : ℕ) (front front' : List Event) : Type 0 where
+pub record ReadsSession (o : Opened) (keeps : Bool) (count pass : ℕ) (conn : ConnNo) (end : SessionEnd) (rest : List Frame) (left left' : Option (List ℕ)) (old new : Decoding) (counted counted' : ℕ) (front front' : List Event) : Type 0 where
   pub mid : List Event
   pub closing : List Event
   pub reads : ReadsTo o count pass conn end rest left left' old new counted counted' front mid
-  pub closes : Closes pass conn end closing
+  pub closes : Closes o keeps pass conn end front' closing
   pub enters : Enters o count pass (reads.events ++ closing) front front'

@@ -16,7 +16,7 @@ use Rattle.dk_pump.specs.declared.ends.WriteEnd.TheVariants as ends
 use Rattle.dk_pump.specs.declared.putting.PutRefused.{PutRefused}
 use Rattle.dk_pump.specs.declared.putting.PutRefused.TheVariants as refused
 use Rattle.dk_pump.specs.Passes.{Enters}
-use Rattle.dk_pump.specs.Reading.{IsDisconnect}
+use Rattle.dk_pump.specs.Reading.{EndsSession}
 
 -- the bytes of these messages' frames, in order
 abbrev pub frames_of : List Out → List ℕ
@@ -52,21 +52,21 @@ pub record IsHandedOut (pass : ℕ) (conn : ConnNo) (events : List Event) : Type
   pub outs : List Out
   pub last : events ≡ before ++ event.Hand pass conn most outs true ∷ []
 
--- Hands, and among them one Disconnect that is not graceful
-pub record IsGivenUp (pass : ℕ) (conn : ConnNo) (events : List Event) : Type 0 where
+-- Hands, and among them the end of the session, which is not graceful
+pub record IsGivenUp (o : Opened) (keeps : Bool) (pass : ℕ) (conn : ConnNo) (front events : List Event) : Type 0 where
   pub before : List Event
-  pub disconnect : Event
+  pub closing : List Event
   pub after : List Event
-  pub parts : events ≡ before ++ disconnect ∷ after
+  pub parts : events ≡ before ++ (closing ++ after)
   pub hands_before : AreHands pass conn before
   pub hands_after : AreHands pass conn after
-  pub is : IsDisconnect pass conn false disconnect
+  pub ends : EndsSession o keeps pass conn false front closing
 
 -- What a writer enters, by its end. Both ends that are no want of memory come after a Hand that told that the connection is gone.
-abbrev pub IsWriter : ℕ → ConnNo → WriteEnd → List Event → Type 0
-IsWriter pass conn ends.Done events = IsHandedOut pass conn events
-IsWriter pass conn ends.WriteFault events = IsGivenUp pass conn events × (list_any (tells_end conn) events ≡ true)
-IsWriter pass conn ends.NoMemory events = IsGivenUp pass conn events
+abbrev pub IsWriter : Opened → Bool → ℕ → ConnNo → WriteEnd → List Event → List Event → Type 0
+IsWriter o keeps pass conn ends.Done front events = IsHandedOut pass conn events
+IsWriter o keeps pass conn ends.WriteFault front events = IsGivenUp o keeps pass conn front events × (list_any (tells_end conn) events ≡ true)
+IsWriter o keeps pass conn ends.NoMemory front events = IsGivenUp o keeps pass conn front events
 
 -- all these bytes were appended, or where writing stopped before, some of them from the first on
 abbrev pub IsPut : WriteEnd → Option (List ℕ) → Option (List ℕ) → List ℕ → Type 0
@@ -86,9 +86,9 @@ IsAll o conn ends.Done events front = hands_to conn front ≡ hands_to conn even
 IsAll o conn _ events front = Unit {0}
 
 -- The whole of a session's writing: the writer entered these events, and put the frames of what they handed, in order.
-pub record WritesSession (o : Opened) (count pass : ℕ) (conn : ConnNo) (end : WriteEnd) (contents contents' : Option (List ℕ)) (counted counted' : ℕ) (front front' : List Event) : Type 0 where
+pub record WritesSession (o : Opened) (keeps : Bool) (count pass : ℕ) (conn : ConnNo) (end : WriteEnd) (contents contents' : Option (List ℕ)) (counted counted' : ℕ) (front front' : List Event) : Type 0 where
   pub events : List Event
-  pub is : IsWriter pass conn end events
+  pub is : IsWriter o keeps pass conn end front' events
   pub put : IsPut end contents contents' (frames_of (handed events conn))
   pub counts : CountsPut end counted counted'
   pub all : IsAll o conn end events front'

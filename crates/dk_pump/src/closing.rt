@@ -9,7 +9,7 @@ use dk_turn::{Naming, Pass};
 use dk_types::{ConnNo, Input};
 use std::sync::Wait;
 
-/// Posts a Disconnect, which has always a place. It takes no memory.
+/// Posts a Disconnect, which has always a place. It takes no memory, unless events are kept and the connection was closed.
 pub(crate) fn disconnect<W: Hosting, J: Naming, M: Home, R: Wait>(
     rt: &R,
     host: &Host<W, J, M>,
@@ -18,7 +18,7 @@ pub(crate) fn disconnect<W: Hosting, J: Naming, M: Home, R: Wait>(
     graceful: bool,
 )
     ensures number { pass.new.number ≡ pass.old.number }
-    ensures posted { Disconnects W.opened J.name.passes pass.old.number conn graceful pass.old.front pass.new.front }
+    ensures posted { Disconnects W.opened W.keeps J.name.passes pass.old.number conn graceful pass.old.front pass.new.front }
 {
     let _ = host.post(rt, pass, conn, Input::Disconnect { graceful });
 }

@@ -28,7 +28,7 @@ pub fn read_session<W: Hosting, J: Naming, M: Home, R: Wait, S: Source>(
 ) -> SessionEnd
     requires greeted { IsGreeted decoder.old (map frame_of greeted.rest.items) }
     ensures number { pass.new.number ≡ pass.old.number }
-    ensures reads { ReadsSession W.opened J.name.passes pass.old.number greeted.conn result (map frame_of greeted.rest.items) (S.remaining source.old) (S.remaining source.new) decoder.old decoder.new (S.counted source.old) (S.counted source.new) pass.old.front pass.new.front }
+    ensures reads { ReadsSession W.opened W.keeps J.name.passes pass.old.number greeted.conn result (map frame_of greeted.rest.items) (S.remaining source.old) (S.remaining source.new) decoder.old decoder.new (S.counted source.old) (S.counted source.new) pass.old.front pass.new.front }
 {
     let Greeted { conn, rest } = greeted;
     let end = read_frames(rt, host, pass, conn, rest, source, decoder);
@@ -73,7 +73,7 @@ fn close<W: Hosting, J: Naming, M: Home, R: Wait>(
     end: SessionEnd,
 )
     ensures number { pass.new.number ≡ pass.old.number }
-    ensures closed { IsClosed W.opened J.name.passes pass.old.number conn end pass.old.front pass.new.front }
+    ensures closed { IsClosed W.opened W.keeps J.name.passes pass.old.number conn end pass.old.front pass.new.front }
 {
     match end {
         SessionEnd::Closed => {}

@@ -25,7 +25,7 @@ pub fn write_session<W: Hosting, J: Naming, M: Home, R: Wait, K: Sink>(
     sink: &mut K,
 ) -> WriteEnd
     ensures number { pass.new.number ≡ pass.old.number }
-    ensures writes { WritesSession W.opened J.name.passes pass.old.number conn result (K.contents sink.old) (K.contents sink.new) (K.counted sink.old) (K.counted sink.new) pass.old.front pass.new.front }
+    ensures writes { WritesSession W.opened W.keeps J.name.passes pass.old.number conn result (K.contents sink.old) (K.contents sink.new) (K.counted sink.old) (K.counted sink.new) pass.old.front pass.new.front }
 {
     for _ in rt.forever() {
         let Ok(handed) = host.hand(rt, pass, conn, HAND_MOST_COUNT) else {

@@ -1,23 +1,26 @@
 //! A host of a test's own, and two sessions on it.
-ghost use Rattle.std.specs.Prelude.{◌≡◌, ◌<◌, IfOk};
-ghost use Rattle.dk_disk.specs.Opening.{IsOpen};
-ghost use Rattle.dk_model.specs.Validity.{IsValid};
-ghost use Rattle.dk_core.specs.Listings.{world_of};
+ghost use Rattle.std.specs.Prelude.{◌≡◌};
+ghost use Rattle.dk_disk.specs.Memory.{past_of};
 ghost use Rattle.dk_pump_tests.specs.Hosts.{opened_on};
 
-use crate::quiet_home::QuietHome;
 use dk_disk::{Home, MemoryHome};
 use dk_edge::{MemorySink, MemorySource};
 use dk_frame::Decoder;
-use dk_host::{Host, Hosting, WorldBook};
-use dk_journal::Journal;
+use dk_host::{Host, Hosting, OpenedStore, WorldBook, open_store};
 use dk_pump::{SessionEnd, WriteEnd, greet, read_session, write_session};
 use dk_turn::{Blank, Naming, Pass};
-use dk_types::{ConnNo, Durable, Listed, Side};
+use dk_types::{ConnNo, Event, GameId};
 use std::alloc::Global;
 use std::marker::Brand;
 use std::sync::{Wait, ledger};
 use std::test::Fail;
+
+/// How two sessions ended, how many events were kept by then, and what was kept when the host was closed.
+pub(crate) struct Sessions {
+    pub(crate) ends: (SessionEnd, SessionEnd),
+    pub(crate) count: u64,
+    pub(crate) events: Vec<Event>,
+}
 
 /// How a session of this source ends, and how another does after it on the same host.
 pub(crate) fn two_sessions<R: Wait>(
@@ -26,36 +29,35 @@ pub(crate) fn two_sessions<R: Wait>(
     first: MemorySource,
     second: MemorySource,
 ) -> Result<(SessionEnd, SessionEnd), Fail> {
-    let home = open_home(alloc)?;
-    let durable = nothing(alloc);
+    Ok(kept_sessions(rt, alloc, first, second, false)?.ends)
+}
+
+/// The same on a host that keeps its events, or none.
+pub(crate) fn kept_sessions<R: Wait>(
+    rt: &R,
+    alloc: Global,
+    first: MemorySource,
+    second: MemorySource,
+    keep: bool,
+) -> Result<Sessions, Fail> {
+    let store = new_store(alloc)?;
     let commits = ledger::Blank::new(1);
     let places = ledger::Blank::new(1);
-    on_ledgers::<Brand, R>(rt, alloc, commits, places, home, durable, first, second)
+    on_ledgers::<Brand, R>(rt, alloc, commits, places, store, first, second, keep)
 }
 
-fn nothing(alloc: Global) -> Durable
-    ensures { IsValid (world_of result) }
-{
-    Durable {
-        commits: 0,
-        last: None,
-        objects: Listed::from_vec(Vec::new(alloc)),
-        names: Listed::from_vec(Vec::new(alloc)),
-        tasks: Listed::from_vec(Vec::new(alloc)),
-    }
-}
-
-// A home that is open. No job is run on it, so nothing is written there.
-fn open_home(alloc: Global) -> Result<QuietHome, Fail>
-    ensures { IfOk result (λ home. IsOpen home.inner.opening) }
-{
+// A store that has just been made.
+fn new_store(alloc: Global) -> Result<OpenedStore<MemoryHome>, Fail> {
     let none = Vec::new(alloc);
-    let inner = MemoryHome::new(alloc, Vec::new(alloc), Vec::new(alloc), none, false);
-    let mut home = QuietHome { inner };
+    let mut home = MemoryHome::new(alloc, Vec::new(alloc), Vec::new(alloc), none, false);
+    let game = GameId::new(b"nothing").ok().ok_or("a game")?;
     if home.open("store").is_err() {
         return Err(Fail::from("a home"));
     }
-    Ok(home)
+    match open_store(alloc, home, &game) {
+        Ok(store) => Ok(store),
+        Err(_) => Err(Fail::from("a store")),
+    }
 }
 
 fn on_ledgers<W: Hosting, R: Wait>(
@@ -63,22 +65,25 @@ fn on_ledgers<W: Hosting, R: Wait>(
     alloc: Global,
     commits: ledger::Blank,
     places: ledger::Blank,
-    home: QuietHome,
-    durable: Durable,
+    store: OpenedStore<MemoryHome>,
     first: MemorySource,
     second: MemorySource,
-) -> Result<(SessionEnd, SessionEnd), Fail>
+    keep: bool,
+) -> Result<Sessions, Fail>
     requires commits { (commits.name ≡ W.commits) × (commits.parts ≡ 1) }
     requires places { (places.name ≡ W.places) × (places.parts ≡ 1) }
-    requires home { IsOpen home.inner.opening }
-    requires valid { IsValid (world_of durable) }
-    requires opened { W.opened ≡ opened_on durable }
+    requires opened { W.opened ≡ opened_on store.durable }
+    requires began { past_of store.home ≡ W.began }
+    requires keep { W.keeps ≡ keep }
+    requires epoch { store.journal.epoch ≡ W.first }
+    requires opening { store.home.opening ≡ W.opening }
+    requires counted { store.home.plan.faults ≡ W.counted }
 {
-    let Ok(blank) = Blank::new(alloc, 2) else {
+    let Ok(blank) = Blank::new(alloc, 1) else {
         return Err(Fail::from("a turn"));
     };
     on_host::<W, Brand, R>(
-        rt, alloc, blank, commits, places, home, durable, first, second,
+        rt, alloc, blank, commits, places, store, first, second, keep,
     )
 }
 
@@ -88,23 +93,23 @@ fn on_host<W: Hosting, J: Naming, R: Wait>(
     blank: Blank<WorldBook<W>>,
     commits: ledger::Blank,
     places: ledger::Blank,
-    home: QuietHome,
-    durable: Durable,
+    store: OpenedStore<MemoryHome>,
     first: MemorySource,
     second: MemorySource,
-) -> Result<(SessionEnd, SessionEnd), Fail>
+    keep: bool,
+) -> Result<Sessions, Fail>
     requires name { blank ≡ J.name }
-    requires passes { 0 < J.name.passes }
     requires commits { (commits.name ≡ W.commits) × (commits.parts ≡ 1) }
     requires places { (places.name ≡ W.places) × (places.parts ≡ 1) }
-    requires home { IsOpen home.inner.opening }
-    requires valid { IsValid (world_of durable) }
-    requires opened { W.opened ≡ opened_on durable }
+    requires opened { W.opened ≡ opened_on store.durable }
+    requires began { past_of store.home ≡ W.began }
+    requires keep { W.keeps ≡ keep }
+    requires epoch { store.journal.epoch ≡ W.first }
+    requires opening { store.home.opening ≡ W.opening }
+    requires counted { store.home.plan.faults ≡ W.counted }
 {
-    let journal = Journal::standing(Side::Zero, 0, 65);
-    let opened = Host::<W, J, QuietHome>::open(
-        alloc, blank, commits, places, home, journal, durable, None,
-    );
+    let opened =
+        Host::<W, J, MemoryHome>::open(alloc, blank, commits, places, store, None, keep);
     let Ok((host, mut passes)) = opened else {
         return Err(Fail::from("a host"));
     };
@@ -112,7 +117,14 @@ fn on_host<W: Hosting, J: Naming, R: Wait>(
     gone(rt, alloc, &host, &mut pass)?;
     let one = session(rt, alloc, &host, &mut pass, first);
     let other = session(rt, alloc, &host, &mut pass, second);
-    Ok((one, other))
+    let count = host.kept_count(rt, &mut pass);
+    passes.push(pass)?;
+    let events = host.close(passes).events;
+    Ok(Sessions {
+        ends: (one, other),
+        count,
+        events,
+    })
 }
 
 fn session<W: Hosting, J: Naming, M: Home, R: Wait>(

@@ -7,6 +7,4 @@
 #[cfg(test)]
 mod hosting;
 #[cfg(test)]
-mod quiet_home;
-#[cfg(test)]
 mod reading;

@@ -1,9 +1,10 @@
 //! Clients' streams, and how their sessions end.
 
-use crate::hosting::two_sessions;
+use crate::hosting::{kept_sessions, two_sessions};
 use dk_edge::MemorySource;
 use dk_frame::FrameFault::{Field, Length, Opcode};
 use dk_pump::{BadFrame, SessionEnd};
+use dk_types::{ConnectReply, Event, Input, PostReply};
 use std::alloc::Global;
 use std::test::*;
 
@@ -158,5 +159,38 @@ fn a_body_that_is_too_long_is_bad(rt: HostRuntime) -> Result<(), Fail> {
     let (one, other) = two_sessions(&rt, alloc, first, second)?;
     assert_eq!(rt; one, SessionEnd::Bad(BadFrame { at: 11, why: Field }));
     assert_eq!(rt; other, SessionEnd::Logout);
+    Ok(())
+}
+
+// What two whole sessions enter, after a hand to a connection that is not there.
+const KEPT: &str = "hand 7, connect 0, message 0, disconnect 0, connect 1, message 1, disconnect 1, ";
+
+fn kept(alloc: Global, events: &[Event]) -> Result<String, Fail> {
+    let mut text = String::new(alloc);
+    for event in events {
+        let line = match event {
+            Event::Hand { conn, end: true, .. } => format!(in alloc; "hand {}, ", conn.0)?,
+            Event::Connect { reply: ConnectReply::Number(conn), .. } => format!(in alloc; "connect {}, ", conn.0)?,
+            Event::Post { conn, input: Input::Message(_), reply: PostReply::Taken, .. } => format!(in alloc; "message {}, ", conn.0)?,
+            Event::Post { conn, input: Input::Disconnect { graceful: true }, reply: PostReply::Taken, .. } => format!(in alloc; "disconnect {}, ", conn.0)?,
+            _ => format!(in alloc; "other, ")?,
+        };
+        text.push_str(line.as_str())?;
+    }
+    Ok(text)
+}
+
+#[test]
+fn a_host_keeps_its_events_where_it_is_to(rt: HostRuntime) -> Result<(), Fail> {
+    let alloc = rt.alloc();
+    for (keep, count, wanted) in [(true, 7, KEPT), (false, 0, "")] {
+        let first = source(alloc, SESSION, 1, &[])?;
+        let second = source(alloc, SESSION, 1_000, &[])?;
+        let sessions = kept_sessions(&rt, alloc, first, second, keep)?;
+        assert_eq!(rt; sessions.ends.0, SessionEnd::Logout);
+        assert_eq!(rt; sessions.ends.1, SessionEnd::Logout);
+        assert_eq!(rt; sessions.count, count);
+        assert_eq!(rt; kept(alloc, sessions.events.as_slice())?.as_str(), wanted);
+    }
     Ok(())
 }

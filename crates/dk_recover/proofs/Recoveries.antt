@@ -1,6 +1,7 @@
 -- What recovering answers, by what was found and read.
 use Rattle.std.proofs.Common.{◌≡◌, ⊎_elim, inl, inr, ℕ, ◌≤◌, leb, ltb, true, false, if◌then◌else◌, take, length, List, Option, Some, None, Result, Ok, Err, IfOk, IfErr, MatchResult, refl, sym, ap, subst, ◌∙◌, arith}
 use Rattle.std.proofs.lemmas.Bool.{false≢true, leb-true}
+use Rattle.std.specs.Prelude.{IfSome}
 use Rattle.std.specs.Result.{IsErr, IsErrAnd}
 use Rattle.dk_types.specs.declared.side.Side.{Side}
 use Rattle.dk_types.specs.declared.side.Side.TheVariants.{Zero, One}
@@ -22,7 +23,7 @@ use Rattle.dk_journal.specs.declared.scan.Scan.{Scan}
 use Rattle.dk_journal.proofs.Readings.{one_reading}
 use Rattle.dk_journal.proofs.Outranked.{outranks}
 use Rattle.dk_recover.specs.Files.{Settles}
-use Rattle.dk_recover.specs.Recovery.{IsOurs, IsOfOther, IsStore, IsNoStore, IsFound, IsAnswer, IsOfDevice}
+use Rattle.dk_recover.specs.Recovery.{IsOurs, IsOfOther, IsStore, IsNoStore, IsFound, IsAnswer, IsOfDevice, HasValidWorld, IsOnItsSide}
 use Rattle.dk_recover.specs.Records.{IsWhole}
 use Rattle.dk_recover.specs.Stood.{IsStanding, IsStood, IsStandingFault}
 use Rattle.dk_recover.specs.declared.fault.OpenFault.{OpenFault}
@@ -212,3 +213,12 @@ module _ (P : List ℕ → List ℕ → Type 0) (old new : DiskHistory) (is : Se
 
 pub at_rest : (old new : DiskHistory) → Settles old new → (s : Side) → now new s ≡ settled (now new s).reads
 at_rest old new is s = settled_now old new is s ∙ ap settled (sym (ap (λ (d : Disk). d.reads) (settled_now old new is s)))
+
+-- where there is no store yet
+pub first_valid : (r : Result Recovered OpenFault) → IfOk r (λ found. (found.store ≡ None) × (found.durable ≡ world_lists empty_world) × (found.side ≡ Zero) × (found.format ≡ 2)) → IfOk r HasValidWorld
+first_valid (Ok found) is = (empty_world, empty_valid, is.1)
+first_valid (Err fault) is = tt
+
+pub first_side : (r : Result Recovered OpenFault) → IfOk r (λ found. (found.store ≡ None) × (found.durable ≡ world_lists empty_world) × (found.side ≡ Zero) × (found.format ≡ 2)) → IfOk r IsOnItsSide
+first_side (Ok found) is = subst (λ (s : Option Journal). IfSome s (λ journal. journal.side ≡ found.side)) (sym is.0) tt
+first_side (Err fault) is = tt

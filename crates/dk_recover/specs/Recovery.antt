@@ -1,10 +1,11 @@
 -- What recovering a store answers, by what its two files gave.
-use Rattle.std.specs.Prelude.{◌≡◌, ◌≢◌, ⊤, ℕ, ◌≤◌, List, length, Option, Some, None, Result, Ok, Err}
+use Rattle.std.specs.Prelude.{◌≡◌, ◌≢◌, ⊤, ℕ, ◌≤◌, List, length, Option, Some, None, IfSome, Result, Ok, Err}
 use Rattle.dk_types.specs.declared.side.Side.{Side}
 use Rattle.dk_types.specs.declared.side.Side.TheVariants.{Zero, One}
 use Rattle.dk_disk.specs.DiskHistories.{DiskHistory, now}
 use Rattle.dk_model.specs.DurableWorlds.{DurableWorld, empty_world}
 use Rattle.dk_model.specs.Images.{world_lists}
+use Rattle.dk_model.specs.Validity.{IsValid}
 use Rattle.dk_model.specs.Stores.{StoreHeader, StandsOn, standing}
 use Rattle.dk_model.specs.Recovered.{HoldsWorld, file_on, Recovers, NotYet}
 use Rattle.dk_model.specs.Recovered as files
@@ -44,6 +45,14 @@ pub record IsNoStore (zero one : List ℕ) (past : DiskHistory) (found : Recover
   pub ready : IsReady Zero past
   pub short : length (now past Zero).reads ≤ 65
   pub beside : IsBlankBeside past One
+
+-- its lists are those of a valid world
+abbrev pub HasValidWorld : Recovered → Type 0
+HasValidWorld found = (d : DurableWorld) × IsValid d × (found.durable ≡ world_lists d)
+
+-- its journal, if there is one, is on this side
+abbrev pub IsOnItsSide : Recovered → Type 0
+IsOnItsSide found = IfSome found.store (λ journal. journal.side ≡ found.side)
 
 -- a store, or none yet, by whether there is a journal
 abbrev pub IsFound : List ℕ → List ℕ → List ℕ → DiskHistory → Recovered → Option Journal → Type 0

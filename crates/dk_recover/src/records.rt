@@ -82,6 +82,7 @@ pub fn read_records<M: Home>(
     requires valid { IsValid world }
     requires format { IsFormat format }
     ensures read { IsTrue M.tells → (header : StoreHeader) (done : List (List ℕ)) → header.format ≡ format → IsScanned (now (M.past home.old) scan.side).reads (header_spelling header) done scan.at scan.end → HasWorld header done world → IsWhole (now (M.past home.old) scan.side).reads header result }
+    ensures valid { IfOk result (λ r. IsValid r.0) }
     ensures journal { IfOk result (λ r. (r.1.side ≡ scan.side) × (r.1.epoch ≡ scan.epoch) × (r.1.format ≡ scan.format)) }
     ensures side { (side : Side) (at : ℕ) → IsErrOf result (DamagedAt side at) → side ≡ scan.side }
     ensures looks { IsTrue M.tells → Looks (M.past home.old) (M.past home.new) }
@@ -142,6 +143,7 @@ pub fn read_store<M: Home>(
     requires is_open { IsOpen (M.opening home.old) }
     requires whole { IsTrue M.tells → scan.end ≡ length (now (M.past home.old) scan.side).reads }
     ensures read { IsTrue M.tells → (header : StoreHeader) → header.epoch ≡ epoch → header.format ≡ scan.format → IsScanned (now (M.past home.old) scan.side).reads (header_spelling header) [] scan.at scan.end → IsWhole (now (M.past home.old) scan.side).reads header result }
+    ensures valid { IfOk result (λ r. IsValid r.0) }
     ensures journal { IfOk result (λ r. (r.1.side ≡ scan.side) × (r.1.epoch ≡ scan.epoch) × (r.1.format ≡ scan.format)) }
     ensures side { (side : Side) (at : ℕ) → IsErrOf result (DamagedAt side at) → side ≡ scan.side }
     ensures looks { IsTrue M.tells → Looks (M.past home.old) (M.past home.new) }

@@ -11,7 +11,7 @@ ghost use Rattle.dk_model.specs.Validity.{IsValid};
 ghost use Rattle.dk_journal.specs.Moments.{Looks};
 ghost use Rattle.dk_journal.specs.Stores.{AreSettled};
 ghost use Rattle.dk_recover.specs.Files.{OnlyReads, Settles};
-ghost use Rattle.dk_recover.specs.Recovery.{IsOurs, IsAnswer, IsOfDevice};
+ghost use Rattle.dk_recover.specs.Recovery.{IsOurs, IsAnswer, IsOfDevice, HasValidWorld, IsOnItsSide};
 ghost use Rattle.dk_recover.specs.Stood.{IsStanding};
 ghost use Rattle.dk_recover.specs.declared.fault.OpenFault.TheVariants.{DiskFault as FaultOfDisk, NoMemory as WantOfMemory};
 
@@ -62,6 +62,8 @@ fn recover_standing<M: Home>(
     requires is_open { IsOpen (M.opening home.old) }
     requires whole { IsTrue M.tells → scan.end ≡ length (now (M.past home.old) scan.side).reads }
     ensures answer { IsTrue M.tells → AreSettled (M.past home.old) → IsStanding (now (M.past home.old) First).reads (now (M.past home.old) Second).reads header scan → IsAnswer (now (M.past home.old) First).reads (now (M.past home.old) Second).reads game.now (M.past home.new) result }
+    ensures valid { IfOk result HasValidWorld }
+    ensures side { IfOk result IsOnItsSide }
     ensures looks { IsTrue M.tells → Looks (M.past home.old) (M.past home.new) }
     ensures steady { (IsErrOf result FaultOfDisk → ⊥) → M.counted home.new ≡ M.counted home.old }
     ensures cause { IsErrOf result FaultOfDisk → HasRisen (M.counted home.old) (M.counted home.new) }
@@ -92,6 +94,10 @@ pub fn recover<M: Home>(alloc: Global, home: &mut M, game: &GameId) -> Result<Re
     // A store of this game that holds a world is never refused by its bytes, and neither is no store yet.
     ensures accepted { IsTrue M.tells → (d : DurableWorld) → HasDurable (now (M.past home.old) First).reads (now (M.past home.old) Second).reads d → IsOurs (now (M.past home.old) First).reads (now (M.past home.old) Second).reads game.now → MatchResult result (λ found. found.durable ≡ world_lists d) IsOfDevice }
     ensures holds { IsTrue M.tells → IfOk result (λ found. (d : DurableWorld) × HasDurable (now (M.past home.old) First).reads (now (M.past home.old) Second).reads d × IsValid d × (found.durable ≡ world_lists d)) }
+
+    // Whatever the home tells, the world is a valid one, and the journal is on the side that is told.
+    ensures valid { IfOk result HasValidWorld }
+    ensures side { IfOk result IsOnItsSide }
 
     // Nothing is written, and from some moment on nothing is pending.
     ensures reads { IsTrue M.tells → OnlyReads (M.past home.old) (M.past home.new) }

@@ -8,6 +8,18 @@ pub record Known (E : Type 0) : Type 0 where
   pub number : ℕ
   pub front : List E
 
+-- what contracts see of a watcher: what it has seen
+pub record Watched (E : Type 0) : Type 0 where
+  pub front : List E
+
+-- a watcher that has seen this
+abbrev pub watched : {E : Type 0} → List E → Watched E
+watched seen = record { front = seen }
+
+-- the history begins with what was seen
+abbrev pub Begins : {E : Type 0} → List E → List E → Type 0
+Begins seen log = IsPrefix seen log
+
 -- a pass of this number that has seen this
 abbrev pub known : {E : Type 0} → ℕ → List E → Known E
 known n seen = record { number = n; front = seen }

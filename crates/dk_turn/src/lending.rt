@@ -1,8 +1,8 @@
 //! A turn: a pass gets the book, sees the history, and gives the book back.
 ghost use Rattle.std.specs.Prelude.{◌≡◌, ◌<◌, List, ◌++◌, Some};
 ghost use Rattle.std.specs.List.{All};
-ghost use Rattle.dk_turn.specs.Fronts.{Continues};
-ghost use Rattle.dk_turn.specs.Rule.{nobody, keeper_of, pass_of, turn_of, without_book, with_book};
+ghost use Rattle.dk_turn.specs.Fronts.{Begins, Continues};
+ghost use Rattle.dk_turn.specs.Rule.{nobody, keeper_of, pass_of, watcher_of, turn_of, without_book, with_book};
 
 use crate::book::Book;
 use crate::naming::Naming;
@@ -86,4 +86,26 @@ pub(crate) fn end_turn<O: Book, J: Naming>(
     let _ = number;
     let _ = book;
     lend(words, pass, desk);
+}
+
+// A watcher gets the book, sees the history for which the book stands, and gives the book back.
+pub(crate) fn watch_turn<O: Book, J: Naming>(
+    words: &Words<O>,
+    desk: &mut Place<O>,
+    watcher: &mut Place<O>,
+    book: &O,
+)
+    requires words { 0 < words.now.table_id.words }
+    requires table { (desk.old.table_id ≡ words.now.table_id) × (watcher.old.table_id ≡ words.now.table_id) }
+    requires desk { desk.old.me.0 ≡ keeper_of (O.history book.now) J.name.passes }
+    requires watcher { watcher.old.me.0 ≡ watcher_of watcher.old.me.0.seen }
+    ensures table { (desk.new.table_id ≡ desk.old.table_id) × (watcher.new.table_id ≡ watcher.old.table_id) }
+    ensures desk { desk.new.me.0 ≡ keeper_of (O.history book.now) J.name.passes }
+    ensures watcher { watcher.new.me.0 ≡ watcher_of (O.history book.now) }
+    ensures begins { Begins watcher.old.me.0.seen (O.history book.now) }
+{
+    let _ = book;
+    lend(words, desk, watcher);
+    words.load::<Sees>(watcher, 0);
+    lend(words, watcher, desk);
 }

@@ -15,6 +15,7 @@ mod naming;
 mod pass;
 mod rule;
 mod turn;
+mod watcher;
 
 pub use blank::Blank;
 pub use book::{Book, Step};
@@ -23,3 +24,4 @@ pub use ghost_list::{GhostList, Noting, NotingAll};
 pub use naming::Naming;
 pub use pass::Pass;
 pub use turn::{Turn, TurnRefused};
+pub use watcher::Watcher;

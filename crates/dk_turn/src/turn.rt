@@ -1,7 +1,7 @@
 //! The lock.
 ghost use Rattle.std.specs.Prelude.{◌≡◌, ◌<◌, ◌≤◌, List, [], IfOk, IfErr, vec_capacity};
 ghost use Rattle.std.specs.List.{All};
-ghost use Rattle.dk_turn.specs.Fronts.{Continues, ContinuesAll, Called, IsDealt};
+ghost use Rattle.dk_turn.specs.Fronts.{Begins, Continues, ContinuesAll, Called, IsDealt};
 ghost use Rattle.dk_turn.specs.Rule.{dealer};
 
 use crate::blank::Blank;
@@ -9,7 +9,8 @@ use crate::book::{Book, Step};
 use crate::guarded::Guarded;
 use crate::naming::Naming;
 use crate::pass::Pass;
-use crate::rule::{Deals, Ordered, Place, View, Words};
+use crate::rule::{Deals, Ordered, Place, Seats, View, Words};
+use crate::watcher::Watcher;
 use atomic_table::Table;
 use std::alloc::Global;
 use std::marker::{Model, PhantomData};
@@ -57,6 +58,24 @@ impl<O: Book, J: Naming> Turn<O, J> {
         ensures ok { IfOk result (λ r. IsDealt J.name.passes r.1.items) }
         ensures err { IfErr result (λ r. r.book ≡ book) }
     {
+        match Turn::watched(alloc, blank, book) {
+            Ok((turn, given, _)) => Ok((turn, given)),
+            Err(refused) => Err(refused),
+        }
+    }
+
+    /// The lock, its passes, with the numbers from 0 on, and a watcher.
+    pub fn watched(
+        alloc: Global,
+        blank: Blank<O>,
+        book: O,
+    ) -> Result<(Turn<O, J>, Vec<Pass<O, J>>, Watcher<O, J>), TurnRefused<O>>
+        requires name { blank ≡ J.name }
+        requires empty { O.history book ≡ [] }
+        ensures ok { IfOk result (λ r. IsDealt J.name.passes r.1.items) }
+        ensures watcher { IfOk result (λ r. r.2.front ≡ []) }
+        ensures err { IfErr result (λ r. r.book ≡ book) }
+    {
         let Blank {
             table,
             mut seat,
@@ -65,6 +84,10 @@ impl<O: Book, J: Naming> Turn<O, J> {
         let Ok(room) = Vec::with_capacity(alloc, passes as usize) else {
             table.close().free();
             return Err(TurnRefused { book });
+        };
+        let watcher = Watcher {
+            seat: table.shared.split_seat::<Seats>(&mut seat),
+            of: PhantomData,
         };
         let given = deal(&table.shared, &mut seat, passes, room);
         let desk = Guarded {
@@ -77,7 +100,7 @@ impl<O: Book, J: Naming> Turn<O, J> {
             desk: Mutex::new(desk),
             waiting: AtomicU64::new(0),
         };
-        Ok((turn, given))
+        Ok((turn, given, watcher))
     }
 
     /// Applies the step at one point of the history. The new front begins with the old one, and ends with what the step added.
@@ -138,6 +161,33 @@ impl<O: Book, J: Naming> Turn<O, J> {
         reply
     }
 
+    /// `with` on `pass`, and under the same lock the watcher sees what `pass` sees.
+    pub fn with_watcher<R: Wait, E: Step<O>>(
+        &self,
+        rt: &R,
+        pass: &mut Pass<O, J>,
+        watcher: &mut Watcher<O, J>,
+        step: E,
+    ) -> E::Reply
+        requires { (book : O)
+            → Continues O.number pass.old.number pass.old.front (O.history book)
+            → Begins watcher.old.front (O.history book)
+            → E.may step pass.old.number (O.history book) }
+        ensures number { pass.new.number ≡ pass.old.number }
+        ensures same { watcher.new.front ≡ pass.new.front }
+        ensures called { Called O.number pass.old.number
+            (λ before added. Begins watcher.old.front before
+            × E.gives step pass.old.number before result added)
+            pass.old.front pass.new.front }
+        ensures named { All (λ e. O.number e < J.name.passes) pass.new.front }
+    {
+        let mut desk = self.desk.lock(rt);
+        let reply = desk.enter_watched(&self.table.shared, pass, watcher, step);
+        drop(desk);
+        self.wake(E::wakes(&reply));
+        reply
+    }
+
     /// Sleeps until a step whose reply `wakes` was applied after the last call of this pass. Which it was is for the next call to see.
     pub fn wait<R: Wait>(&self, rt: &R, pass: &Pass<O, J>) {
         let words = &self.table.shared;
@@ -181,10 +231,10 @@ impl<O: Book, J: Naming> Turn<O, J> {
         book
     }
 
-    /// The book, as `close` gives it. One more pass is handed in by itself, so that no list has to grow.
-    pub fn close_with(self, mut passes: Vec<Pass<O, J>>, mut last: Pass<O, J>) -> O
+    /// The book, as `close` gives it. Its history also begins with what the watcher has seen.
+    pub fn close_with(self, mut passes: Vec<Pass<O, J>>, mut watcher: Watcher<O, J>) -> O
         ensures fronts { ContinuesAll O.number passes.items (O.history result) }
-        ensures last { Continues O.number last.number last.front (O.history result) }
+        ensures watcher { Begins watcher.front (O.history result) }
         ensures named { All (λ e. O.number e < J.name.passes) (O.history result) }
     {
         let Turn {
@@ -193,7 +243,7 @@ impl<O: Book, J: Naming> Turn<O, J> {
             waiting: _,
         } = self;
         let mut inner = desk.into_inner();
-        inner.see(&table.shared, &mut last);
+        inner.watch(&table.shared, &mut watcher);
         while let Some(mut pass) = passes.pop() {
             inner.see(&table.shared, &mut pass);
         }

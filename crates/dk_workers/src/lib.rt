@@ -1,9 +1,24 @@
-//! The step of a worker: one job of a core is claimed, run on the world as it stands and committed at once.
+//! Workers: jobs are claimed, run and committed.
 //!
-//! So nothing that a run has read changes before its commit, and no run is ever tried again. The core says which job
-//! comes next and what a commit does, and `dk_game` runs the job; nothing here knows a game or a client.
+//! `work` does so over the shared host, with one pass, until nothing can be run; where a read no longer stood the job is run
+//! again. `work_all` has a worker in a thread of its own for each pass. A `Gate` hears of their commits. `work_once` is one
+//! step over a core on one thread, where nothing that a run has read changes before its commit. The host and the core say
+//! which job comes next and what a commit does, and `dk_game` runs the job; nothing here knows a game or a client.
 #![tactic(auto)]
 
+mod gate;
+mod row;
+mod running;
+mod team;
+mod trying;
+mod worked;
+mod worker;
+
+pub use gate::{Gate, OpenGate};
+pub use running::run_claimed;
+pub use team::work_all;
+pub use worked::Worked;
+pub use worker::work;
 pub use working::{Ran, Step, work_once};
 
 pub mod working;

@@ -95,19 +95,29 @@ impl<W: Hosting> Step<WorldBook<W>> for Publish<W> {
             mut right,
         } = self;
         right.audit(&mut book.commits, &mut book.places);
+        let run = claimed.run();
+        let outcome = *finished.outcome();
         let committed = Committed {
-            run: claimed.run(),
+            run,
             outcome: Snapshot::of(finished.outcome()),
         };
         let seq = book.core.publish(claimed, finished, prepared);
         right.count(&mut book.commits);
         right.let_go(&mut book.places);
-        book.events
-            .note_all::<Told<'_, Committed, u64>, Publish<W>>(&Told {
+        let event = Some(Event::Commit {
+            pass,
+            run,
+            seq,
+            outcome,
+        });
+        book.history.enter::<Told<'_, Committed, u64>, Publish<W>>(
+            &Told {
                 pass,
                 ask: &committed,
                 reply: &seq,
-            });
+            },
+            event,
+        );
         let Committed { run: _, outcome: _ } = committed;
         (right, seq)
     }

@@ -2,6 +2,9 @@
 
 use crate::book::WorldBook;
 use crate::hosting::Hosting;
+use crate::keeping::{
+    connect_event, hand_event, kept_input, kept_messages, kept_name, post_event, room_for_post,
+};
 use crate::steps::Told;
 use dk_core::{ConnectRefused, Handed, PostRefused};
 use dk_turn::{NotingAll, Step};
@@ -31,13 +34,19 @@ impl<'a, W: Hosting> Step<WorldBook<W>> for Connect<'a> {
     ghost gives = { λ s pass before reply added. Adds W.opened (connect_events pass s.name.now reply) before added };
 
     fn apply(self, pass: u32, book: &mut WorldBook<W>) -> Result<ConnNo, ConnectRefused> {
+        let name = kept_name(&book.history, self.name)?;
+        book.history.make_room()?;
         let reply = book.core.connect(self.name);
-        book.events
-            .note_all::<Told<'_, Name, Result<ConnNo, ConnectRefused>>, Connect<'a>>(&Told {
-                pass,
-                ask: self.name,
-                reply: &reply,
-            });
+        let event = connect_event(pass, name, &reply);
+        book.history
+            .enter::<Told<'_, Name, Result<ConnNo, ConnectRefused>>, Connect<'a>>(
+                &Told {
+                    pass,
+                    ask: self.name,
+                    reply: &reply,
+                },
+                event,
+            );
         reply
     }
 
@@ -73,21 +82,27 @@ impl<W: Hosting> Step<WorldBook<W>> for Post {
 
     ghost may = { λ s _ _. IsInput s.input };
 
-    ghost gives = { λ s pass before reply added. Posts W.opened pass s.conn s.input before reply added };
+    ghost gives = { λ s pass before reply added. Posts W.opened W.keeps pass s.conn s.input before reply added };
 
     fn apply(self, pass: u32, book: &mut WorldBook<W>) -> Result<(), PostRefused> {
         let Post { conn, input } = self;
+        let copy = kept_input(&book.history, &input)?;
+        room_for_post(&mut book.history, &book.core, conn, &input)?;
         let posted = Posted {
             conn,
             input: Snapshot::of(&input),
         };
         let reply = book.core.post(conn, input);
-        book.events
-            .note_all::<Told<'_, Posted, Result<(), PostRefused>>, Post>(&Told {
-                pass,
-                ask: &posted,
-                reply: &reply,
-            });
+        let event = post_event(pass, conn, copy, &reply);
+        book.history
+            .enter::<Told<'_, Posted, Result<(), PostRefused>>, Post>(
+                &Told {
+                    pass,
+                    ask: &posted,
+                    reply: &reply,
+                },
+                event,
+            );
         let Posted { conn: _, input: _ } = posted;
         reply
     }
@@ -120,13 +135,19 @@ impl<W: Hosting> Step<WorldBook<W>> for Hand {
     ghost gives = { λ s pass before reply added. Hands W.opened pass s.conn s.most before reply added };
 
     fn apply(self, pass: u32, book: &mut WorldBook<W>) -> Result<Handed, NoMemory> {
+        let outs = kept_messages(&book.history, &book.core, self.conn, self.most)?;
+        book.history.make_room()?;
         let reply = book.core.hand(self.conn, self.most);
-        book.events
-            .note_all::<Told<'_, Hand, Result<Handed, NoMemory>>, Hand>(&Told {
-                pass,
-                ask: &self,
-                reply: &reply,
-            });
+        let event = hand_event(pass, self.conn, self.most, outs, &reply);
+        book.history
+            .enter::<Told<'_, Hand, Result<Handed, NoMemory>>, Hand>(
+                &Told {
+                    pass,
+                    ask: &self,
+                    reply: &reply,
+                },
+                event,
+            );
         reply
     }
 }

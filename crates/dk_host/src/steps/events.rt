@@ -30,6 +30,28 @@ impl<'a, W: Hosting> Step<WorldBook<W>> for ReadItem<'a> {
     }
 }
 
+/// A look at how many events are kept.
+#[derive(Drop)]
+pub(crate) struct CountKept;
+
+impl<W: Hosting> Step<WorldBook<W>> for CountKept {
+    ghost use Rattle.dk_host.specs.Steps.{CountsKept};
+
+    type Reply = u64;
+
+    ghost may = { λ _ _ _. Unit {0} };
+
+    ghost gives = { λ _ _ before reply added. CountsKept W.opened W.keeps before reply added };
+
+    fn apply(self, _pass: u32, book: &mut WorldBook<W>) -> u64 {
+        book.history.len()
+    }
+
+    fn wakes(_reply: &u64) -> bool {
+        false
+    }
+}
+
 /// Time goes on.
 #[derive(Drop)]
 pub(crate) struct Tick {
@@ -44,22 +66,33 @@ impl<'a> NotingAll<Told<'a, u64, ()>, Event> for Tick {
 }
 
 impl<W: Hosting> Step<WorldBook<W>> for Tick {
-    ghost use Rattle.std.specs.Prelude.{[], ◌∷◌};
-    ghost use Rattle.dk_types.specs.declared.event.Event.TheVariants as event;
-    ghost use Rattle.dk_host.specs.Steps.{Adds};
+    ghost use Rattle.dk_host.specs.Steps.{Ticks};
 
-    type Reply = ();
+    type Reply = Result<(), NoMemory>;
 
     ghost may = { λ _ _ _. Unit {0} };
 
-    ghost gives = { λ s pass before reply added. Adds W.opened (event.Tick pass s.moment ∷ []) before added };
+    ghost gives = { λ s pass before reply added. Ticks W.opened W.keeps pass s.moment before reply added };
 
-    fn apply(self, pass: u32, book: &mut WorldBook<W>) {
+    fn apply(self, pass: u32, book: &mut WorldBook<W>) -> Result<(), NoMemory> {
+        book.history.make_room()?;
         book.core.tick(self.moment);
-        book.events.note_all::<Told<'_, u64, ()>, Tick>(&Told {
+        let event = Some(Event::Tick {
             pass,
-            ask: &self.moment,
-            reply: &(),
+            moment: self.moment,
         });
+        book.history.enter::<Told<'_, u64, ()>, Tick>(
+            &Told {
+                pass,
+                ask: &self.moment,
+                reply: &(),
+            },
+            event,
+        );
+        Ok(())
+    }
+
+    fn wakes(reply: &Result<(), NoMemory>) -> bool {
+        reply.is_ok()
     }
 }

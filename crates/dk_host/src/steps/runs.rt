@@ -2,6 +2,7 @@
 
 use crate::book::WorldBook;
 use crate::hosting::Hosting;
+use crate::keeping::{claim_event, kept_job};
 use crate::steps::Told;
 use dk_core::{ClaimRefused, Claimed};
 use dk_turn::{NotingAll, Step};
@@ -27,13 +28,19 @@ impl<W: Hosting> Step<WorldBook<W>> for Claim {
     ghost gives = { λ s pass before reply added. Claims W.opened pass before reply added };
 
     fn apply(self, pass: u32, book: &mut WorldBook<W>) -> Result<Option<Claimed>, ClaimRefused> {
+        let job = kept_job(&book.history, &book.core)?;
+        book.history.make_room()?;
         let reply = book.core.claim(pass);
-        book.events
-            .note_all::<Told<'_, (), Result<Option<Claimed>, ClaimRefused>>, Claim>(&Told {
-                pass,
-                ask: &(),
-                reply: &reply,
-            });
+        let event = claim_event(pass, job, &reply);
+        book.history
+            .enter::<Told<'_, (), Result<Option<Claimed>, ClaimRefused>>, Claim>(
+                &Told {
+                    pass,
+                    ask: &(),
+                    reply: &reply,
+                },
+                event,
+            );
         reply
     }
 
@@ -71,10 +78,14 @@ impl<W: Hosting> Step<WorldBook<W>> for Release {
         let Release { claimed } = self;
         let run = claimed.run();
         book.core.release(claimed);
-        book.events.note_all::<Told<'_, RunNo, ()>, Release>(&Told {
-            pass,
-            ask: &run,
-            reply: &(),
-        });
+        let event = Some(Event::Release { pass, run });
+        book.history.enter::<Told<'_, RunNo, ()>, Release>(
+            &Told {
+                pass,
+                ask: &run,
+                reply: &(),
+            },
+            event,
+        );
     }
 }

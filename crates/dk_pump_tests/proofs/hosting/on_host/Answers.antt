@@ -1,12 +1,8 @@
 use Rattle.std.proofs.Common.{sym, subst}
 use Rattle.dk_model.specs.Lawful.{AreLawful}
 use Rattle.dk_model.specs.Legal.{Opened}
-use Rattle.dk_model.specs.Validity.{IsValid}
 use Rattle.dk_model.proofs.Acts.{lawful_rules, lawful_done}
 use Rattle.dk_pump_tests.proofs.hosting.on_host.Goals as goal
 
 pub open-opened-requires-clause-lawful : goal.open-opened-requires-clause-lawful
 open-opened-requires-clause-lawful g c = subst (λ (o : Opened). AreLawful o.rules) (sym c.requires.opened) (lawful_rules (λ job. lawful_done tt))
-
-pub open-opened-requires-clause-valid : goal.open-opened-requires-clause-valid
-open-opened-requires-clause-valid g c = subst (λ (o : Opened). IsValid o.durable) (sym c.requires.opened) c.requires.valid

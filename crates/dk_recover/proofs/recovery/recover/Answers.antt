@@ -10,7 +10,7 @@ use Rattle.dk_recover.specs.Recovery.{IsAnswer}
 use Rattle.dk_recover.specs.Stood.{IsStood, IsStanding}
 use Rattle.dk_recover.specs.declared.fault.OpenFault.TheVariants.{DiskFault}
 use Rattle.dk_recover.proofs.OnlyRead.{reads_looked, settles_looked}
-use Rattle.dk_recover.proofs.Recoveries.{accepts, holds, no_store, handed_on, onward, backward, at_rest, side_file, settled_now}
+use Rattle.dk_recover.proofs.Recoveries.{accepts, holds, no_store, first_valid, first_side, handed_on, onward, backward, at_rest, side_file, settled_now}
 use Rattle.dk_recover.proofs.recovery.recover.Goals as goal
 
 pub returns-in-None-clause-answer : goal.returns-in-None-clause-answer
@@ -22,6 +22,12 @@ returns-in-None-clause-answer g c tells =
     let stood = subst (λ (s : Option (Header × Scan)). IsStood z o (Ok s)) c.in-None.is (c.in_ok-find_standing.ensures.stood tells) in
     let at : (s : Side) → now new s ≡ settled (file_on s z o) = λ s. settled_now old new (c.in_ok-find_standing.ensures.settles tells (λ err. cc)) s ∙ ap settled (sym (side_file old s)) in
     no_store z o c.args.game.now new c.no_store.result stood at c.no_store.ensures.new c.no_store.ensures.only
+
+pub returns-in-None-clause-valid : goal.returns-in-None-clause-valid
+returns-in-None-clause-valid g c = first_valid c.no_store.result c.no_store.ensures.new
+
+pub returns-in-None-clause-side : goal.returns-in-None-clause-side
+returns-in-None-clause-side g c = first_side c.no_store.result c.no_store.ensures.new
 
 pub returns-in-None-clause-accepted : goal.returns-in-None-clause-accepted
 returns-in-None-clause-accepted g c tells d has our =

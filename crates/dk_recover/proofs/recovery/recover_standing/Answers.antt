@@ -69,3 +69,6 @@ returns-clause-answer g c tells rests is =
     let at : (s : Side) → now new s ≡ settled (file_on s z o) = λ s. looks_now old new (c.in_ok-world.ensures.looks tells) s ∙ rests s ∙ ap settled (sym (side_file old s)) in
     recovered z o c.args.game.now c.args.header c.args.scan is game new c.in_ok-world.world c.in_ok-world.journal c.in_ok-durable.durable c.side-side.result c.format-format.result
     (subst (λ (f : List ℕ). IsWhole f header (Ok (c.in_ok-world.world, c.in_ok-world.journal))) (sym file) whole) c.in_ok-world.ensures.journal at c.in_ok-durable.ensures c.side-side.ensures c.format-format.ensures.value
+
+pub returns-clause-valid : goal.returns-clause-valid
+returns-clause-valid g c = (c.in_ok-world.world, c.in_ok-world.ensures.valid, c.in_ok-durable.ensures)

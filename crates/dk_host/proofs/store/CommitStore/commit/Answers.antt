@@ -22,7 +22,7 @@ returns-in-Ok-clause-entered g c =
 pub returns-in-Err-clause-back : goal.returns-in-Err-clause-back
 returns-in-Err-clause-back g c = (
   refl,
-  look_cause g.W.Hosting.opened c.prepare.new.pass.front c.args.claimed c.args.finished c.prepare.new.self.room c.in-Err.refused _ c.self.invariant.2.lawful
+  look_cause g.W.Hosting.opened c.prepare.new.pass.front c.args.claimed c.args.finished c.prepare.new.self.room c.in-Err.refused _ c.self.invariant.3.lawful
       (honest_still g.W.Hosting.opened c.args.pass.now c.prepare.new.pass c.args.claimed c.args.finished c.prepare.ensures.number c.prepare.ensures.entered c.requires.claim c.requires.honest)
       (subst (FindsNext g.W.Hosting.opened c.prepare.new.pass.front c.args.claimed c.args.finished c.prepare.new.self.room) c.in-Err.is c.prepare.ensures.finds) c.why_of_look.ensures,
 )

@@ -5,7 +5,7 @@ use Rattle.dk_turn.proofs.turn.Turn.close_with.Goals as goal
 pub loop-pass-preserved : goal.loop-pass-preserved
 loop-pass-preserved g c =
     let i = c.loop-pass.invariant in
-    let s = c.see-in-Some.ensures in (
+    let s = c.see.ensures in (
       s.book ∙ i.0,
       (
         c.in-Some.pass ∷ i.1.0,

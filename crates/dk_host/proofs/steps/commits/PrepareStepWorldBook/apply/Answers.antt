@@ -16,7 +16,7 @@ pub invariant_of-book : goal.invariant_of-book
 invariant_of-book g c =
     let o = g.W.Hosting.opened in
     let at = sym c.book.view_is in
-    prepare_kept o c.book.inside.events c.book.inside.core c.prepare-result.new.self c.book.inside.commits.total c.book.inside.places.total c.book.invariant c.prepare-result.ensures.stays c.args.self.claimed.now c.args.self.finished.now
+    prepare_kept o c.book.inside.history.events c.book.inside.core c.prepare-result.new.self c.book.inside.commits.total c.book.inside.places.total c.book.invariant c.prepare-result.ensures.stays c.args.self.claimed.now c.args.self.finished.now
     c.prepare-result.result c.prepare-result.ensures.prepares (may_granted o c.args._pass c.args.book.now c.book.inside.core c.args.self.claimed.now (subst (λ es. IsAt o es c.book.inside.core) c.book.view_is c.book.invariant.1) c.requires.2.0) (subst (λ es. IsHonestAt o es c.args.self.claimed.now c.args.self.finished.now) at c.requires.2.1) _ _ c.audit.ensures.commits.2 c.keep_for.ensures.places.1
 
 pub returns : goal.returns

@@ -1,0 +1,4 @@
+pub mod Scanned
+pub mod Numbers
+pub mod Beginning
+pub mod Walks

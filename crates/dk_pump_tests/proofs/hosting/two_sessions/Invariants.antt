@@ -1,5 +1,0 @@
-use Rattle.dk_pump_tests.specs.Hosts.{opened_on}
-use Rattle.dk_pump_tests.proofs.hosting.two_sessions.Given as goal
-
-abbrev pub ghosts-on_ledgers : goal.ghosts-on_ledgers
-ghosts-on_ledgers g a = record { opened = opened_on a.durable; began = 0; commits = a.commits.name; places = a.places.name }
