@@ -1,6 +1,6 @@
 -- From what the passes have seen to the whole history.
-use Rattle.std.proofs.Common.{◌≡◌, ℕ, zero, suc, ◌+◌, ◌<◌, Bool, Some, None, List, [], ◌∷◌, ◌++◌, length, take, Result, Ok, Err, refl, sym, ap, subst, ◌∙◌, arith, length-append}
-use Rattle.std.specs.List.{All, AllByRecursion, slice_get}
+use Rattle.std.proofs.Common.{◌≡◌, ℕ, suc, ◌+◌, ◌<◌, Bool, Some, List, [], ◌∷◌, ◌++◌, length, take, Result, Ok, Err, refl, sym, ap, subst, ◌∙◌, arith, length-append}
+use Rattle.std.specs.List.{All, slice_get}
 use Rattle.std.proofs.lemmas.List.Elements.{All-head, All-tail}
 use Rattle.std.proofs.lemmas.List.{append-nil, take-append-le, take_all}
 use mathlib.Core.List.{IsPrefix}
@@ -9,18 +9,15 @@ use Rattle.dk_model.specs.declared.script.Line.{Line}
 use Rattle.dk_model.specs.Legal.{Opened, IsFront, pass_of}
 use Rattle.dk_model.proofs.Maps.{some_is}
 use Rattle.dk_turn.specs.Fronts.{Known, known, Continues, IsDealt}
-use Rattle.dk_play_laws.specs.AloneLaw.{AreNamed, IsAlone}
-use Rattle.dk_play_laws.specs.Phased.{GoesOn, IsBetween, IsSpentAt, HavePlayed}
 use Rattle.dk_play_laws.specs.PhasedLaw.{IsSeenBy}
 use Rattle.dk_play_laws.specs.Seen.{AreNumbered, AreBehind, HaveSeen}
-use Rattle.dk_play_laws.proofs.Phasing.{plays_seen, spent_seen, stand_on, seen_all}
+use Rattle.dk_play_laws.proofs.Phasing.{plays_seen, spent_seen, seen_all}
 use Rattle.darkstar.specs.Faults.{IsWorkFault}
 use Rattle.darkstar.specs.Phases.{PlaysAll}
 use Rattle.darkstar.specs.Played.{IsSavedAt, IsSettled, IsStaged}
 use Rattle.darkstar.specs.declared.shared_play.fault.PlayFault.{PlayFault}
 use Rattle.darkstar.specs.declared.shared_play.fault.PlayFault.TheVariants as fault
 use Rattle.darkstar.specs.declared.shared_play.saving.Saved.{Saved}
-use Rattle.darkstar.specs.declared.shared_play.saving.Saved.TheVariants as saved
 use Rattle.darkstar.proofs.Playing.{named_up_to}
 use Rattle.darkstar.proofs.Rounds.{continued}
 

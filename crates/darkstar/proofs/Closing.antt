@@ -1,17 +1,16 @@
 -- From what is known of the whole history to the text.
-use Rattle.std.proofs.Common.{◌≡◌, ◌⊎◌, inl, inr, ℕ, ◌+◌, Bool, true, false, IsTrue, Option, Some, None, List, [], ◌∷◌, ◌++◌, map, Result, Ok, Err, IfOk, IfErr, refl, sym, ap, subst, ◌∙◌}
+use Rattle.std.proofs.Common.{◌≡◌, ◌≢◌, inl, inr, ℕ, Bool, true, false, IsTrue, Option, None, List, [], ◌∷◌, map, Result, Ok, Err, IfOk, IfErr, refl, sym, ap, subst, ◌∙◌}
 use Rattle.std.specs.FinMap as maps
-use Rattle.std.specs.List.{AllByRecursion, filter_map}
+use Rattle.std.specs.List.{AllByRecursion}
 use Rattle.dk_types.specs.declared.event.Event.{Event}
 use Rattle.dk_model.specs.declared.script.Line.{Line}
 use Rattle.dk_model.specs.Legal.{Opened, opening_of, world_after}
-use Rattle.dk_model.specs.Orders.{OrderItem, AreInTurn, item_of, order_of}
+use Rattle.dk_model.specs.Orders.{OrderItem, AreInTurn, order_of}
 use Rattle.dk_model.specs.Phases.{IsSmall, AreSmall, phases_of}
-use Rattle.dk_model.specs.Transcripts.{IsTranscript, Plays, playing, transcript_text}
+use Rattle.dk_model.specs.Transcripts.{Plays, playing, transcript_text}
 use Rattle.dk_script.proofs.OrderTold.{order_of-transcript_text}
-use Rattle.dk_play_laws.specs.BudgetLaw.{IsBudgetSpent}
 use Rattle.dk_play_laws.specs.LineEvents.{Said, playing_at}
-use Rattle.dk_play_laws.specs.Phased.{HavePlayed, ArePlayed}
+use Rattle.dk_play_laws.specs.Phased.{HavePlayed}
 use Rattle.dk_play_laws.specs.Told.{told_of, AreKept}
 use Rattle.dk_play_laws.proofs.Told.{silent_told, told_all}
 use Rattle.darkstar.specs.Played.{IsSavedAt, IsShown, IsSaved, IsToldPlay, IsPlayCause, IsDiskFault, IsCounted, IsSettled, IsTextOf}
@@ -22,28 +21,32 @@ use Rattle.darkstar.specs.declared.shared_play.saving.Saved.TheVariants as saved
 use Rattle.darkstar.proofs.PlayOrder.{order_of-Plays}
 
 module _ (o : Opened) (workers : ℕ) (asked : Bool) (script : List (List Line)) (history : List Event) (faults : Option ℕ) (first epoch before after : ℕ) where
+  -- one worker's store was not stopped
+  abbrev pub IsNotStoppedAlone : Type 0
+  IsNotStoppedAlone = workers ≡ 1 → faults ≢ None → ⊥
+
   -- without a text there is a cause
-  no_text : (f : PlayFault) → IsPlayCause o history before after f → IsTextOf o workers asked script history faults first epoch before after (Err f)
-  no_text f cause = record { told = tt; whole = tt; is_saved = λ is. tt; cause = cause }
+  no_text : (f : PlayFault) → IsNotStoppedAlone → IsPlayCause o history before after f → IsTextOf o workers asked script history faults first epoch before after (Err f)
+  no_text f not cause = record { told = tt; whole = tt; is_saved = λ is. tt; cause = cause; alone = λ one some risen. absurd (not one some) }
 
   pub disk_text : (f : PlayFault) → IsDiskFault before after f → IsTextOf o workers asked script history faults first epoch before after (Err f)
-  disk_text fault.NoMemory h = no_text fault.NoMemory tt
-  disk_text fault.DiskFault h = no_text fault.DiskFault h
+  disk_text fault.NoMemory h = record { told = tt; whole = tt; is_saved = λ is. tt; cause = tt; alone = λ one some risen. absurd (h risen) }
+  disk_text fault.DiskFault h = record { told = tt; whole = tt; is_saved = λ is. tt; cause = h; alone = λ one some risen. refl }
   disk_text (fault.Budget granted) h = absurd h
   disk_text (fault.JournalFull length_) h = absurd h
   disk_text (fault.Exhausted next) h = absurd h
 
-  pub memory_text : IsTextOf o workers asked script history faults first epoch before after (Err fault.NoMemory)
-  memory_text = no_text fault.NoMemory tt
+  pub memory_text : IsNotStoppedAlone → IsTextOf o workers asked script history faults first epoch before after (Err fault.NoMemory)
+  memory_text not = no_text fault.NoMemory not tt
 
   -- a fault of the play
-  pub fault_text : {V : Type 0} (marks_of : V → List ℕ) (saved_of : V → Saved) (phases : List (List Line)) (f told : PlayFault) → IsSettled asked o workers phases marks_of saved_of history (Err f) → IsCounted before after f told
+  pub fault_text : {V : Type 0} (marks_of : V → List ℕ) (saved_of : V → Saved) (phases : List (List Line)) (f told : PlayFault) → IsNotStoppedAlone → IsSettled asked o workers phases marks_of saved_of history (Err f) → IsCounted before after f told
       → IsTextOf o workers asked script history faults first epoch before after (Err told)
-  fault_text marks_of saved_of phases fault.NoMemory told h is = no_text told (subst (IsPlayCause o history before after) (sym is) tt)
-  fault_text marks_of saved_of phases fault.DiskFault told h is = disk_text told is
-  fault_text marks_of saved_of phases (fault.Budget granted) told h is = no_text told (subst (IsPlayCause o history before after) (sym is) h)
-  fault_text marks_of saved_of phases (fault.JournalFull length_) told h is = no_text told (subst (IsPlayCause o history before after) (sym is) h)
-  fault_text marks_of saved_of phases (fault.Exhausted next) told h is = no_text told (subst (IsPlayCause o history before after) (sym is) h)
+  fault_text marks_of saved_of phases fault.NoMemory told not h is = no_text told not (subst (IsPlayCause o history before after) (sym is) tt)
+  fault_text marks_of saved_of phases fault.DiskFault told not h is = disk_text told is
+  fault_text marks_of saved_of phases (fault.Budget granted) told not h is = no_text told not (subst (IsPlayCause o history before after) (sym is) h)
+  fault_text marks_of saved_of phases (fault.JournalFull length_) told not h is = no_text told not (subst (IsPlayCause o history before after) (sym is) h)
+  fault_text marks_of saved_of phases (fault.Exhausted next) told not h is = no_text told not (subst (IsPlayCause o history before after) (sym is) h)
 
   -- what became of the store
   store_saved : (s : Saved) → IsSavedAt asked o history s → IsShown s first epoch → IsTrue asked → IsSaved o history first epoch
@@ -95,6 +98,7 @@ module _ (o : Opened) (workers : ℕ) (asked : Bool) (script : List (List Line))
         whole = stopped;
         is_saved = store_saved state settled.1 shown;
         cause = tt;
+        alone = λ one some risen. absurd (some stopped);
       }
   whole_text marks state commits tasks events (Err why) settled commits_are tasks_are stopped shown same kept is_text fault_is =
-      subst (λ (f : PlayFault). IsTextOf o workers asked script history faults first epoch before after (Err f)) (sym fault_is) memory_text
+      subst (λ (f : PlayFault). IsTextOf o workers asked script history faults first epoch before after (Err f)) (sym fault_is) (memory_text (λ one some. some stopped))

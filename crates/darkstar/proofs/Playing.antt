@@ -1,24 +1,23 @@
 -- Phases, from the calls that they make, one after another.
-use Rattle.std.proofs.Common.{◌≡◌, ℕ, ◌+◌, ◌<◌, Some, List, [], ◌∷◌, ◌++◌, length, Result, Ok, Err, IfErr, OnOk, refl, sym, ap, subst, ◌∙◌, arith}
+use Rattle.std.proofs.Common.{◌≡◌, ℕ, ◌+◌, ◌<◌, Some, List, [], ◌∷◌, ◌++◌, length, Result, Ok, Err, IfErr, OnOk, refl, sym, ap, subst, ◌∙◌}
 use Rattle.std.specs.List.{All, AllByRecursion}
 use Rattle.std.specs.FinSet as sets
 use Rattle.std.proofs.lemmas.List.Elements.{All-head, All-tail}
-use Rattle.dk_types.specs.declared.number.ConnNo.{ConnNo}
 use Rattle.dk_types.specs.declared.event.Event.{Event}
 use Rattle.dk_types.specs.declared.event.ClaimReply.{ClaimReply}
 use Rattle.dk_types.specs.declared.event.ClaimReply.TheVariants as claimed
 use Rattle.dk_model.specs.declared.script.Line.{Line}
 use Rattle.dk_model.specs.Lawful.{AreLawful}
-use Rattle.dk_model.specs.Legal.{Opened, IsLegal, pass_of}
+use Rattle.dk_model.specs.Legal.{Opened, pass_of}
 use Rattle.dk_model.specs.Scripts.{LineNames, AllStand, names_through}
 use Rattle.dk_turn.specs.Fronts.{Known}
 use Rattle.dk_play_laws.specs.AloneLaw.{AreNamed}
 use Rattle.dk_play_laws.specs.LineEvents.{Said, nothing_said, AreLineEvents, AreHandEvents}
-use Rattle.dk_play_laws.specs.Phased.{IsBetween, IsDrain, IsPhaseTo, IsPhase, IsSpentAt}
+use Rattle.dk_play_laws.specs.Phased.{IsBetween, IsDrain, IsPhaseTo, IsSpentAt}
 use Rattle.dk_play_laws.specs.Seen.{AreNumbered, AreBehind}
 use Rattle.dk_play_laws.proofs.Phasing.{phases_follow, spent_phases, nothing_played}
 use Rattle.darkstar.specs.Drains.{HasDrained, Drains}
-use Rattle.darkstar.specs.Faults.{IsLineFault, IsWorkFault}
+use Rattle.darkstar.specs.Faults.{IsLineFault}
 use Rattle.darkstar.specs.Lines.{PassEnters, EntersLines, HandsAll}
 use Rattle.darkstar.specs.Logins.{AllMean, MayStandAll}
 use Rattle.darkstar.specs.Phases.{HasPlayedOne, HasSpentAll, PlaysOne, PlaysAll}

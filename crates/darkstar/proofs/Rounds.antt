@@ -1,12 +1,12 @@
 -- A round of the main pass: it meets one worker after another.
-use Rattle.std.proofs.Common.{◌≡◌, ◌≢◌, ℕ, zero, suc, ◌+◌, ◌<◌, ◌≤◌, List, [], ◌∷◌, ◌++◌, length, get_or, refl, sym, ap, subst, ◌∙◌, arith, append_assoc}
+use Rattle.std.proofs.Common.{◌≡◌, ◌≢◌, ℕ, zero, suc, ◌+◌, ◌<◌, ◌≤◌, List, [], ◌∷◌, ◌++◌, length, get_or, refl, sym, ap, subst, ◌∙◌, arith}
 use Rattle.std.proofs.Math.ListN.{set}
 use Rattle.std.specs.List.{AllByRecursion}
 use Rattle.std.proofs.lemmas.List.{append-nil}
 use mathlib.Core.List.{IsPrefix}
 use Rattle.dk_types.specs.declared.event.Event.{Event}
 use Rattle.dk_model.specs.Legal.{IsFront, pass_of}
-use Rattle.dk_turn.specs.Fronts.{Known, own, Continues}
+use Rattle.dk_turn.specs.Fronts.{Known, Continues}
 use Rattle.dk_play_laws.specs.Phased.{GoesOn, HasMet, HaveMet}
 use Rattle.dk_play_laws.specs.Seen.{ArePaired}
 use Rattle.dk_play_laws.proofs.Drained.{prefix_then}

@@ -1,6 +1,5 @@
 -- Lines that may be entered one after another.
-use Rattle.std.proofs.Common.{◌≡◌, ℕ, true, List, [], ◌∷◌, ◌++◌, refl, sym, ap, subst, ◌∙◌}
-use Rattle.std.specs.FinMap as maps
+use Rattle.std.proofs.Common.{◌≡◌, ℕ, List, [], ◌∷◌, refl, sym, subst}
 use Rattle.std.specs.FinSet as sets
 use Rattle.dk_types.specs.declared.limits.TheConstants.{NUMBERS_END}
 use Rattle.dk_types.specs.declared.event.Event.{Event}
@@ -9,7 +8,7 @@ use Rattle.dk_types.specs.declared.event.ConnectReply.TheVariants as connected
 use Rattle.dk_model.specs.declared.script.Line.{Line}
 use Rattle.dk_model.specs.declared.script.Line.TheVariants as line
 use Rattle.dk_model.specs.Legal.{Opened, IsLegal}
-use Rattle.dk_model.specs.Scripts.{LineNames, AllMayStand, names_after, names_through}
+use Rattle.dk_model.specs.Scripts.{LineNames, names_after, names_through}
 use Rattle.dk_host.specs.Calls.{Entered}
 use Rattle.dk_play_laws.specs.LineEvents.{Said, IsLineEvent, AreLineEvents}
 use Rattle.dk_play_laws.proofs.Budgets.{numbers_end}

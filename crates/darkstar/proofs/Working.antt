@@ -1,9 +1,7 @@
 -- What workers do, as the laws of plays see it.
-use Rattle.std.proofs.Common.{◌≡◌, ◌⊎◌, ℕ, ◌<◌, ◌^◌, Bool, true, false, not, Option, Some, None, unwrap_or, inl, inr, List, [], ◌∷◌, ◌++◌, map, refl, sym, ap, subst, ◌∙◌}
-use Rattle.std.specs.List.{All, AllByRecursion, find}
-use Rattle.std.proofs.lemmas.List.{append-nil}
+use Rattle.std.proofs.Common.{◌≡◌, ℕ, ◌<◌, ◌^◌, Some, None, inl, inr, List, [], ◌∷◌, ◌++◌, map, refl, sym, ap, subst, ◌∙◌}
+use Rattle.std.specs.List.{All, AllByRecursion}
 use Rattle.std.proofs.lemmas.List.Elements.{All-head, All-tail}
-use Rattle.dk_types.specs.declared.number.RunNo.{RunNo}
 use Rattle.dk_types.specs.declared.limits.TheConstants.{NUMBERS_END}
 use Rattle.dk_types.specs.declared.event.Event.{Event}
 use Rattle.dk_types.specs.declared.event.Event.TheVariants as event
@@ -21,7 +19,6 @@ use Rattle.dk_play_laws.specs.Seen.{ArePaired}
 use Rattle.dk_play_laws.specs.Worked.{AreWorked}
 use Rattle.dk_play_laws.proofs.Budgets.{numbers_end}
 use Rattle.dk_play_laws.proofs.Worked.{worked_then}
-use Rattle.darkstar.specs.Faults.{end_told, IsWorkFault}
 
 -- runs that were committed are worked
 runs_worked : (pass : ℕ) (rans : List Ran) → AreWorked None (committed pass rans) None

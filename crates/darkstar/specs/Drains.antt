@@ -1,5 +1,5 @@
 -- What a drain leaves.
-use Rattle.std.specs.Prelude.{◌≡◌, ℕ, ◌<◌, List, Result, Ok, Err}
+use Rattle.std.specs.Prelude.{ℕ, ◌<◌, List, Result, Ok, Err}
 use Rattle.std.specs.List.{All}
 use Rattle.dk_types.specs.declared.event.Event.{Event}
 use Rattle.dk_types.specs.declared.event.ClaimReply.{ClaimReply}

@@ -1,5 +1,5 @@
 -- Why a play comes to an end before its script does.
-use Rattle.std.specs.Prelude.{◌≡◌, ℕ, ◌<◌, ◌^◌, Option, Some, None, Result, Ok, Err}
+use Rattle.std.specs.Prelude.{◌≡◌, ◌<◌, ◌^◌, Option, Some, None, Result, Ok, Err}
 use Rattle.dk_types.specs.declared.limits.TheConstants.{NUMBERS_END}
 use Rattle.dk_workers.specs.declared.worked.Worked.{Worked}
 use Rattle.dk_workers.specs.declared.worked.Worked.TheVariants as worked

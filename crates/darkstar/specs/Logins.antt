@@ -1,5 +1,5 @@
 -- What lines leave to be known, seen as the definitions see it.
-use Rattle.std.specs.Prelude.{◌≡◌, ℕ, true, List, [], ◌∷◌}
+use Rattle.std.specs.Prelude.{◌≡◌, ℕ, true, List}
 use Rattle.std.specs.FinMap as maps
 use Rattle.std.specs.FinSet as sets
 use Rattle.dk_types.specs.declared.number.ConnNo.{ConnNo}

@@ -1,5 +1,5 @@
 -- What a play of a script leaves, and why there is no transcript.
-use Rattle.std.specs.Prelude.{◌≡◌, ◌⊎◌, ℕ, ◌+◌, ◌<◌, ◌≤◌, ◌^◌, Bool, false, IsTrue, List, [], ◌∷◌, ◌++◌, length, Option, Some, None, Result, Ok, Err, IfOk, IfErr}
+use Rattle.std.specs.Prelude.{◌≡◌, ◌≢◌, ◌⊎◌, ℕ, ◌+◌, ◌<◌, ◌≤◌, ◌^◌, Bool, false, IsTrue, List, length, Option, Some, None, Result, Ok, Err, IfOk, IfErr}
 use Rattle.std.specs.List.{AllByRecursion}
 use Rattle.dk_types.specs.Faults.{HasRisen}
 use Rattle.dk_types.specs.declared.limits.TheConstants.{NUMBERS_END}
@@ -19,7 +19,6 @@ use Rattle.dk_play_laws.specs.BudgetLaw.{IsBudgetSpent}
 use Rattle.dk_play_laws.specs.LineEvents.{Said}
 use Rattle.dk_play_laws.specs.Phased.{HavePlayed, IsBetween, IsSpentAt}
 use Rattle.darkstar.specs.Faults.{IsWorkFault}
-use Rattle.darkstar.specs.Phases.{PlaysAll}
 use Rattle.darkstar.specs.declared.shared_play.fault.PlayFault.{PlayFault}
 use Rattle.darkstar.specs.declared.shared_play.fault.PlayFault.TheVariants as fault
 use Rattle.darkstar.specs.declared.shared_play.saving.Saved.{Saved}
@@ -66,9 +65,9 @@ IsPlayCause o history before after (fault.Budget granted) = IsBudgetSpent o hist
 IsPlayCause o history before after (fault.JournalFull length_) = 2 ^ 40 < length_
 IsPlayCause o history before after (fault.Exhausted next) = next ≡ NUMBERS_END
 
--- a fault of the disk is one where its count rose
+-- a fault of the disk is one where its count rose; where it did not, there is none
 abbrev pub IsDiskFault : ℕ → ℕ → PlayFault → Type 0
-IsDiskFault before after fault.NoMemory = Unit {0}
+IsDiskFault before after fault.NoMemory = HasRisen before after → ⊥
 IsDiskFault before after fault.DiskFault = HasRisen before after
 IsDiskFault before after (fault.Budget granted) = ⊥
 IsDiskFault before after (fault.JournalFull length_) = ⊥
@@ -106,6 +105,8 @@ pub record IsTextOf (o : Opened) (workers : ℕ) (asked : Bool) (script : List (
   pub whole : IfOk text (λ t. faults ≡ None)
   pub is_saved : IsTrue asked → IfOk text (λ t. IsSaved o history first epoch)
   pub cause : IfErr text (IsPlayCause o history before after)
+  -- by one worker, where the store was stopped and its count rose, that is told
+  pub alone : workers ≡ 1 → faults ≢ None → HasRisen before after → text ≡ Err fault.DiskFault
 
 -- A PLAY ON A STORE: its one history is legal, what a stop leaves at each moment is a beginning of it or all of it and its tail, and the text tells it, or there is a cause why there is none
 pub record IsPlayOn (o : Opened) (workers : ℕ) (asked : Bool) (script : List (List Line)) (tells : Bool) (began past : DiskHistory) (first before after : ℕ) (text : Result (List ℕ) PlayFault) : Type 0 where

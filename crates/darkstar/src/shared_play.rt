@@ -18,9 +18,9 @@ mod logins;
 mod phases;
 mod saving;
 mod staging;
+#[cfg(test)]
+mod tests;
 mod text;
-
-pub use fault::PlayFault;
 
 use dk_disk::Home;
 use dk_game::Game;
@@ -30,6 +30,7 @@ use dk_script::Script;
 use dk_turn::Blank;
 use dk_types::{Blob, Listed};
 use dk_workers::Gate;
+pub use fault::PlayFault;
 use staging::play_on_turn;
 use std::alloc::Global;
 use std::marker::Brand;
@@ -70,6 +71,8 @@ fn play_on_ledgers<
     requires opened { W.opened ≡ opened_on (G.rules game.now) store.durable budget }
     requires began { M.past store.home ≡ W.began }
     requires first { store.journal.epoch ≡ W.first }
+    requires opening { M.opening store.home ≡ W.opening }
+    requires counted { M.counted store.home ≡ W.counted }
     requires keeps { W.keeps ≡ true }
     requires stand { AllStand sets.empty script.now }
     ensures { IsUnopened store.home result.home result.text ⊎ IsPlayOn W.opened workers asked script.now M.tells W.began (M.past result.home) W.first before (M.counted result.home) result.text }

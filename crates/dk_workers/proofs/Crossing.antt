@@ -1,7 +1,6 @@
 -- A host may be shared by threads, and a pass may go to one.
 use denote.Param.Send.{IsSend, IsSync, sendable, view_send}
 use denote.Param.SendFields.{as_row_send, as_row_sync, declared_send, declared_sync}
-use denote.Struct.Record.{declared}
 use Rattle.std.proofs.Crossing.{crosses}
 use Rattle.std.proofs.option.Option.TheSendSync as options
 use Rattle.dk_map.proofs.tree.Tree.TheLaws.TheKnot as knot
@@ -10,8 +9,6 @@ use Rattle.dk_types.proofs.number.ConnNo.TheSendSync as conns
 use Rattle.dk_types.proofs.number.RunNo.TheSendSync as runs
 use Rattle.dk_types.proofs.number.TaskKey.TheSendSync as keys
 use Rattle.dk_types.proofs.object.Object.TheSendSync as object
-use Rattle.dk_types.proofs.blob.Blob.TheSendSync as blob
-use Rattle.dk_types.proofs.job.Job.TheSendSync as job
 use Rattle.dk_types.proofs.name.Name.TheSendSync as name
 use Rattle.dk_tasks.proofs.stored.Stored.TheSendSync as task
 use Rattle.dk_tasks.proofs.stored.TaskRank.TheSendSync as task_rank
@@ -24,18 +21,11 @@ use Rattle.dk_connections.specs.contracts.connections.Connections as connections
 use Rattle.dk_core.specs.contracts.claims.Claims as claims
 use Rattle.dk_core.specs.contracts.durable.world.StampedWorld as stamped
 use Rattle.dk_core.specs.contracts.world.Core as core
-
 use denote.RattleType.{RattleType}
 use denote.Ref.{NamedLft}
 use Rattle.std.proofs.alloc.Global.TheSendSync as global
-use Rattle.std.proofs.marker.PhantomData.TheSendSync as phantom
 use Rattle.std.proofs.sync.ledger.Book.TheSendSync as ledger
-use Rattle.dk_turn.proofs.ghost_list.GhostList.TheSendSync as ghost_list
-use Rattle.dk_turn.specs.contracts.ghost_list.GhostList as ghost_lists
 use Rattle.dk_types.specs.contracts.event.Event as events
-use Rattle.dk_types.proofs.event.Event.TheSendSync as event
-use Rattle.dk_host.proofs.hosting.CommitLedger.TheSendSync as commits
-use Rattle.dk_host.proofs.hosting.PlaceLedger.TheSendSync as places
 use Rattle.dk_host.specs.declared.hosting.Hosting as hosting
 use Rattle.dk_host.specs.contracts.book.WorldBook as book
 use Rattle.dk_turn.specs.declared.naming.Naming as naming
@@ -43,6 +33,11 @@ use Rattle.dk_turn.proofs.pass.Pass.TheSendSync as pass
 use Rattle.dk_turn.specs.contracts.pass.Pass as passes
 use Rattle.dk_model.specs.Legal.{pass_of}
 use Rattle.dk_turn.proofs.turn.Turn.TheSendSync as turn
+use Rattle.dk_turn.proofs.watcher.Watcher.TheSendSync as watcher
+use Rattle.dk_turn.specs.contracts.watcher.Watcher as watchers
+use Rattle.dk_types.proofs.game_id.GameId.TheSendSync as game_id
+use Rattle.dk_types.proofs.side.Side.TheSendSync as side
+use Rattle.dk_host.proofs.history.History.TheSendSync as history
 use Rattle.dk_turn.specs.contracts.turn.Turn as turns
 use Rattle.dk_disk.specs.declared.home.Home as home
 use Rattle.dk_journal.proofs.journal.Journal.TheSendSync as journal
@@ -75,11 +70,9 @@ stamped_send = search (sendable, crosses, runs.the_send, objects_send, names_sen
 
 pub core_send : IsSend core.the_row
 core_send = search (sendable, crosses, stamped_send, connections_send, claims_send) depth 20
-pub events_send : IsSend (ghost_lists.the_row events.the_row)
-events_send = search (sendable, crosses, ghost_list.the_send, event.the_send) depth 20
 
 pub inside_send : (W : RattleType) (h : hosting.Ghosts W.Denot) → IsSend W → IsSend (inside.the_row W h)
-inside_send W h s = declared_send (inside.the_type W h) (search (sendable, core_send), (search (sendable, events_send), (search (sendable, crosses, ledger.the_send) depth 20, (search (sendable, crosses, ledger.the_send) depth 20, tt))))
+inside_send W h s = declared_send (inside.the_type W h) (search (sendable, core_send), (search (sendable, history.the_send), (search (sendable, crosses, ledger.the_send) depth 20, (search (sendable, crosses, ledger.the_send) depth 20, tt))))
 
 pub book_send : (W : RattleType) (h : hosting.Ghosts W.Denot) → IsSend W → IsSend (book.the_row W h)
 book_send W h s = view_send (inside.the_row W h) _ _ _ _ (inside_send W h s)
@@ -91,13 +84,17 @@ module _ (W J : RattleType) (w : hosting.Ghosts W.Denot) (j : naming.Ghosts J.De
   pub pass_send : IsSend pass_row
   pass_send = pass.the_send (book.the_row W w) J events.the_row record { history = λ b. b; number = pass_of } j (book_send W w a)
 
+  -- who only looks may go to a thread too
+  pub watcher_send : IsSend (watchers.the_row (book.the_row W w) J events.the_row record { history = λ b. b; number = pass_of } j)
+  watcher_send = watcher.the_send (book.the_row W w) J events.the_row record { history = λ b. b; number = pass_of } j (book_send W w a)
+
   pub turn_sync : IsSync (turns.the_row (book.the_row W w) J events.the_row record { history = λ b. b; number = pass_of } j)
   turn_sync = turn.the_sync (book.the_row W w) J events.the_row record { history = λ b. b; number = pass_of } j (book_send W w a)
 
 module _ (W J M : RattleType) (w : hosting.Ghosts W.Denot) (j : naming.Ghosts J.Denot) (m : home.Ghosts M.Denot) (a : IsSend W) (b : IsSend J) (c : IsSend M) where
   pub store_send : IsSend (store.the_row W J M w j m)
   store_send = view_send (store_inside.the_row W J M w j m) _ _ _ _ (declared_send (store_inside.the_type W J M w j m)
-      (search (sendable, crosses, as_row_send, c, pass_send W J w j a b, journal.the_send, right.the_send, prepared.the_send) depth 20))
+      (search (sendable, crosses, as_row_send, c, watcher_send W J w j a b, game_id.the_send, side.the_send, journal.the_send, right.the_send, prepared.the_send) depth 20))
 
   pub free_send : IsSend (free.the_row W J M j m w)
   free_send = declared_send (free.the_type W J M j m w) (search (sendable, store_send))

@@ -25,8 +25,7 @@ struct Team<'a, G: Game, W: Hosting, J: Naming, M: Home, T: Gate, R: Wait> {
 }
 
 impl<G: Game, W: Hosting, J: Naming, M: Home, T: Gate, R: Wait> Server<Pass<WorldBook<W>, J>>
-    for Team<'_, G, W, J, M, T, R>
-{
+    for Team<'_, G, W, J, M, T, R> {
     ghost use Rattle.std.specs.Prelude.{◌≡◌};
     ghost use Rattle.dk_workers.specs.Workers.{Works};
 

@@ -1,5 +1,5 @@
 //! From a host that was closed to the text.
-ghost use Rattle.std.specs.Prelude.{◌≡◌, ◌↔◌, ◌∷◌, [], IsTrue};
+ghost use Rattle.std.specs.Prelude.{◌≡◌, ◌≢◌, ◌↔◌, ◌∷◌, [], None, true, false, IsTrue};
 ghost use Rattle.std.specs.FinMap as map;
 ghost use Rattle.dk_types.specs.Faults.{HasRisen};
 ghost use Rattle.dk_model.specs.Legal.{world_after};
@@ -39,6 +39,17 @@ fn disk_fault(before: u64, after: u64) -> PlayFault
     }
 }
 
+// Whether the store of a single worker was stopped: then that worker's commit failed, or the main pass's did.
+fn is_stopped_alone(workers: u32, faults: Option<u64>) -> bool
+    ensures so { result ≡ true → workers ≡ 1 }
+    ensures not_so { result ≡ false → workers ≡ 1 → faults ≢ None → ⊥ }
+{
+    match faults {
+        None => false,
+        Some(_) => workers == 1,
+    }
+}
+
 // The fault as it is told.
 fn counted(fault: PlayFault, before: u64, after: u64) -> PlayFault
     ensures { IsCounted before after fault result }
@@ -69,10 +80,12 @@ pub(crate) fn told<W: Hosting, M: Home>(
     requires tasks { closed.now.tasks ≡ map.len (world_after W.opened closed.now.history).durable.tasks }
     ensures { IsTextOf W.opened workers asked script.now closed.now.history closed.now.faults closed.now.first closed.now.epoch before (M.counted closed.now.home) result }
 {
-    let _ = workers;
     let _ = asked;
     let _ = script;
     let after = closed.home.faults();
+    if is_stopped_alone(workers, closed.faults) {
+        return Err(disk_fault(before, after));
+    }
     let staged = match staged {
         Ok(staged) => staged,
         Err(fault) => return Err(counted(fault, before, after)),

@@ -109,7 +109,14 @@ fn send_on<W: Hosting, J: Naming, M: Home, R: Wait>(
 {
     let channel = channel.clone()?;
     let body = text.clone()?;
-    post_for(rt, host, pass, logins, name, Input::Channel { channel, body })
+    post_for(
+        rt,
+        host,
+        pass,
+        logins,
+        name,
+        Input::Channel { channel, body },
+    )
 }
 
 /// Posts a disconnect. From now on the name means nothing.

@@ -101,6 +101,8 @@ pub(crate) fn play_on_turn<
     requires budget { W.opened.budget ≡ Some budget }
     requires began { M.past store.home ≡ W.began }
     requires first { store.journal.epoch ≡ W.first }
+    requires opening { M.opening store.home ≡ W.opening }
+    requires counted { M.counted store.home ≡ W.counted }
     requires keeps { W.keeps ≡ true }
     requires stand { AllStand sets.empty script.now }
     ensures { IsUnopened store.home result.home result.text ⊎ IsPlayOn W.opened workers asked script.now M.tells W.began (M.past result.home) W.first before (M.counted result.home) result.text }

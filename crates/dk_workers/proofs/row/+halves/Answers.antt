@@ -1,4 +1,4 @@
-use Rattle.std.proofs.Common.{rules, ◌≡◌, ◌++◌, sym, subst}
+use Rattle.std.proofs.Common.{rules, ◌++◌, sym, subst}
 use Rattle.dk_workers.specs.Rows.{IsServed}
 use Rattle.dk_workers.proofs.Shifts.{served_alone, served_both}
 use Rattle.dk_workers.proofs.row.+halves.Goals as goal

@@ -1,4 +1,4 @@
-use Rattle.std.proofs.Common.{◌≡◌, ℕ, [], ◌∷◌, List, Result, IfOk, IsTrue, rules, sym, subst, ◌∙◌}
+use Rattle.std.proofs.Common.{◌≡◌, ℕ, [], ◌∷◌, List, Result, IfOk, IsTrue, rules, subst, ◌∙◌}
 use Rattle.dk_model.specs.Phases.{phases_of}
 use Rattle.dk_model.specs.Transcripts.{transcript_text}
 use Rattle.darkstar.specs.Played.{IsCounted, IsSettled}
@@ -13,7 +13,7 @@ returns-in-Err g c =
     let o = g.W.Hosting.opened in
     let script = c.args.script.now in
     let settled = subst (λ (r : Result Staged PlayFault). IsSettled c.args.asked o c.args.workers ([] ∷ script) (λ (s : Staged). s.marks.items) (λ (s : Staged). s.saved) k.history r) c.in-Err.is c.requires.settled in
-    fault_text o c.args.workers c.args.asked script k.history k.faults k.first k.epoch c.args.before (g.M.Home.counted k.home) (λ (s : Staged). s.marks.items) (λ (s : Staged). s.saved) ([] ∷ script) c.in-Err.fault c.counted.result settled
+    fault_text o c.args.workers c.args.asked script k.history k.faults k.first k.epoch c.args.before (g.M.Home.counted k.home) (λ (s : Staged). s.marks.items) (λ (s : Staged). s.saved) ([] ∷ script) c.in-Err.fault c.counted.result (c.is_stopped_alone.ensures.not_so c.if-is_stopped_alone.false) settled
     (subst (λ (n : ℕ). IsCounted c.args.before n c.in-Err.fault c.counted.result) c.faults-after.ensures c.counted.ensures)
 
 pub returns : goal.returns

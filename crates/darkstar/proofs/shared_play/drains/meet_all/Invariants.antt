@@ -1,5 +1,3 @@
-use Rattle.std.proofs.Common.{[]}
-use Rattle.dk_play_laws.specs.Phased.{GoesOn}
 use Rattle.darkstar.proofs.Rounds.{IsRoundTo}
 use Rattle.darkstar.proofs.shared_play.drains.meet_all.Given as goal
 

@@ -1,4 +1,4 @@
-use Rattle.std.proofs.Common.{[], ◌∷◌, ◌++◌, Ok, Err, OnOk, sym, subst, ap}
+use Rattle.std.proofs.Common.{[], OnOk, subst}
 use Rattle.std.proofs.lemmas.Result.{err_from_is_err_and}
 use Rattle.darkstar.specs.Lines.{HandsAll}
 use Rattle.darkstar.specs.Logins.{said_of}

@@ -1,4 +1,4 @@
-use Rattle.std.proofs.Common.{◌≡◌, ℕ, ◌+◌, [], ◌∷◌, length, arith}
+use Rattle.std.proofs.Common.{◌≡◌, ◌+◌, [], ◌∷◌, length, arith}
 use Rattle.dk_play_laws.proofs.Phasing.{stand_on}
 use Rattle.darkstar.proofs.Passing.{goes_by}
 use Rattle.darkstar.proofs.Playing.{named_up_to}
