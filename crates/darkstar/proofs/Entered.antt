@@ -1,21 +1,18 @@
 -- The lines of a script are entered one after another.
-use Rattle.std.proofs.Common.{◌≡◌, ℕ, ◌+◌, ◌*◌, ◌≤◌, Some, List, [], ◌∷◌, ◌++◌, length, refl, sym, ap, ◌∙◌, subst, arith, append_assoc}
+use Rattle.std.proofs.Common.{◌≡◌, ℕ, ◌+◌, ◌*◌, ◌≤◌, List, [], ◌∷◌, ◌++◌, length, refl, sym, ap, ◌∙◌, subst, arith, append_assoc}
 use Rattle.std.proofs.lemmas.List.{length_push}
 use Rattle.std.specs.FinMap as maps
 use Rattle.std.specs.FinSet as sets
 use Rattle.dk_types.specs.declared.number.ConnNo.{ConnNo}
 use Rattle.dk_types.specs.declared.job.Input.{Input}
-use Rattle.dk_types.specs.declared.job.Input.TheVariants as input
 use Rattle.dk_types.specs.Names.{bytes_cmp}
 use Rattle.dk_types.specs.declared.event.Event.{Event}
 use Rattle.dk_types.specs.declared.event.Event.TheVariants as event
 use Rattle.dk_types.specs.declared.event.ConnectReply.TheVariants as connected
-use Rattle.dk_types.specs.declared.event.PostReply.{PostReply}
-use Rattle.dk_types.specs.declared.event.PostReply.TheVariants as posted
 use Rattle.dk_model.specs.declared.script.Line.{Line}
 use Rattle.dk_model.specs.declared.script.Line.TheVariants as line
 use Rattle.dk_model.specs.Worlds.{World}
-use Rattle.dk_model.specs.Events.{Meaning, Happens}
+use Rattle.dk_model.specs.Events.{Meaning}
 use Rattle.dk_model.specs.Phases.{IsSmall}
 use Rattle.dk_model.specs.Scripts.{LineNames, AllMayStand, names_after, names_through}
 use Rattle.dk_model.specs.Transcripts.{Playing, PostsTo, Enters, EntersAll}
@@ -24,7 +21,7 @@ use Rattle.dk_core.specs.declared.world.Core.{Core}
 use Rattle.dk_core.specs.Cores.{world_of, Adds}
 use Rattle.dk_workers.proofs.Honest.{standing_then, enters_goes}
 use Rattle.darkstar.specs.declared.play.state.Play.{Play}
-use Rattle.darkstar.specs.Plays.{means_of, playing_of, IsGoing, CanBeEntered, IsPosted, IsReadyFor, AllMean, IsReadyForAll, IsEntered, EntersLine, EntersLines}
+use Rattle.darkstar.specs.Plays.{means_of, playing_of, IsGoing, CanBeEntered, IsPosted, IsReadyFor, AllMean, IsReadyForAll, EntersLine, EntersLines}
 use Rattle.darkstar.proofs.Alls.{all-append}
 use Rattle.darkstar.proofs.Led.{goes_happens}
 use Rattle.darkstar.proofs.Meant.{login_means, left_means}

@@ -10,6 +10,8 @@ pub mod PlayOrder
 pub mod SinkPieces
 pub mod Fronts
 pub mod Told
+pub mod ReportEnds
+pub mod Askings
 pub mod Meanings
 pub mod Passing
 pub mod Rounds

@@ -1,9 +1,8 @@
 -- A play of the empty world, in which nothing has happened.
-use Rattle.std.proofs.Common.{◌≡◌, ℕ, ◌+◌, ◌≤◌, false, None, Ok, List, [], refl, sym, ap, ◌∙◌, subst}
+use Rattle.std.proofs.Common.{◌≡◌, ℕ, ◌+◌, ◌≤◌, None, Ok, [], refl, sym, ap, ◌∙◌, subst}
 use Rattle.dk_types.specs.declared.durable.Durable.{Durable}
 use Rattle.dk_types.specs.declared.limits.TheConstants.{NUMBERS_END}
 use Rattle.dk_model.specs.DurableWorlds.{empty_world}
-use Rattle.dk_model.specs.Worlds.{World}
 use Rattle.dk_model.specs.Events.{Meaning}
 use Rattle.dk_model.specs.Openings.{opening}
 use Rattle.dk_model.specs.Runs.{give}

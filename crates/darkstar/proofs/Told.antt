@@ -1,7 +1,6 @@
 -- Which line is told of a source's bytes.
 use Rattle.std.proofs.Common.{◌≡◌, ℕ, Option, Some, None, List, IsSomeAnd, subst}
 use Rattle.std.specs.Prelude.{IfSome}
-use Rattle.dk_model.specs.declared.script.Line.{Line}
 use Rattle.dk_model.specs.Scripts.{IsScript, IsBadLine}
 use Rattle.dk_script.proofs.ScriptOnce.{scripts-are_read}
 use Rattle.darkstar.specs.Headline.{IsPlayable, IsReadPlay}

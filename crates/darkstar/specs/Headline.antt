@@ -1,5 +1,5 @@
--- What the program does: what `play` reads, and what it writes. A stream that does not tell its bytes is not spoken of.
-use Rattle.std.specs.Prelude.{◌≡◌, ℕ, ◌≤◌, List, [], ◌∷◌, ◌++◌, length, Option, Some, None, codes}
+-- What the program does: which words it takes, what `play` reads, and what it writes. A stream that does not tell its bytes is not spoken of.
+use Rattle.std.specs.Prelude.{◌≡◌, ◌⊎◌, ℕ, ◌≤◌, List, [], ◌∷◌, ◌++◌, length, Option, Some, None, codes}
 use Rattle.std.specs.List.{AllByRecursion}
 use Rattle.std.specs.Io.KnownBytes.{Appends}
 use Rattle.dk_types.specs.declared.limits.TheConstants.{SCRIPT_MOST_BYTES}
@@ -11,10 +11,15 @@ use Rattle.dk_model.specs.Openings.{opening}
 use Rattle.dk_model.specs.Orders.{AreInTurn, order_of}
 use Rattle.dk_model.specs.Transcripts.{IsTranscript}
 use Rattle.sword_world.specs.Rules.{sword_rules}
+use Rattle.dk_command.specs.Requests.{Asks, Report, Reports}
 
--- the one command
+-- the words of a play in memory
 abbrev pub play_words : List (List ℕ)
 play_words = codes "play" ∷ []
+
+-- the words ask for what the program does: a play in memory, or a report
+abbrev pub IsAsked : List (List ℕ) → Type 0
+IsAsked words = (words ≡ play_words) ⊎ ((report : Report) × Asks words (Reports report))
 
 -- the bytes are a script of some phases
 abbrev pub IsPlayable : List ℕ → Type 0

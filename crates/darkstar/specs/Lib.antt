@@ -1,5 +1,7 @@
 pub mod Statuses
 pub mod Headline
+pub mod Reports
+pub mod Asked
 pub mod Reading
 pub mod Plays
 pub mod Logins

@@ -1,11 +1,10 @@
 -- The answer for a subcommand, by what `clap` found.
-use Rattle.std.proofs.Common.{◌≡◌, ◌∙◌, ◌≤◌, ◌<◌, ℕ, Bool, true, List, [], Option, Some, None, is_some, refl, sym, ap, subst, arith}
+use Rattle.std.proofs.Common.{◌≡◌, ◌∙◌, ◌≤◌, ◌<◌, ℕ, true, List, [], Option, Some, None, refl, sym, ap, subst, arith}
 use Rattle.std.specs.Prelude.{Result, Ok, Err, IsErrAnd, IsSome}
 use Rattle.std.specs.Option.{IfSome, option_map_or}
 use Rattle.clap.specs.Words.{App, IsUnsignedIn, Row, Text, fault_of, first_of, found_of, matches_of, one_of, rows_of}
 use Rattle.clap.specs.declared.parser.matches.ArgMatches.{ArgMatches}
 use Rattle.dk_command.specs.declared.command.Command.{Command}
-use Rattle.dk_command.specs.declared.command.GameName.{GameName}
 use Rattle.dk_command.specs.declared.parse.CommandRefused.{CommandRefused}
 use Rattle.dk_command.specs.declared.parse.CommandRefused.TheVariants.{Usage, NoMemory}
 use Rattle.dk_command.specs.Commands.{HasValues, IsAnswerOf, IsTaken, app_of_command, has_game}

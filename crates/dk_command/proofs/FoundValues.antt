@@ -1,7 +1,7 @@
 -- What `clap` found of an argument is as the grammar wants it.
-use Rattle.std.proofs.Common.{◌≡◌, ◌∙◌, ◌⊎◌, ◌<◌, ◌≤◌, ◌&&◌, ◌||◌, ◌==◌, ℕ, Bool, true, false, not, List, [], ◌∷◌, length, is_some, Option, Some, None, map, refl, sym, ap, subst, inl, inr, arith, codes}
-use Rattle.std.specs.Prelude.{find, option_map, option_and_then, slice_get, unwrap_or, IsSome}
-use Rattle.std.specs.List.{All, Any, list_all, list_any, slice_index_or}
+use Rattle.std.proofs.Common.{◌≡◌, ◌∙◌, ◌⊎◌, ◌<◌, ◌≤◌, ◌&&◌, ◌||◌, ◌==◌, ℕ, Bool, true, false, not, List, [], ◌∷◌, length, is_some, Option, Some, None, refl, sym, ap, subst, inl, inr, arith, codes}
+use Rattle.std.specs.Prelude.{option_map, option_and_then, slice_get, unwrap_or, IsSome}
+use Rattle.std.specs.List.{All, list_all, list_any, slice_index_or}
 use Rattle.std.specs.Option.{IfSome}
 use Rattle.std.specs.Str.{bytes_eq}
 use Rattle.std.specs.Borrow.{Bor}
@@ -11,7 +11,7 @@ use Rattle.std.proofs.lemmas.List.Elements.{All-get_or}
 use Rattle.std.proofs.lemmas.List.Folds.{Any-from_list_any, list_all-map}
 use Rattle.std.proofs.lemmas.List.Sums.{AllPass-from_list_all}
 use Rattle.std.proofs.lemmas.Slice.Eq.{bytes_eq-Decides}
-use Rattle.clap.specs.Words.{App, HasMatchesOf, IsPlain, IsPlainArg, IsUnsignedIn, Row, Rule, SameRules, Text, app_of, args_of, fault_of, first_of, first_value, found_of, groups_of, has_subcommand, is_simple, matched_of, one_of, one_text, read_as, reading_of, rows_of, rule_of, shape_of, IsParsed, is_buildable, is_present, is_simple_and_free, kind_of, HasKind, Kinds}
+use Rattle.clap.specs.Words.{HasMatchesOf, IsPlain, IsPlainArg, IsUnsignedIn, Rule, SameRules, Text, app_of, args_of, fault_of, first_of, first_value, found_of, is_simple, matched_of, one_of, one_text, read_as, reading_of, rows_of, rule_of, shape_of, is_buildable, is_present, is_simple_and_free, kind_of, HasKind, Kinds}
 use Rattle.clap.specs.Values.{Accepts}
 use Rattle.clap.specs.Walk.{is_empty, is_free_arg, is_simple_arg}
 use Rattle.clap.specs.Simple.{has_simple_rules}
@@ -29,7 +29,6 @@ use Rattle.clap.specs.declared.builder.value_parser.ValueParser.TheVariants as v
 use Rattle.clap.specs.declared.error.Error.{Error}
 use Rattle.clap.specs.declared.error.kind.ErrorKind.TheVariants.{OutOfMemory}
 use Rattle.clap.specs.declared.parser.matches.ArgMatches.{ArgMatches}
-use Rattle.clap.specs.declared.parser.matches.Found.{Found}
 use Rattle.clap.specs.declared.parser.matches.MatchedArg.{MatchedArg}
 use Rattle.clap.proofs.CallerLemmas.{entry_by_id, present_has_entry, required_present}
 use Rattle.clap.proofs.WalkLemmas.{first_value-rows, one_text-rows, both, list_any-map}

@@ -4,3 +4,4 @@ pub mod GetterLemmas
 pub mod GrammarFacts
 pub mod LineLemmas
 pub mod TextsLemmas
+pub mod OneRequest

@@ -9,7 +9,7 @@ use Rattle.clap.specs.Words.{App, Text}
 use Rattle.dk_command.specs.declared.command.Command.{Command}
 use Rattle.dk_command.specs.declared.parse.CommandRefused.{CommandRefused}
 use Rattle.dk_command.specs.declared.parse.CommandRefused.TheVariants.{Usage, NoMemory}
-use Rattle.dk_command.specs.Commands.{HasValues, IsAnswerOf, IsCommandLine, IsCommandOf, IsTaken, app_of_command, app_of_words}
+use Rattle.dk_command.specs.Commands.{HasValues, IsAnswerOf, IsCommandLine, IsCommandOf, IsTaken, app_of_words}
 use Rattle.clap.specs.Words.{matches_of}
 use Rattle.dk_command.specs.Grammar.{app_named, check_app, inspect_app, play_app, serve_app, stress_app}
 

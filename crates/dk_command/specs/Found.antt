@@ -1,6 +1,6 @@
 -- What is known of the values that `clap` found, by the grammar.
-use Rattle.std.specs.Prelude.{◌≡◌, ◌==◌, ◌&&◌, ◌||◌, ◌^◌, ◌<◌, ℕ, Bool, true, false, not, List, []}
-use Rattle.std.specs.Prelude.{Option, Some, None, IsSome, is_some, codes}
+use Rattle.std.specs.Prelude.{◌≡◌, ◌==◌, ◌&&◌, ◌||◌, ℕ, Bool, true, false, not, List, []}
+use Rattle.std.specs.Prelude.{Option, Some, IsSome, is_some, codes}
 use Rattle.std.specs.List.{list_all, list_any}
 use Rattle.std.specs.Option.{IfSome}
 use Rattle.std.specs.Str.{bytes_eq}

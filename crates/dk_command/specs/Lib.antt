@@ -3,3 +3,4 @@ pub mod Grammar
 pub mod Matches
 pub mod Found
 pub mod Commands
+pub mod Requests

@@ -1,4 +1,4 @@
-use Rattle.std.proofs.Common.{◌≡◌, ◌∷◌, ◌++◌, ◌+◌, ◌*◌, [], List, ℕ, length, take, drop, refl, sym, ap, ◌∙◌, subst, Vec, Global, None, arith}
+use Rattle.std.proofs.Common.{◌≡◌, ◌∷◌, ◌++◌, ◌+◌, ◌*◌, [], List, ℕ, length, take, drop, sym, ap, ◌∙◌, subst, Vec, Global, None}
 use Rattle.std.proofs.lemmas.List.{drop_more, take_more, take_all}
 use Rattle.dk_types.specs.declared.event.Event.{Event}
 use Rattle.dk_model.specs.declared.script.Line.{Line}

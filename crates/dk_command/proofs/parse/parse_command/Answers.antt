@@ -1,6 +1,7 @@
 use Rattle.std.proofs.Common.{◌∙◌, refl, sym}
 use Rattle.dk_command.specs.Grammar.{check_app, inspect_app, play_app, serve_app, stress_app}
 use Rattle.dk_command.proofs.LineLemmas.{answers_ok, answers_usage, known, line_app, named_check, named_inspect, named_none, named_play, named_serve, named_stress, no_line, no_words}
+use Rattle.dk_command.proofs.OneRequest.{answers_one}
 use Rattle.dk_command.proofs.parse.parse_command.Goals as goal
 
 pub returns-then-count-eq0-clause-usage : goal.returns-then-count-eq0-clause-usage
@@ -14,6 +15,7 @@ returns-in-play c =
     let app = line_app words c.word.result.now _ c.word.ensures (named_play c.word.result.now c.in-play.is) in
     record {
       ok = answers_ok words play_app app c.play.result c.play.ensures;
+      one = answers_one words c.play.result (answers_ok words play_app app c.play.result c.play.ensures);
       usage = answers_usage words play_app app c.play.result c.play.ensures;
       unknown = λ none. absurd (known words play_app app none);
     }
@@ -24,6 +26,7 @@ returns-in-serve c =
     let app = line_app words c.word.result.now _ c.word.ensures (named_serve c.word.result.now c.in-serve.is) in
     record {
       ok = answers_ok words serve_app app c.serve.result c.serve.ensures;
+      one = answers_one words c.serve.result (answers_ok words serve_app app c.serve.result c.serve.ensures);
       usage = answers_usage words serve_app app c.serve.result c.serve.ensures;
       unknown = λ none. absurd (known words serve_app app none);
     }
@@ -34,6 +37,7 @@ returns-in-check c =
     let app = line_app words c.word.result.now _ c.word.ensures (named_check c.word.result.now c.in-check.is) in
     record {
       ok = answers_ok words check_app app c.check.result c.check.ensures;
+      one = answers_one words c.check.result (answers_ok words check_app app c.check.result c.check.ensures);
       usage = answers_usage words check_app app c.check.result c.check.ensures;
       unknown = λ none. absurd (known words check_app app none);
     }
@@ -44,6 +48,7 @@ returns-in-inspect c =
     let app = line_app words c.word.result.now _ c.word.ensures (named_inspect c.word.result.now c.in-inspect.is) in
     record {
       ok = answers_ok words inspect_app app c.inspect.result c.inspect.ensures;
+      one = answers_one words c.inspect.result (answers_ok words inspect_app app c.inspect.result c.inspect.ensures);
       usage = answers_usage words inspect_app app c.inspect.result c.inspect.ensures;
       unknown = λ none. absurd (known words inspect_app app none);
     }
@@ -54,6 +59,7 @@ returns-in-stress c =
     let app = line_app words c.word.result.now _ c.word.ensures (named_stress c.word.result.now c.in-stress.is) in
     record {
       ok = answers_ok words stress_app app c.stress.result c.stress.ensures;
+      one = answers_one words c.stress.result (answers_ok words stress_app app c.stress.result c.stress.ensures);
       usage = answers_usage words stress_app app c.stress.result c.stress.ensures;
       unknown = λ none. absurd (known words stress_app app none);
     }
@@ -65,6 +71,7 @@ returns-in_default c =
     (named_none c.word.result.now c.in_default.not-play c.in_default.not-serve c.in_default.not-check c.in_default.not-inspect c.in_default.not-stress) in
     record {
       ok = tt;
+      one = λ request asks. tt;
       usage = λ memory. ((λ e. no_line words none), (λ no. refl));
       unknown = λ is. refl;
     }

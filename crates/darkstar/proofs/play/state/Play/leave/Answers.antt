@@ -1,5 +1,4 @@
 use Rattle.std.proofs.Common.{ap, ◌∙◌}
-use Rattle.darkstar.specs.Plays.{means_of}
 use Rattle.std.specs.FinMap as maps
 use Rattle.darkstar.proofs.Meant.{means_of-Removes}
 use Rattle.darkstar.proofs.play.state.Play.leave.Goals as goal

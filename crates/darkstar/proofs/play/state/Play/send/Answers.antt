@@ -1,7 +1,6 @@
 use Rattle.std.proofs.Common.{ℕ, List, subst}
 use Rattle.dk_types.specs.declared.job.Input.TheVariants as input
 use Rattle.dk_model.specs.declared.script.Line.TheVariants as line
-use Rattle.dk_model.specs.Lawful.{IsInput}
 use Rattle.dk_model.proofs.ScriptLimits.{text_body}
 use Rattle.darkstar.specs.Plays.{EntersLine}
 use Rattle.darkstar.proofs.Entered.{posted_entered}
