@@ -110,7 +110,7 @@ pub disconnect_tells : (pass : ℕ) (conn : ConnNo) (e : Event) (later : List Ev
 disconnect_tells pass conn e later d = ap (λ x. tells_end conn x || list_any (tells_end conn) later) d.is
 
 -- what was handed was handed by Hands
-handed_by_hands : (conn : ConnNo) (events : List Event) → handed events conn ≡ handed (hands_to conn events) conn
+pub handed_by_hands : (conn : ConnNo) (events : List Event) → handed events conn ≡ handed (hands_to conn events) conn
 handed_by_hands conn [] = refl
 handed_by_hands conn (event.Hand pass to most outs end ∷ events) =
     let later = handed_by_hands conn events in
@@ -144,7 +144,7 @@ or_assoc : (x y z : Bool) → ((x || y) || z) ≡ (x || (y || z))
 or_assoc true y z = refl
 or_assoc false y z = refl
 
-or_right : (x y : Bool) → y ≡ true → (x || y) ≡ true
+pub or_right : (x y : Bool) → y ≡ true → (x || y) ≡ true
 or_right true y is = refl
 or_right false y is = is
 
