@@ -2,6 +2,8 @@
 use Rattle.std.proofs.Common.{◌≡◌, ◌⊎◌, ℕ, ◌<◌, ◌≤◌, Bool, true, false, List, [], ◌∷◌, ◌++◌, Option, Some, None, Result, IsSome, inl, inr, refl, sym, ap, subst, ◌∙◌, append_assoc, arith}
 use Rattle.std.proofs.lemmas.Bool.Decides.{eqb_tells}
 use mathlib.Core.List.{IsPrefix}
+use Rattle.futures.specs.Task.{IsArmed, Keeps, Lasting}
+use Rattle.futures.specs.declared.task.context.Context.{Context}
 use Rattle.futures.specs.declared.task.Poll.{Poll}
 use Rattle.futures.specs.declared.task.Poll.TheVariants.{Ready, Pending}
 use Rattle.dk_types.specs.declared.fault.Failed.{Failed}
@@ -113,3 +115,10 @@ waits_most Pending a b h = risen_most a b h
 pub put_waits_most : (r : Poll (Result (Unit {0}) PutRefused)) (a b : ℕ) → WaitsToPut r a b → a ≤ b
 put_waits_most (Ready r) a b h = omega (arith, h)
 put_waits_most Pending a b h = risen_most a b h
+
+-- ---- a context of a poll that is pending
+
+-- whichever direction it waits for, it has registered or asked for another poll
+pub armed_of : (end : Option SessionEnd) (conn : Option ConnNo) (at last : Context) → (end ≡ None → IsArmed last) → (IsSome conn → IsArmed at) → Keeps at last → (IsSome end → IsSome conn) → IsArmed last
+armed_of None conn at last reads writes kept there = reads refl
+armed_of (Some end) conn at last reads writes kept there = kept Lasting.armed (writes (there refl))

@@ -1,5 +1,5 @@
 -- One poll of a direction.
-use Rattle.std.proofs.Common.{◌≡◌, ℕ, ◌+◌, ◌-◌, ◌≤◌, length, arith, List, [], ◌++◌, map, take, drop, Vec, Global, Option, Result, Ok, Err, MatchResult, refl, sym, ap, subst₂, ◌∙◌, append_assoc}
+use Rattle.std.proofs.Common.{◌≡◌, ℕ, ◌+◌, ◌-◌, ◌≤◌, length, arith, List, [], ◌++◌, map, take, drop, Vec, Global, Option, Result, Ok, Err, MatchResult, refl, sym, ap, subst, subst₂, ◌∙◌, append_assoc}
 use Rattle.std.proofs.lemmas.List.{append-nil, length-drop, take_all, take-append-drop}
 use Rattle.std.proofs.Math.Seq.{drop-drop}
 use Rattle.std.specs.Io.KnownBytes.{Keeps}
@@ -48,3 +48,11 @@ module _ (left left' : Option (List ℕ)) (old mid new : Decoding) (counted coun
 pub rest_of : (frame slice : List ℕ) (put : ℕ) → slice ≡ frame → take (length slice - put) (drop put slice) ≡ drop put frame
 rest_of frame slice put is =
     take_all (length slice - put) (drop put slice) (let long = length-drop put slice in omega (arith, long)) ∙ ap (drop put) is
+
+-- the frames that came of a poll, or how reading ended
+abbrev pub Polled : Option (List ℕ) → Option (List ℕ) → Decoding → Decoding → ℕ → ℕ → Result (Vec ClientFrame Global) SessionEnd → Type 0
+Polled left left' old new counted counted' r = MatchResult r (λ frames. IsPolledRead (map frame_of frames.items) left left' old new counted counted') (λ end. IsNextEnd end left left' old new counted counted')
+
+-- what a poll that was pending says
+pub on_pending : {A : Type 0} (r : Poll A) (P : Type 0) → r ≡ Pending → OnPending r P → P
+on_pending r P is h = subst (λ x. OnPending x P) is h

@@ -62,7 +62,7 @@ impl<W: Hosting, J: Naming, K: Link + Drop> Session<W, J, K> {
             }
             let wrote = self.write_on(rt, host, context);
             let read = self.read_on(rt, host, context);
-            if wrote == Poll::Pending && read == Poll::Pending {
+            if wrote.is_pending() && read.is_pending() {
                 return Poll::Pending;
             }
         }
