@@ -10,3 +10,12 @@ pub mod PlayOrder
 pub mod SinkPieces
 pub mod Fronts
 pub mod Told
+pub mod Meanings
+pub mod Passing
+pub mod Rounds
+pub mod Working
+pub mod Draining
+pub mod Standing
+pub mod Playing
+pub mod Closing
+pub mod Closed

@@ -2,3 +2,9 @@ pub mod Statuses
 pub mod Headline
 pub mod Reading
 pub mod Plays
+pub mod Logins
+pub mod Faults
+pub mod Lines
+pub mod Drains
+pub mod Phases
+pub mod Played

@@ -10,6 +10,7 @@ mod output;
 mod play;
 mod program;
 mod session;
+mod shared_play;
 mod status;
 #[cfg(test)]
 mod tests;

@@ -118,11 +118,7 @@ fn number_of(payload: &Blob, at: u64) -> Result<u64, LogRefused>
 }
 
 /// How many commits a file begins with: those of its image, or none in the first epoch. Both files stay as they are.
-pub fn commits_before<M: Home>(
-    alloc: Global,
-    home: &mut M,
-    side: Side,
-) -> Result<u64, LogRefused>
+pub fn commits_before<M: Home>(alloc: Global, home: &mut M, side: Side) -> Result<u64, LogRefused>
     requires is_open { IsOpen (M.opening home.old) }
     ensures begins { IsTrue M.tells → IfOk result (λ n. (header : StoreHeader) (payloads : List (List ℕ)) (first : DurableWorld) (others : List (List ℕ)) → IsStoreFile (now (M.past home.old) side).reads header payloads → BeginsWith header payloads first others → n ≡ first.commits) }
     ensures most { IfOk result (λ n. n ≤ NUMBERS_END) }

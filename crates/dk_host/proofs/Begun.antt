@@ -1,5 +1,5 @@
 -- A store as it is opened.
-use Rattle.std.proofs.Common.{◌≡◌, ℕ, Bool, IsTrue, List, [], ◌++◌, None, refl, sym, ap, subst, ◌∙◌}
+use Rattle.std.proofs.Common.{◌≡◌, ℕ, Bool, IsTrue, List, [], ◌++◌, Option, Some, None, refl, sym, ap, subst, ◌∙◌}
 use Rattle.dk_types.specs.declared.event.Event.{Event}
 use Rattle.dk_types.specs.declared.side.Side.{Side}
 use Rattle.dk_disk.specs.DiskHistories.{DiskHistory}
@@ -17,14 +17,15 @@ use Rattle.dk_journal.proofs.Recoveries.{all_weakened}
 use Rattle.dk_journal.proofs.Stores.{store_recovers}
 use Rattle.dk_checkpoint.proofs.Held.{now_held}
 use Rattle.dk_host.specs.OpenedStores.{HoldsStore}
-use Rattle.dk_host.specs.Stores.{HasRecovered, HoldsNow, IsStored}
+use Rattle.dk_host.specs.Stores.{HasRecovered, HoldsNow, HoldsLog, IsStored}
+use Rattle.dk_host.proofs.Logged.{log_begins}
 use Rattle.dk_host.proofs.Settling.{none_done}
 
 -- it stands on the opened world, and its pass has seen nothing
-pub store_begins : (o : Opened) (began : DiskHistory) (tells : Bool) (past : DiskHistory) (opens : Opening) (game : List ℕ) (journal : Journal) (front : List Event) (commits places : ℕ) → AreLawful o.rules → IsValid o.durable → front ≡ [] → commits ≡ 0 → IsOpen opens → journal.format ≡ 2
-    → (IsTrue tells → HoldsNow past game journal o.durable) → (IsTrue tells → HasRecovered o began past [] []) → IsStored o began tells past opens game journal front commits places None None
+pub store_begins : (o : Opened) (began : DiskHistory) (tells : Bool) (past : DiskHistory) (opens : Opening) (game : List ℕ) (journal : Journal) (base : Option ℕ) (front : List Event) (commits places : ℕ) → AreLawful o.rules → IsValid o.durable → front ≡ [] → commits ≡ 0 → ((n : ℕ) → base ≡ Some n → (n ≡ 0) × (journal.epoch ≡ 0)) → IsOpen opens → journal.format ≡ 2
+    → (IsTrue tells → HoldsNow past game journal o.durable) → (IsTrue tells → HasRecovered o began past [] []) → IsStored o began tells past opens game journal base front commits places None None
 unfolding opening
-store_begins o began tells past opens game journal front commits places lawful valid none zero_commits is_open format holds since = record {
+store_begins o began tells past opens game journal base front commits places lawful valid none zero_commits known is_open format holds since = record {
   lawful = lawful;
   legal = subst (IsLegal o) (sym none) (record { valid = valid; within = tt; history = record { last = opening_of o; leads = refl } });
   counted = zero_commits ∙ sym (ap commits_of none);
@@ -33,7 +34,7 @@ store_begins o began tells past opens game journal front commits places lawful v
   tail = [];
   waits = refl;
   since = λ h. subst (λ (es : List Event). HasRecovered o began past es []) (sym none) (since h);
-  holds = λ h running. subst (HoldsNow past game journal) (ap (λ (es : List Event). (world_after o (es ++ [])).durable) (sym none)) (holds h);
+  holds = λ h running. subst (λ (es : List Event). HoldsLog o (es ++ []) past game journal base) (sym none) (log_begins o past game journal base [] (holds h) refl known);
 }
 
 -- the files as the host is opened on them: they hold its world, and nothing has come since

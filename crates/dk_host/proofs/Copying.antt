@@ -16,7 +16,7 @@ use Rattle.dk_core.specs.Cores.{world_of}
 use Rattle.dk_turn.specs.Fronts.{Known, Begins, Called}
 use Rattle.dk_host.specs.Books.{IsKept}
 use Rattle.dk_host.specs.Calls.{Entered, IsCopyAt}
-use Rattle.dk_host.specs.Steps.{Adds, Copies, CopiesLast, IsWhole}
+use Rattle.dk_host.specs.Steps.{Adds, Copies, SeesLast, IsWhole}
 use Rattle.dk_host.specs.Stores.{IsStored}
 use Rattle.dk_host.proofs.Calling.{entered_by}
 use Rattle.dk_host.proofs.Stepping.{adds, none_at, world_is}
@@ -43,28 +43,25 @@ module _ (o : Opened) (pass : ℕ) (r : Result Durable NoMemory) (old new : List
   copy_at c = subst (λ es. IsCopyAt o es r) (sym c.front) c.given.copied
 
 -- the same for the store, whose watcher comes to the same front
-module _ (o : Opened) (began : DiskHistory) (tells : Bool) (past : DiskHistory) (opening : Opening) (game : List ℕ) (journal : Journal) (front : List Event) (commits places : ℕ) (faults : Option ℕ) (s : IsStored o began tells past opening game journal front commits places None faults)
-    (p : Known Event) (new : List Event) (lent kept : ℕ) (whole : lent ≡ commits) (commits_after room parts others : ℕ) (r : Result Durable NoMemory)
-    (c : Called pass_of p.number (λ before added. Begins front before × ((commits_after ≡ lent) × (room ≡ kept) × IsWhole parts others × CopiesLast o lent before r added)) p.front new) where
-  abbrev by : CopiesLast o lent c.before r c.added
-  by = c.given.1.3
+module _ (o : Opened) (began : DiskHistory) (tells : Bool) (past : DiskHistory) (opening : Opening) (game : List ℕ) (journal : Journal) (base : Option ℕ) (front : List Event) (commits places : ℕ) (faults : Option ℕ) (s : IsStored o began tells past opening game journal base front commits places None faults)
+    (p : Known Event) (new : List Event) (lent kept : ℕ) (whole : lent ≡ commits) (commits_after room parts others : ℕ) (Gives : List Event → List Event → Type 0) (sees : (before added : List Event) → Gives before added → SeesLast o lent before added)
+    (c : Called pass_of p.number (λ before added. Begins front before × ((commits_after ≡ lent) × (room ≡ kept) × IsWhole parts others × Gives before added)) p.front new) where
+  abbrev by : SeesLast o lent c.before c.added
+  by = sees c.before c.added c.given.1.3
 
   before_is : new ≡ c.before
-  before_is = c.front ∙ ap (λ es. c.before ++ es) by.copies.adds.same ∙ append-nil c.before
+  before_is = c.front ∙ ap (λ es. c.before ++ es) by.adds.same ∙ append-nil c.before
 
   goes : new ≡ front ++ c.given.0.0
   goes = before_is ∙ sym c.given.0.1
 
   legal : IsLegal o new
-  legal = subst (IsLegal o) (sym c.front) by.copies.adds.legal
+  legal = subst (IsLegal o) (sym c.front) by.adds.legal
 
-  pub copied_stored : IsStored o began tells past opening game journal new commits_after room None faults
-  copied_stored =
-      let on = store_on o began tells past opening game journal front c.given.0.0 commits places faults s (ap commits_of c.given.0.1 ∙ by.counted ∙ whole) (subst (IsLegal o) goes legal) room in
-      subst (λ n. IsStored o began tells past opening game journal new n room None faults) (sym (c.given.1.0 ∙ whole)) (subst (λ es. IsStored o began tells past opening game journal es commits room None faults) (sym goes) on)
+  pub seen_stored : IsStored o began tells past opening game journal base new commits_after room None faults
+  seen_stored =
+      let on = store_on o began tells past opening game journal base front c.given.0.0 commits places faults s (ap commits_of c.given.0.1 ∙ by.counted ∙ whole) (subst (IsLegal o) goes legal) room in
+      subst (λ n. IsStored o began tells past opening game journal base new n room None faults) (sym (c.given.1.0 ∙ whole)) (subst (λ es. IsStored o began tells past opening game journal base es commits room None faults) (sym goes) on)
 
-  pub copied_entered : Entered o p.number [] p.front new
-  copied_entered = entered_by o p.number [] p.front new c by.copies.adds
-
-  pub copied_at : IsCopyAt o new r
-  copied_at = subst (λ es. IsCopyAt o es r) (sym c.front) by.copies.copied
+  pub seen_entered : Entered o p.number [] p.front new
+  seen_entered = entered_by o p.number [] p.front new c by.adds

@@ -44,9 +44,9 @@ stands_as past journal header payloads d store = record {
   rests = store_settled past journal.side journal header payloads d store;
 }
 
-pub ends : (o : Opened) (began : DiskHistory) (tells : Bool) (past : DiskHistory) (opens : Opening) (game : List ℕ) (journal : Journal) (front : List Event) (commits places : ℕ) (waiting : Option Prepared) (faults : Option ℕ) → IsStored o began tells past opens game journal front commits places waiting faults
+pub ends : (o : Opened) (began : DiskHistory) (tells : Bool) (past : DiskHistory) (opens : Opening) (game : List ℕ) (journal : Journal) (base : Option ℕ) (front : List Event) (commits places : ℕ) (waiting : Option Prepared) (faults : Option ℕ) → IsStored o began tells past opens game journal base front commits places waiting faults
     → (faults ≡ None → waiting ≡ None) → (log : List Event) → Begins front log → commits ≡ commits_of log → IsTrue tells → EndsAs o began past log faults journal.epoch
-ends o began tells past opens game journal front commits places waiting faults s free log goes same h =
+ends o began tells past opens game journal base front commits places waiting faults s free log goes same h =
     let both = commits_of-append front goes.0 in
     let long = ap commits_of goes.1 in
     let none : commits_of goes.0 ≡ 0 = omega (arith, both, long, same, s.counted) in record {
@@ -59,11 +59,11 @@ ends o began tells past opens game journal front commits places waiting faults s
       whole = λ running. subst (λ (w : Option Prepared). Waits o front places w s.tail) (free running) s.waits;
       since = s.since h;
       now = λ running.
-          let store = s.holds h running in
+          let store = (s.holds h running).stands in
           let empty : s.tail ≡ [] = subst (λ (w : Option Prepared). Waits o front places w s.tail) (free running) s.waits in
           let durable : (world_after o (front ++ s.tail)).durable ≡ (world_after o log).durable
           = ap (λ (es : List Event). (world_after o (front ++ es)).durable) empty ∙ ap (λ (es : List Event). (world_after o es).durable) (append-nil front)
           ∙ sym (commits_change o.rules (opening_of o) front goes.0 s.lawful none).durable ∙ ap (λ (es : List Event). (world_after o es).durable) goes.1 in
           subst (λ (d : DurableWorld). AllRecover (IsWorld d) past past.clock) durable (store_recovers past journal.side journal store.header store.payloads (world_after o (front ++ s.tail)).durable store.store);
-      stands = λ running. stands_as past journal (s.holds h running).header (s.holds h running).payloads (world_after o (front ++ s.tail)).durable (s.holds h running).store;
+      stands = λ running. stands_as past journal (s.holds h running).stands.header (s.holds h running).stands.payloads (world_after o (front ++ s.tail)).durable (s.holds h running).stands.store;
     }

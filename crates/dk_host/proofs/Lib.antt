@@ -5,6 +5,7 @@ pub mod Opening
 pub mod Committing
 pub mod Looking
 pub mod Nexts
+pub mod Logged
 pub mod Storing
 pub mod Looked
 pub mod Published
@@ -15,6 +16,8 @@ pub mod Begun
 pub mod Ended
 pub mod Copying
 pub mod Rewriting
+pub mod Homes
 pub mod Owing
 pub mod KeptEvents
 pub mod Unentered
+pub mod Rereading

@@ -24,7 +24,7 @@ use Rattle.dk_host.proofs.Calling.{entered_by, may_end}
 use Rattle.dk_host.proofs.Nexts.{next_commit}
 use Rattle.dk_host.proofs.Storing.{store_on}
 
-module _ (o : Opened) (began : DiskHistory) (tells : Bool) (past : DiskHistory) (opening : Opening) (game : List ℕ) (journal : Journal) (front : List Event) (commits places : ℕ) (faults : Option ℕ) (s : IsStored o began tells past opening game journal front commits places None faults)
+module _ (o : Opened) (began : DiskHistory) (tells : Bool) (past : DiskHistory) (opening : Opening) (game : List ℕ) (journal : Journal) (base : Option ℕ) (front : List Event) (commits places : ℕ) (faults : Option ℕ) (s : IsStored o began tells past opening game journal base front commits places None faults)
     (claimed : Claimed) (f : Finished) (p : Known Event) (new : List Event) (lent : ℕ) (whole : lent ≡ commits) (commits_after room parts others : ℕ) (r : Result Prepared PrepareRefused)
     (c : Called pass_of p.number (λ before added. Begins front before × ((parts ≡ 1) × (others ≡ 1) × (commits_after ≡ lent) × PreparesBy o claimed f lent room before r added)) p.front new) where
   abbrev by : PreparesBy o claimed f lent room c.before r c.added
@@ -39,10 +39,10 @@ module _ (o : Opened) (began : DiskHistory) (tells : Bool) (past : DiskHistory) 
   legal : IsLegal o new
   legal = subst (IsLegal o) (sym c.front) by.adds.legal
 
-  pub looked_stored : IsStored o began tells past opening game journal new commits_after room None faults
+  pub looked_stored : IsStored o began tells past opening game journal base new commits_after room None faults
   looked_stored =
-      let on = store_on o began tells past opening game journal front c.given.0.0 commits places faults s (ap commits_of (c.given.0.1) ∙ by.counted ∙ whole) (subst (IsLegal o) goes legal) room in
-      subst (λ n. IsStored o began tells past opening game journal new n room None faults) (sym (c.given.1.2 ∙ whole)) (subst (λ es. IsStored o began tells past opening game journal es commits room None faults) (sym goes) on)
+      let on = store_on o began tells past opening game journal base front c.given.0.0 commits places faults s (ap commits_of (c.given.0.1) ∙ by.counted ∙ whole) (subst (IsLegal o) goes legal) room in
+      subst (λ n. IsStored o began tells past opening game journal base new n room None faults) (sym (c.given.1.2 ∙ whole)) (subst (λ es. IsStored o began tells past opening game journal base es commits room None faults) (sym goes) on)
 
   pub looked_entered : Entered o p.number [] p.front new
   looked_entered = entered_by o p.number [] p.front new c by.adds

@@ -135,7 +135,7 @@ owed_made w name n d =
       holds = λ q e. elim (eqb_tells q.0 w.next) [
         | inl w' ↦ subst (λ (x : ConnNo). get (insert d.rooms k tt) x ≡ Some tt) (one_conn k q (sym w'.1)) (get-insert_here conns_total d.rooms k tt)
         | inr w' ↦ get-insert_other conns_total exact_conns d.rooms k tt q (λ same. w'.1 (ap (λ (x : ConnNo). x.0) (sym same)))
-        ∙ d.holds q (sym (ap is_open_at (conn-insert w.connections k (new_connection name w.next) q ∙ ap (λ b. cond b (Some (new_connection name w.next)) (get w.connections q)) w'.0)) ∙ opens_swept made q e)
+            ∙ d.holds q (sym (ap is_open_at (conn-insert w.connections k (new_connection name w.next) q ∙ ap (λ b. cond b (Some (new_connection name w.next)) (get w.connections q)) w'.0)) ∙ opens_swept made q e)
       ];
       enough = omega (arith, longer, few);
     }

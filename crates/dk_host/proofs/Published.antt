@@ -22,8 +22,8 @@ use Rattle.dk_host.proofs.Calling.{entered_by, may_end, honest_later}
 use Rattle.dk_host.proofs.Nexts.{prepared_on}
 use Rattle.dk_host.proofs.Storing.{store_published}
 
-module _ (o : Opened) (began : DiskHistory) (tells : Bool) (past : DiskHistory) (opening : Opening) (game : List ℕ) (journal : Journal) (front : List Event) (commits places : ℕ) (faults : Option ℕ) (claimed : Claimed) (f : Finished) (p : Prepared)
-    (s : IsStored o began tells past opening game journal front commits places (Some p) faults) (next : IsNextCommit o front claimed f p) (q : Known Event) (claim : IsClaimOf o q claimed) where
+module _ (o : Opened) (began : DiskHistory) (tells : Bool) (past : DiskHistory) (opening : Opening) (game : List ℕ) (journal : Journal) (base : Option ℕ) (front : List Event) (commits places : ℕ) (faults : Option ℕ) (claimed : Claimed) (f : Finished) (p : Prepared)
+    (s : IsStored o began tells past opening game journal base front commits places (Some p) faults) (next : IsNextCommit o front claimed f p) (q : Known Event) (claim : IsClaimOf o q claimed) where
   -- wherever the history goes on from both fronts, the run may be published
   pub may_publish : IsHonestAt o q.front claimed f → (log : List Event) → Continues pass_of q.number q.front log → Begins front log → (amount room : ℕ) → amount ≡ commits → room ≡ places_of f.effects
       → MayPublish o q.number log claimed f p amount room
@@ -54,12 +54,12 @@ module _ (o : Opened) (began : DiskHistory) (tells : Bool) (past : DiskHistory) 
     stands : Stands o c.before claimed
     stands = (may_end o q claimed c.before claim c.continues).1 (fronts_legal o c.before (e ∷ []) legal)
 
-    pub published_stored : IsStored o began tells past opening game journal new commits_after room None faults
+    pub published_stored : IsStored o began tells past opening game journal base new commits_after room None faults
     published_stored =
-        let on = store_published o began tells past opening game journal front c.given.0.0 commits places faults claimed f p s next (ap commits_of whole ∙ by.counted ∙ is_whole) q.number seq claim.pass
+        let on = store_published o began tells past opening game journal base front c.given.0.0 commits places faults claimed f p s next (ap commits_of whole ∙ by.counted ∙ is_whole) q.number seq claim.pass
         (by.number ∙ ap (λ es. (world_after o es).durable.commits + 1) (sym whole)) (subst (λ es. IsLegal o (es ++ e ∷ [])) (sym whole) legal) (subst (λ es. Stands o es claimed) (sym whole) stands) room in
         let is : new ≡ (front ++ c.given.0.0) ++ e ∷ [] = c.front ∙ ap (λ es. c.before ++ es) by.adds.same ∙ ap (λ es. es ++ e ∷ []) (sym whole) in
-        subst (λ n. IsStored o began tells past opening game journal new n room None faults) (sym (c.given.1.3 ∙ ap (λ n. n + 1) is_whole)) (subst (λ es. IsStored o began tells past opening game journal es (commits + 1) room None faults) (sym is) on)
+        subst (λ n. IsStored o began tells past opening game journal base new n room None faults) (sym (c.given.1.3 ∙ ap (λ n. n + 1) is_whole)) (subst (λ es. IsStored o began tells past opening game journal base es (commits + 1) room None faults) (sym is) on)
 
     pub published_entered : Entered o q.number (e ∷ []) q.front new
     published_entered = entered_by o q.number (e ∷ []) q.front new c by.adds

@@ -24,10 +24,12 @@ use Rattle.dk_checkpoint.specs.Given.{IsGiven, next_header, only_image}
 use Rattle.dk_checkpoint.specs.Refusals.{HasBegun}
 use Rattle.dk_checkpoint.specs.declared.refused.CheckpointRefused.{CheckpointRefused as NotWritten}
 use Rattle.dk_checkpoint.specs.declared.refused.CheckpointRefused.TheVariants as not_written
+use Rattle.dk_core.specs.declared.prepared.Prepared.{Prepared}
 use Rattle.dk_host.specs.declared.refused.CheckpointRefused.{CheckpointRefused}
 use Rattle.dk_host.specs.declared.refused.CheckpointRefused.TheVariants as refused
 use Rattle.dk_host.specs.Checkpoints.{AnswersAt, GoesOn, Rewrites, faults_after, image_after, refusal_of}
-use Rattle.dk_host.specs.Stores.{HasRecovered, HoldsNow, IsStored, Stored}
+use Rattle.dk_host.specs.Stores.{HasRecovered, HoldsNow, HoldsLog, IsStored, Stored}
+use Rattle.dk_host.proofs.Logged.{log_of_image}
 use Rattle.dk_host.proofs.Nexts.{sound}
 use Rattle.dk_host.proofs.Storing.{holds_running}
 
@@ -35,13 +37,22 @@ use Rattle.dk_host.proofs.Storing.{holds_running}
 pub at_ok : {A E : Type 0} (P : A → Type 0) (r : Result A E) (x : A) → r ≡ Ok x → IfOk r P → P x
 at_ok P r x is h = subst (λ q. IfOk q P) is h
 
-module _ (o : Opened) (began : DiskHistory) (tells : Bool) (old : DiskHistory) (opening : Opening) (game : List ℕ) (journal : Journal) (side : Side) (front : List Event) (commits places : ℕ) (lists : Durable)
-    (s : IsStored o began tells old opening game journal front commits places None None) (here : journal.side ≡ side) (given : lists ≡ world_lists (world_after o front).durable) where
+-- a world has no more commits than there are numbers
+pub world_within : (o : Opened) (began : DiskHistory) (tells : Bool) (past : DiskHistory) (opening : Opening) (game : List ℕ) (journal : Journal) (base : Option ℕ) (front : List Event) (commits places : ℕ) {waiting : Option Prepared} {faults : Option ℕ} → IsStored o began tells past opening game journal base front commits places waiting faults → (lists : Durable) → lists ≡ world_lists (world_after o front).durable
+    → (n : ℕ) → Some lists.commits ≡ Some n → n ≤ NUMBERS_END
+world_within o began tells past opening game journal base front commits places s lists given n is =
+    let valid = (sound o front s.lawful s.legal).valid in
+    let same : lists.commits ≡ n = cc in
+    let there = ap (λ (x : Durable). x.commits) given in
+    omega (arith, valid.commits, valid.last, same, there)
+
+module _ (o : Opened) (began : DiskHistory) (tells : Bool) (old : DiskHistory) (opening : Opening) (game : List ℕ) (journal : Journal) (base : Option ℕ) (side : Side) (front : List Event) (commits places : ℕ) (lists : Durable)
+    (s : IsStored o began tells old opening game journal base front commits places None None) (here : journal.side ≡ side) (given : lists ≡ world_lists (world_after o front).durable) where
   abbrev d : DurableWorld
   d = (world_after o front).durable
 
   held : IsTrue tells → HoldsNow old game journal d
-  held h = holds_running o began tells old opening game journal front commits places s h
+  held h = (holds_running o began tells old opening game journal base front commits places s h).stands
 
   -- nothing is pending
   pub settled_now : IsTrue tells → AreSettled old
@@ -71,7 +82,7 @@ module _ (o : Opened) (began : DiskHistory) (tells : Bool) (old : DiskHistory) (
         }
 
     -- where the disk failed
-    store_stopped : (n : ℕ) → IsStored o began tells new opening_after game journal front commits places None (Some n)
+    store_stopped : (n : ℕ) → IsStored o began tells new opening_after game journal base front commits places None (Some n)
     store_stopped n = record {
       lawful = s.lawful;
       legal = s.legal;
@@ -85,10 +96,10 @@ module _ (o : Opened) (began : DiskHistory) (tells : Bool) (old : DiskHistory) (
     }
 
     -- where the other file stands
-    pub store_anew : (made : Journal) (on : Side) → made.side ≡ on → made.format ≡ 2
+    pub store_anew : (made : Journal) (on : Side) (made_base : Option ℕ) → ((n : ℕ) → made_base ≡ Some n → d.commits ≡ n) → made.side ≡ on → made.format ≡ 2
         → (IsTrue tells → (header : StoreHeader) (payloads : List (List ℕ)) (before after : DurableWorld) → IsGiven old side journal lists header payloads before after → HasStore new on made (next_header game header.epoch) (only_image lists) after)
-        → IsStored o began tells new opening_after game made front commits places None None
-    store_anew made on is_on format stands = record {
+        → IsStored o began tells new opening_after game made made_base front commits places None None
+    store_anew made on made_base known is_on format stands = record {
       lawful = s.lawful;
       legal = s.legal;
       counted = s.counted;
@@ -104,15 +115,22 @@ module _ (o : Opened) (began : DiskHistory) (tells : Bool) (old : DiskHistory) (
             ours = refl;
             store = subst (λ (x : Side). HasStore new x made (next_header game (held h).header.epoch) (only_image lists) d) (sym is_on) (stands h (held h).header (held h).payloads d d (is_given h));
           } in
-          subst (HoldsNow new game made) (ap (λ (es : List Event). (world_after o es).durable) (sym (append-nil front))) anew;
+          subst (λ (es : List Event). HoldsLog o es new game made made_base) (sym (append-nil front)) (record {
+            stands = anew;
+            first = d;
+            entries = [];
+            log = log_of_image (next_header game (held h).header.epoch) (image_spelling lists) d (omega arith) anew.store.world;
+            known = known;
+            of_commits = tt;
+          });
     }
 
     -- where nothing was written
-    as_it_was : new ≡ old → IsStored o began tells new opening_after game journal front commits places None None
-    as_it_was same = subst (λ (x : DiskHistory). IsStored o began tells x opening_after game journal front commits places None None) (sym same) (subst (λ (x : Opening). IsStored o began tells old x game journal front commits places None None) (sym opened) s)
+    as_it_was : new ≡ old → IsStored o began tells new opening_after game journal base front commits places None None
+    as_it_was same = subst (λ (x : DiskHistory). IsStored o began tells x opening_after game journal base front commits places None None) (sym same) (subst (λ (x : Opening). IsStored o began tells old x game journal base front commits places None None) (sym opened) s)
 
     -- whatever it was refused for
-    pub store_refused : (e : NotWritten) (n : ℕ) → ((HasBegun {A = Journal × Side} (Err e) → ⊥) → new ≡ old) → IsStored o began tells new opening_after game journal front commits places None (faults_after (Err e) n)
+    pub store_refused : (e : NotWritten) (n : ℕ) → ((HasBegun {A = Journal × Side} (Err e) → ⊥) → new ≡ old) → IsStored o began tells new opening_after game journal base front commits places None (faults_after (Err e) n)
     store_refused not_written.DiskFault n untouched = store_stopped n
     store_refused (not_written.TooLarge m) n untouched = as_it_was (untouched (λ no. no))
     store_refused (not_written.EpochEnd m) n untouched = as_it_was (untouched (λ no. no))

@@ -1,6 +1,7 @@
 -- What the store keeps over its calls.
 use Rattle.std.proofs.Common.{◌≡◌, ◌⊎◌, ⊎_elim, inl, inr, ℕ, ◌+◌, ◌≤◌, Bool, IsTrue, List, [], ◌∷◌, ◌++◌, Option, Some, None, Result, Ok, Err, OnOk, OnErr, IfErr, IsErrOf, refl, sym, ap, subst, ◌∙◌, arith}
 use Rattle.std.proofs.lemmas.List.{append-nil}
+use Rattle.dk_types.specs.declared.durable.Entry.{Entry}
 use Rattle.dk_types.specs.declared.event.Event.{Event}
 use Rattle.dk_types.specs.declared.event.Event.TheVariants as event
 use Rattle.dk_types.specs.declared.side.Side.{Side}
@@ -9,8 +10,8 @@ use Rattle.dk_disk.specs.Disk.{Disk, settled}
 use Rattle.dk_disk.specs.DiskHistories.{DiskHistory, now, other_side}
 use Rattle.dk_disk.specs.Opening.{Opening, IsOpen}
 use Rattle.dk_model.specs.DurableWorlds.{DurableWorld}
-use Rattle.dk_model.specs.Effects.{after}
-use Rattle.dk_model.specs.Entries.{entries_spelling}
+use Rattle.dk_model.specs.Effects.{after, effects}
+use Rattle.dk_model.specs.Entries.{AreEntries, entries_spelling}
 use Rattle.dk_model.specs.Legal.{Opened, opening_of, world_after, IsLegal, commits_of}
 use Rattle.dk_model.specs.Recovered.{Takes, HasWorld}
 use Rattle.dk_model.specs.Stores.{header_spelling}
@@ -36,7 +37,9 @@ use Rattle.dk_core.specs.declared.claimed.Claimed.{Claimed}
 use Rattle.dk_core.specs.declared.prepared.Prepared.{Prepared}
 use Rattle.dk_core.specs.Rooms.{places_of}
 use Rattle.dk_host.specs.Calls.{Stands}
-use Rattle.dk_host.specs.Stores.{IsNextCommit, commit_of, HasRecovered, HoldsNow, IsKeptOn, IsStored, Stored, Appends, waiting_after, faults_after}
+use Rattle.dk_host.specs.Stores.{IsNextCommit, commit_of, HasRecovered, HoldsNow, HoldsLog, IsKeptOn, IsStored, Stored, Appends, waiting_after, faults_after}
+use Rattle.dk_host.specs.Logs.{IsOfCommit, AreOfCommits}
+use Rattle.dk_host.proofs.Logged.{log_push, log_on, of_commits_on, of_commits_by, of_commits_push, of_commit_later}
 use Rattle.dk_host.proofs.Nexts.{next_commit, durable_on, prepared_on, tells_on, takes}
 
 -- what a list begins with, where it ends with one more
@@ -69,9 +72,9 @@ some_or_all o events e d some = ⊎_elim
 untailed : (o : Opened) (events : List Event) (d : DurableWorld) → IsAfterSomeOrTail o events [] d → IsAfterSome o events d
 untailed o events d some = subst (λ (es : List Event). IsAfterSome o es d) (append-nil events) some
 
-module _ (o : Opened) (began : DiskHistory) (tells : Bool) (past : DiskHistory) (opening : Opening) (game : List ℕ) (journal : Journal) (front more : List Event) (commits places : ℕ) (faults : Option ℕ) where
+module _ (o : Opened) (began : DiskHistory) (tells : Bool) (past : DiskHistory) (opening : Opening) (game : List ℕ) (journal : Journal) (base : Option ℕ) (front more : List Event) (commits places : ℕ) (faults : Option ℕ) where
   -- the store's pass goes on, while nothing waits and no commit comes
-  pub store_on : IsStored o began tells past opening game journal front commits places None faults → commits_of (front ++ more) ≡ commits → IsLegal o (front ++ more) → (room : ℕ) → IsStored o began tells past opening game journal (front ++ more) commits room None faults
+  pub store_on : IsStored o began tells past opening game journal base front commits places None faults → commits_of (front ++ more) ≡ commits → IsLegal o (front ++ more) → (room : ℕ) → IsStored o began tells past opening game journal base (front ++ more) commits room None faults
   store_on s same legal room =
       let both = commits_of-append front more in
       let none : commits_of more ≡ 0 = omega (arith, both, same, s.counted) in
@@ -93,14 +96,18 @@ module _ (o : Opened) (began : DiskHistory) (tells : Bool) (past : DiskHistory) 
                   (λ d some. after_more o (front ++ more) [] d (after_more o front more d (untailed o front d some))) (was.recovers t from to);
               held = was.held;
             };
-        holds = λ h running. subst (HoldsNow past game journal) durable (s.holds h running);
+        holds = λ h running.
+            let l = s.holds h running in
+            let ours = subst (λ (es : List Event). AreOfCommits o (front ++ es) l.entries) s.waits l.of_commits in
+            log_on o (front ++ s.tail) ((front ++ more) ++ []) past game journal base l durable
+            (of_commits_on o (front ++ more) [] l.entries (of_commits_on o front more l.entries (subst (λ (es : List Event). AreOfCommits o es l.entries) (append-nil front) ours)));
       }
     where
       durable_any : commits_of more ≡ 0 → (world_after o (front ++ more)).durable ≡ (world_after o front).durable
       durable_any none = (commits_change o.rules (opening_of o) front more s.lawful none).durable
 
   -- the commit of the record that waits is entered
-  module _ (claimed : Claimed) (f : Finished) (p : Prepared) (s : IsStored o began tells past opening game journal front commits places (Some p) faults) (next : IsNextCommit o front claimed f p)
+  module _ (claimed : Claimed) (f : Finished) (p : Prepared) (s : IsStored o began tells past opening game journal base front commits places (Some p) faults) (next : IsNextCommit o front claimed f p)
       (same : commits_of (front ++ more) ≡ commits) (pass seq : ℕ) (by : claimed.pass ≡ pass) (number : seq ≡ (world_after o (front ++ more)).durable.commits + 1)
       (legal : IsLegal o ((front ++ more) ++ event.Commit pass claimed.run seq f.outcome ∷ [])) (stands : Stands o (front ++ more) claimed) where
     abbrev before : List Event
@@ -129,7 +136,7 @@ module _ (o : Opened) (began : DiskHistory) (tells : Bool) (past : DiskHistory) 
     waited : (world_after o (front ++ s.tail)).durable ≡ after p.entry (world_after o front).durable
     waited = ap (λ (es : List Event). (world_after o (front ++ es)).durable) s.waits.1.1.is_tail ∙ s.waits.1.1.next.world
 
-    pub store_published : (room : ℕ) → IsStored o began tells past opening game journal (before ++ e ∷ []) (commits + 1) room None faults
+    pub store_published : (room : ℕ) → IsStored o began tells past opening game journal base (before ++ e ∷ []) (commits + 1) room None faults
     store_published room =
         let both = commits_of-append before (e ∷ []) in
         let durable : (world_after o (front ++ s.tail)).durable ≡ (world_after o ((before ++ e ∷ []) ++ [])).durable
@@ -152,7 +159,19 @@ module _ (o : Opened) (began : DiskHistory) (tells : Bool) (past : DiskHistory) 
                     (some_or_all o front (commit_of s.waits.0 s.waits.1.0 p) d some))) (was.recovers t from to);
                 held = was.held;
               };
-          holds = λ h running. subst (HoldsNow past game journal) durable (s.holds h running);
+          holds = λ h running.
+              let l = s.holds h running in
+              let c = commit_of s.waits.0 s.waits.1.0 p in
+              let ours = subst (λ (es : List Event). AreOfCommits o (front ++ es) l.entries) s.waits.1.1.is_tail l.of_commits in
+              let runs : s.waits.0.run ≡ claimed.run = ap (λ (x : Entry). x.run) (sym s.waits.1.1.next.prepared.entry ∙ next.prepared.entry) in
+              let same_seq : p.entry.seq ≡ seq = now_next.next.seq ∙ sym number in
+              let named : c ≡ event.Commit s.waits.0.pass claimed.run seq s.waits.1.0.outcome = λ i. event.Commit s.waits.0.pass (runs i) (same_seq i) s.waits.1.0.outcome in
+              let was : (world_after o (front ++ c ∷ [])).durable ≡ (world_after o (before ++ e ∷ [])).durable = s.waits.1.1.next.world ∙ sym entered in
+              log_on o (front ++ s.tail) ((before ++ e ∷ []) ++ []) past game journal base l durable
+              (of_commits_on o (before ++ e ∷ []) [] l.entries
+              (of_commits_by o (front ++ event.Commit s.waits.0.pass claimed.run seq s.waits.1.0.outcome ∷ []) (before ++ e ∷ []) l.entries
+              (λ x. of_commit_later o front more pass s.waits.0.pass seq claimed.run f.outcome s.waits.1.0.outcome x unchanged (sym (ap (λ (y : Event). (world_after o (front ++ y ∷ [])).durable) (sym named) ∙ was)))
+              (subst (λ (x : Event). AreOfCommits o (front ++ x ∷ []) l.entries) named ours)));
         }
 
 -- what the journal asks for
@@ -167,14 +186,14 @@ pub runs_not : {A : Type 0} (n : ℕ) → Some n ≡ None → A
 runs_not n same = absurd cc
 
 -- while it runs and nothing waits, the files hold the world of its pass's front
-pub holds_running : (o : Opened) (began : DiskHistory) (tells : Bool) (past : DiskHistory) (opening : Opening) (game : List ℕ) (journal : Journal) (front : List Event) (commits places : ℕ) → IsStored o began tells past opening game journal front commits places None None → IsTrue tells
-    → HoldsNow past game journal (world_after o front).durable
-holds_running o began tells past opening game journal front commits places s h =
-    subst (HoldsNow past game journal) (ap (λ (es : List Event). (world_after o (front ++ es)).durable) s.waits ∙ ap (λ (es : List Event). (world_after o es).durable) (append-nil front)) (s.holds h refl)
+pub holds_running : (o : Opened) (began : DiskHistory) (tells : Bool) (past : DiskHistory) (opening : Opening) (game : List ℕ) (journal : Journal) (base : Option ℕ) (front : List Event) (commits places : ℕ) → IsStored o began tells past opening game journal base front commits places None None → IsTrue tells
+    → HoldsLog o front past game journal base
+holds_running o began tells past opening game journal base front commits places s h =
+    subst (λ (es : List Event). HoldsLog o es past game journal base) (append-nil front) (subst (λ (es : List Event). HoldsLog o (front ++ es) past game journal base) s.waits (s.holds h refl))
 
 -- a record is put behind the last one
-module _ (o : Opened) (began : DiskHistory) (tells : Bool) (old new : DiskHistory) (opening opening_after : Opening) (game : List ℕ) (journal after_journal : Journal) (front : List Event) (commits places : ℕ) (claimed : Claimed) (f : Finished) (p : Prepared) (payload : List ℕ)
-    (s : IsStored o began tells old opening game journal front commits places None None) (next : IsNextCommit o front claimed f p) (room : places ≡ places_of f.effects) (bytes : payload ≡ entries_spelling (p.entry ∷ []))
+module _ (o : Opened) (began : DiskHistory) (tells : Bool) (old new : DiskHistory) (opening opening_after : Opening) (game : List ℕ) (journal after_journal : Journal) (base : Option ℕ) (front : List Event) (commits places : ℕ) (claimed : Claimed) (f : Finished) (p : Prepared) (payload : List ℕ)
+    (s : IsStored o began tells old opening game journal base front commits places None None) (next : IsNextCommit o front claimed f p) (room : places ≡ places_of f.effects) (bytes : payload ≡ entries_spelling (p.entry ∷ []))
     (run : IsTrue tells → (header : List ℕ) (payloads : List (List ℕ)) → StandsAt journal.side journal.length old header payloads → Runs journal.side (HasOrNot header payloads payload) old new)
     (falls : IsTrue tells → (header : List ℕ) (payloads : List (List ℕ)) → StandsAt journal.side journal.length old header payloads → NeverFalls header journal.side old.clock new)
     (opened : opening_after ≡ opening) (side_is : after_journal.side ≡ journal.side) (epoch_is : after_journal.epoch ≡ journal.epoch) (format_is : after_journal.format ≡ journal.format) where
@@ -187,12 +206,12 @@ module _ (o : Opened) (began : DiskHistory) (tells : Bool) (old new : DiskHistor
   abbrev w : DurableWorld
   w = (world_after o (front ++ last ∷ [])).durable
 
-  held_now : IsTrue tells → HoldsNow old game journal d
-  held_now h = holds_running o began tells old opening game journal front commits places s h
+  held_now : IsTrue tells → HoldsLog o front old game journal base
+  held_now h = holds_running o began tells old opening game journal base front commits places s h
 
   module _ (h : IsTrue tells) where
     abbrev held : HoldsNow old game journal d
-    held = held_now h
+    held = (held_now h).stands
 
     here : StandsAt journal.side journal.length old (header_spelling held.header) held.payloads
     here = held.store.stands
@@ -228,31 +247,51 @@ module _ (o : Opened) (began : DiskHistory) (tells : Bool) (old new : DiskHistor
               (append_held journal.side held.header held.payloads payload d w old new held.store.fits outranked held.store.world next_is grows r (falls h (header_spelling held.header) held.payloads here));
         }
 
+    -- its entry is that of the commit
+    entry_of_last : IsOfCommit o (front ++ last ∷ []) p.entry
+    entry_of_last =
+        let named : last ≡ event.Commit claimed.pass p.entry.run p.entry.seq f.outcome = λ i. event.Commit claimed.pass (ap (λ (x : Entry). x.run) (sym next.prepared.entry) i) p.entry.seq f.outcome in record {
+          before = front;
+          pass = claimed.pass;
+          outcome = f.outcome;
+          later = [];
+          parts = ap (λ (x : Event). front ++ x ∷ []) named;
+          changed = next.next.effects ∙ ap (effects d) (sym next.world ∙ ap (λ (x : Event). (world_after o (front ++ x ∷ [])).durable) named);
+        }
+
     -- acknowledged, it has the world of the record
-    holds_appended : StandsAt after_journal.side after_journal.length new (header_spelling held.header) (held.payloads ++ payload ∷ []) → HoldsNow new game after_journal w
+    holds_appended : StandsAt after_journal.side after_journal.length new (header_spelling held.header) (held.payloads ++ payload ∷ []) → HoldsLog o (front ++ last ∷ []) new game after_journal base
     holds_appended stands =
         let r = run h (header_spelling held.header) held.payloads here in
-        let other : now new (other_side journal.side) ≡ now old (other_side journal.side) = r.other new.clock r.later (omega arith) in record {
-          header = held.header;
-          payloads = held.payloads ++ payload ∷ [];
-          ours = held.ours;
-          store = record {
-            fits = held.store.fits;
-            here = refl;
-            epoch = epoch_is ∙ held.store.epoch;
-            format = format_is ∙ held.store.format;
-            stands = stands;
-            outranked = subst (λ (x : Side). IsOutranked held.header new (other_side x)) (sym side_is) (record {
-              settled = other ∙ outranked.settled ∙ ap (λ (x : Disk). settled x.reads) (sym other);
-              lesser = subst (λ (x : Disk). IsLesser held.header x.reads) (sym other) outranked.lesser;
-            });
-            world = next_is;
+        let other : now new (other_side journal.side) ≡ now old (other_side journal.side) = r.other new.clock r.later (omega arith) in
+        let l = held_now h in record {
+          stands = record {
+            header = held.header;
+            payloads = held.payloads ++ payload ∷ [];
+            ours = held.ours;
+            store = record {
+              fits = held.store.fits;
+              here = refl;
+              epoch = epoch_is ∙ held.store.epoch;
+              format = format_is ∙ held.store.format;
+              stands = stands;
+              outranked = subst (λ (x : Side). IsOutranked held.header new (other_side x)) (sym side_is) (record {
+                settled = other ∙ outranked.settled ∙ ap (λ (x : Disk). settled x.reads) (sym other);
+                lesser = subst (λ (x : Disk). IsLesser held.header x.reads) (sym other) outranked.lesser;
+              });
+              world = next_is;
+            };
           };
+          first = l.first;
+          entries = l.entries ++ p.entry ∷ [];
+          log = log_push held.header held.payloads payload d w l.first l.entries p.entry l.log (record { are = subst (λ (n : ℕ). AreEntries n (p.entry ∷ [])) (sym s.format ∙ held.store.format) next.spelled; bytes = bytes }) next.next next.world;
+          known = l.known;
+          of_commits = of_commits_push o (front ++ last ∷ []) l.entries p.entry (of_commits_on o front (last ∷ []) l.entries l.of_commits) entry_of_last;
         }
 
   -- with the record waiting, or its tail where the disk failed
   pub store_appended : (faults : Option ℕ) → (IsTrue tells → faults ≡ None → (header : List ℕ) (payloads : List (List ℕ)) → StandsAt journal.side journal.length old header payloads → StandsAt after_journal.side after_journal.length new header (payloads ++ payload ∷ []))
-      → IsStored o began tells new opening_after game after_journal front commits places (Some p) faults
+      → IsStored o began tells new opening_after game after_journal base front commits places (Some p) faults
   store_appended faults acknowledged = record {
     lawful = s.lawful;
     legal = s.legal;
@@ -267,33 +306,33 @@ module _ (o : Opened) (began : DiskHistory) (tells : Bool) (old new : DiskHistor
 
   -- whatever the journal answered
   pub store_settled : (r : Result (Unit {0}) JournalRefused) (n : ℕ) → (IsTrue tells → OnOk r ((header : List ℕ) (payloads : List (List ℕ)) → StandsAt journal.side journal.length old header payloads → StandsAt after_journal.side after_journal.length new header (payloads ++ payload ∷ [])))
-      → ((m : ℕ) → IsErrOf r (journal_refused.Full m) → new ≡ old) → OnErr r (after_journal ≡ journal) → IfErr r IsAppendFault → IsStored o began tells new opening_after game after_journal front commits places (waiting_after r p) (faults_after r n)
+      → ((m : ℕ) → IsErrOf r (journal_refused.Full m) → new ≡ old) → OnErr r (after_journal ≡ journal) → IfErr r IsAppendFault → IsStored o began tells new opening_after game after_journal base front commits places (waiting_after r p) (faults_after r n)
   store_settled (Ok x) n acknowledged untouched same only = store_appended None (λ h running. acknowledged h)
   store_settled (Err journal_refused.DiskFault) n acknowledged untouched same only = store_appended (Some n) (λ h stopped. runs_not n stopped)
   store_settled (Err (journal_refused.Full m)) n acknowledged untouched same only =
-      subst (λ (j : Journal). IsStored o began tells new opening_after game j front commits places None None) (sym same)
-      (subst (λ (x : DiskHistory). IsStored o began tells x opening_after game journal front commits places None None) (sym (untouched m refl))
-      (subst (λ (x : Opening). IsStored o began tells old x game journal front commits places None None) (sym opened) s))
+      subst (λ (j : Journal). IsStored o began tells new opening_after game j base front commits places None None) (sym same)
+      (subst (λ (x : DiskHistory). IsStored o began tells x opening_after game journal base front commits places None None) (sym (untouched m refl))
+      (subst (λ (x : Opening). IsStored o began tells old x game journal base front commits places None None) (sym opened) s))
   store_settled (Err (journal_refused.NotAStore at)) n acknowledged untouched same only = absurd only
   store_settled (Err (journal_refused.Damaged at)) n acknowledged untouched same only = absurd only
   store_settled (Err journal_refused.NoMemory) n acknowledged untouched same only = absurd only
 
 -- what waits is this
-pub as_waiting : {o : Opened} {began : DiskHistory} {tells : Bool} {past : DiskHistory} {opening : Opening} {game : List ℕ} {journal : Journal} {front : List Event} {commits places : ℕ} {faults : Option ℕ} (v w : Option Prepared) → v ≡ w
-    → IsStored o began tells past opening game journal front commits places v faults → IsStored o began tells past opening game journal front commits places w faults
-as_waiting {o = o} {began = began} {tells = tells} {past = past} {opening = opening} {game = game} {journal = journal} {front = front} {commits = commits} {places = places} {faults = faults} v w same s =
-    subst (λ (x : Option Prepared). IsStored o began tells past opening game journal front commits places x faults) same s
+pub as_waiting : {o : Opened} {began : DiskHistory} {tells : Bool} {past : DiskHistory} {opening : Opening} {game : List ℕ} {journal : Journal} {base : Option ℕ} {front : List Event} {commits places : ℕ} {faults : Option ℕ} (v w : Option Prepared) → v ≡ w
+    → IsStored o began tells past opening game journal base front commits places v faults → IsStored o began tells past opening game journal base front commits places w faults
+as_waiting {o = o} {began = began} {tells = tells} {past = past} {opening = opening} {game = game} {journal = journal} {base = base} {front = front} {commits = commits} {places = places} {faults = faults} v w same s =
+    subst (λ (x : Option Prepared). IsStored o began tells past opening game journal base front commits places x faults) same s
 
-pub as_faults : {o : Opened} {began : DiskHistory} {tells : Bool} {past : DiskHistory} {opening : Opening} {game : List ℕ} {journal : Journal} {front : List Event} {commits places : ℕ} {waiting : Option Prepared} (v w : Option ℕ) → v ≡ w
-    → IsStored o began tells past opening game journal front commits places waiting v → IsStored o began tells past opening game journal front commits places waiting w
-as_faults {o = o} {began = began} {tells = tells} {past = past} {opening = opening} {game = game} {journal = journal} {front = front} {commits = commits} {places = places} {waiting = waiting} v w same s =
-    subst (λ (x : Option ℕ). IsStored o began tells past opening game journal front commits places waiting x) same s
+pub as_faults : {o : Opened} {began : DiskHistory} {tells : Bool} {past : DiskHistory} {opening : Opening} {game : List ℕ} {journal : Journal} {base : Option ℕ} {front : List Event} {commits places : ℕ} {waiting : Option Prepared} (v w : Option ℕ) → v ≡ w
+    → IsStored o began tells past opening game journal base front commits places waiting v → IsStored o began tells past opening game journal base front commits places waiting w
+as_faults {o = o} {began = began} {tells = tells} {past = past} {opening = opening} {game = game} {journal = journal} {base = base} {front = front} {commits = commits} {places = places} {waiting = waiting} v w same s =
+    subst (λ (x : Option ℕ). IsStored o began tells past opening game journal base front commits places waiting x) same s
 
-pub as_front : {o : Opened} {began : DiskHistory} {tells : Bool} {past : DiskHistory} {opening : Opening} {game : List ℕ} {journal : Journal} {commits places : ℕ} {waiting : Option Prepared} {faults : Option ℕ} (v w : List Event) → v ≡ w
-    → IsStored o began tells past opening game journal v commits places waiting faults → IsStored o began tells past opening game journal w commits places waiting faults
-as_front {o = o} {began = began} {tells = tells} {past = past} {opening = opening} {game = game} {journal = journal} {commits = commits} {places = places} {waiting = waiting} {faults = faults} v w same s =
-    subst (λ (x : List Event). IsStored o began tells past opening game journal x commits places waiting faults) same s
+pub as_front : {o : Opened} {began : DiskHistory} {tells : Bool} {past : DiskHistory} {opening : Opening} {game : List ℕ} {journal : Journal} {base : Option ℕ} {commits places : ℕ} {waiting : Option Prepared} {faults : Option ℕ} (v w : List Event) → v ≡ w
+    → IsStored o began tells past opening game journal base v commits places waiting faults → IsStored o began tells past opening game journal base w commits places waiting faults
+as_front {o = o} {began = began} {tells = tells} {past = past} {opening = opening} {game = game} {journal = journal} {base = base} {commits = commits} {places = places} {waiting = waiting} {faults = faults} v w same s =
+    subst (λ (x : List Event). IsStored o began tells past opening game journal base x commits places waiting faults) same s
 
 -- the journal stays on its side, in its epoch
-pub kept_still : (side : Side) (journal after_journal : Journal) (begun first : ℕ) → after_journal.side ≡ journal.side → after_journal.epoch ≡ journal.epoch → IsKeptOn side journal begun first → IsKeptOn side after_journal begun first
-kept_still side journal after_journal begun first side_is epoch_is kept = record { here = side_is ∙ kept.here; same = kept.same; later = omega (arith, epoch_is, kept.later) }
+pub kept_still : (side : Side) (journal after_journal : Journal) (base : Option ℕ) (begun first : ℕ) → after_journal.side ≡ journal.side → after_journal.epoch ≡ journal.epoch → IsKeptOn side journal base begun first → IsKeptOn side after_journal base begun first
+kept_still side journal after_journal base begun first side_is epoch_is kept = record { here = side_is ∙ kept.here; same = kept.same; later = omega (arith, epoch_is, kept.later); most = kept.most }

@@ -7,7 +7,9 @@ pub mod Calls
 pub mod Passes
 pub mod Commits
 pub mod Steps
+pub mod Logs
 pub mod Stores
 pub mod Refusals
 pub mod Looks
 pub mod Checkpoints
+pub mod Tails

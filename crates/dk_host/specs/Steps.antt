@@ -107,7 +107,17 @@ pub record Copies (o : Opened) (before : List Event) (r : Result Durable NoMemor
 abbrev pub IsWhole : ℕ → ℕ → Type 0
 IsWhole commits places = (commits ≡ 1) × (places ≡ 1)
 
--- the same copy, and so many commits came before it
-pub record CopiesLast (o : Opened) (commits : ℕ) (before : List Event) (r : Result Durable NoMemory) (added : List Event) : Type 0 where
-  pub copies : Copies o before r added
+-- nothing is added, and so many commits came before
+pub record SeesLast (o : Opened) (commits : ℕ) (before added : List Event) : Type 0 where
+  pub adds : Adds o [] before added
   pub counted : commits_of before ≡ commits
+
+-- a copy of the durable world of the history, before which so many commits came
+pub record CopiesLast (o : Opened) (commits : ℕ) (before : List Event) (r : Result Durable NoMemory) (added : List Event) : Type 0 where
+  pub sees : SeesLast o commits before added
+  pub copied : IsCopyAt o (before ++ added) r
+
+-- how many commits the durable world of the history has
+pub record CountsLast (o : Opened) (commits : ℕ) (before : List Event) (n : ℕ) (added : List Event) : Type 0 where
+  pub sees : SeesLast o commits before added
+  pub number : n ≡ (world_after o (before ++ added)).durable.commits

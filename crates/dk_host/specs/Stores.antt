@@ -1,8 +1,10 @@
 -- What the store behind the commit lock keeps.
 use Rattle.std.specs.Prelude.{◌≡◌, ℕ, ◌<◌, ◌≤◌, ◌^◌, Bool, IsTrue, List, [], ◌∷◌, ◌++◌, length, Option, None, Some, Result, Ok, Err}
 use Rattle.dk_types.specs.Faults.{HasRisen}
+use Rattle.dk_types.specs.declared.durable.Entry.{Entry}
 use Rattle.dk_types.specs.declared.event.Event.{Event}
 use Rattle.dk_types.specs.declared.event.Event.TheVariants as event
+use Rattle.dk_types.specs.declared.limits.TheConstants.{NUMBERS_END}
 use Rattle.dk_types.specs.declared.side.Side.{Side}
 use Rattle.dk_types.specs.declared.side.Side.TheVariants.{Zero, One}
 use Rattle.dk_disk.specs.DiskHistories.{DiskHistory, now}
@@ -21,6 +23,7 @@ use Rattle.dk_journal.specs.declared.refused.JournalRefused.{JournalRefused}
 use Rattle.dk_journal.specs.declared.refused.JournalRefused.TheVariants as journal_refused
 use Rattle.dk_journal.specs.Recoveries.{AllRecover, RecoverSince, HeldNeverFalls, IsWorld}
 use Rattle.dk_journal.specs.Stores.{HasStore, AreSettled}
+use Rattle.dk_commit_log.specs.Logs.{HasLog}
 use Rattle.dk_txn.specs.declared.finished.Finished.{Finished}
 use Rattle.dk_core.specs.declared.claimed.Claimed.{Claimed}
 use Rattle.dk_core.specs.declared.prepared.Prepared.{Prepared}
@@ -31,6 +34,7 @@ use Rattle.dk_core.specs.Rooms.{places_of}
 use Rattle.dk_turn.specs.Fronts.{Watched}
 use Rattle.dk_host.specs.declared.prepared.PreparedCommit.{PreparedCommit}
 use Rattle.dk_host.specs.Commits.{IsPreparedAt}
+use Rattle.dk_host.specs.Logs.{AreOfCommits}
 use Rattle.dk_host.specs.Steps.{TellsStep}
 
 -- what contracts see of a store: its watcher, the record that waits, how much room is kept, the kept count of faults where it is stopped, the home's count, and the journal's length and epoch
@@ -86,15 +90,35 @@ pub record HoldsNow (past : DiskHistory) (game : List ℕ) (journal : Journal) (
   pub ours : header.game ≡ game
   pub store : HasStore past journal.side journal header payloads d
 
--- the journal stands on this side, and its epoch is no less than the one that the store was opened with, which is this number
-pub record IsKeptOn (side : Side) (journal : Journal) (begun first : ℕ) : Type 0 where
+-- the store that stands has the world after these events, behind a log of entries: each that is numbered behind the opened world's commits is of one of these events. It begins with as many commits as are known
+pub record HoldsLog (o : Opened) (events : List Event) (past : DiskHistory) (game : List ℕ) (journal : Journal) (base : Option ℕ) : Type 0 where
+  pub stands : HoldsNow past game journal (world_after o events).durable
+  pub first : DurableWorld
+  pub entries : List Entry
+  pub log : HasLog stands.header stands.payloads (world_after o events).durable first entries
+  pub known : (n : ℕ) → base ≡ Some n → first.commits ≡ n
+  pub of_commits : AreOfCommits o events entries
+
+-- the journal stands on this side, and its epoch is no less than the one that the store was opened with, which is this number; and no more commits come before its entries than there are numbers
+pub record IsKeptOn (side : Side) (journal : Journal) (base : Option ℕ) (begun first : ℕ) : Type 0 where
   pub here : journal.side ≡ side
   pub same : first ≡ begun
   pub later : begun ≤ journal.epoch
+  pub most : (n : ℕ) → base ≡ Some n → n ≤ NUMBERS_END
+
+-- the home's count of faults, which was so much as the host was opened: it did not fall, and where the store is stopped it rose
+abbrev pub CountsOn : ℕ → Option ℕ → ℕ → Type 0
+CountsOn begun None now = begun ≤ now
+CountsOn begun (Some n) now = (before : ℕ) × ((begun ≤ before) × HasRisen before now)
+
+-- the home is the one that was handed in: how it was opened stays, and its faults are counted on
+pub record IsSameHome (begun : ℕ) (was : Opening) (faults : Option ℕ) (now : ℕ) (opening : Opening) : Type 0 where
+  pub counts : CountsOn begun faults now
+  pub same : opening ≡ was
 
 -- What the store keeps: its right counts the commits that its watcher has seen; at every moment since its files had this past what a stop leaves recovers to a beginning; and unless it is stopped
 -- the files now recover to the world after all that the watcher has seen, followed by the record that waits
-pub record IsStored (o : Opened) (began : DiskHistory) (tells : Bool) (past : DiskHistory) (opening : Opening) (game : List ℕ) (journal : Journal) (front : List Event) (commits places : ℕ) (waiting : Option Prepared) (faults : Option ℕ) : Type 0 where
+pub record IsStored (o : Opened) (began : DiskHistory) (tells : Bool) (past : DiskHistory) (opening : Opening) (game : List ℕ) (journal : Journal) (base : Option ℕ) (front : List Event) (commits places : ℕ) (waiting : Option Prepared) (faults : Option ℕ) : Type 0 where
   pub lawful : AreLawful o.rules
   pub legal : IsLegal o front
   pub counted : commits ≡ commits_of front
@@ -103,7 +127,7 @@ pub record IsStored (o : Opened) (began : DiskHistory) (tells : Bool) (past : Di
   pub tail : List Event
   pub waits : Waits o front places waiting tail
   pub since : IsTrue tells → HasRecovered o began past front tail
-  pub holds : IsTrue tells → faults ≡ None → HoldsNow past game journal (world_after o (front ++ tail)).durable
+  pub holds : IsTrue tells → faults ≡ None → HoldsLog o (front ++ tail) past game journal base
 
 -- what a prepare of the store finds: the commit comes next, and its room is kept; or the first stale read
 abbrev pub FindsNext : Opened → List Event → Claimed → Finished → ℕ → Result PreparedCommit PrepareRefused → Type 0

@@ -100,6 +100,7 @@ impl<W: Hosting, J: Naming, M: Home> CommitStore<W, J, M> {
         let (journal, side) = answer?;
         self.journal = journal;
         self.side = side;
+        self.base = Some(durable.commits);
         Ok(())
     }
 }

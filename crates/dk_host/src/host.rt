@@ -7,7 +7,7 @@ ghost use Rattle.dk_model.specs.Legal.{world_after, pass_of, IsFront, IsLegal};
 ghost use Rattle.dk_turn.specs.Fronts.{IsDealt};
 ghost use Rattle.dk_core.specs.Listings.{world_of};
 ghost use Rattle.dk_host.specs.declared.fault.OpenFault.TheVariants.{NoMemory as WantOfMemory};
-ghost use Rattle.dk_host.specs.Stores.{EndsAs};
+ghost use Rattle.dk_host.specs.Stores.{EndsAs, IsSameHome};
 
 use crate::book::WorldBook;
 use crate::commit::FreeStore;
@@ -73,14 +73,12 @@ impl<W: Hosting, J: Naming, M: Home> Host<W, J, M> {
         requires keep { W.keeps ≡ keep }
         requires began { M.past store.home ≡ W.began }
         requires first { store.journal.epoch ≡ W.first }
+        requires opening { M.opening store.home ≡ W.opening }
+        requires counted { M.counted store.home ≡ W.counted }
         ensures passes { IfOk result (λ opened. IsDealt J.name.passes opened.1.items) }
         ensures refused { IfErr result (λ refused. (refused.home ≡ store.home) × (refused.fault ≡ WantOfMemory)) }
     {
-        let OpenedStore {
-            home,
-            stood,
-            game,
-        } = store;
+        let OpenedStore { home, stood, game } = store;
         let Stood {
             journal,
             side,
@@ -100,7 +98,8 @@ impl<W: Hosting, J: Naming, M: Home> Host<W, J, M> {
             commits,
             places,
         };
-        let Ok((world, passes, watcher)) = Turn::<WorldBook<W>, J>::watched(alloc, blank, book) else {
+        let Ok((world, passes, watcher)) = Turn::<WorldBook<W>, J>::watched(alloc, blank, book)
+        else {
             return Err(OpenRefused::no_memory(home));
         };
         let right = CommitRight::new(commit_share, place_share);
@@ -118,6 +117,7 @@ impl<W: Hosting, J: Naming, M: Home> Host<W, J, M> {
         ensures kept { IsTrue W.keeps → result.events.items ≡ result.history }
         ensures none_kept { W.keeps ≡ false → result.events.items ≡ [] }
         ensures ended { IsTrue M.tells → EndsAs W.opened W.began (M.past result.home) result.history result.faults result.epoch }
+        ensures same_home { IsSameHome W.counted W.opening result.faults (M.counted result.home) (M.opening result.home) }
         ensures commits { result.commits ≡ (world_after W.opened result.history).durable.commits }
         ensures first { (result.first ≡ W.first) × (W.first ≤ result.epoch) }
         ensures tasks { result.tasks ≡ map.len (world_after W.opened result.history).durable.tasks }
@@ -130,6 +130,7 @@ impl<W: Hosting, J: Naming, M: Home> Host<W, J, M> {
             side: _,
             journal,
             first,
+            base: _,
             watcher,
             mut right,
             waiting: _,

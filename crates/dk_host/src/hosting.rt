@@ -1,6 +1,7 @@
 //! What tells one host from another.
 ghost use Rattle.std.specs.Prelude.{ℕ, Bool, false};
 ghost use Rattle.dk_disk.specs.DiskHistories.{DiskHistory};
+ghost use Rattle.dk_disk.specs.Opening.{Opening, NotCalled};
 ghost use Rattle.dk_model.specs.Legal.{Opened};
 ghost use Rattle.dk_host.specs.Openings.{nothing_opened, empty_files};
 
@@ -16,6 +17,12 @@ pub trait Hosting {
 
     // The store's epoch as it was opened.
     ghost first: { ℕ };
+
+    // How its home was opened.
+    ghost opening: { Opening };
+
+    // The home's count of faults as the host was opened.
+    ghost counted: { ℕ };
 
     // Whether it keeps its events in memory.
     ghost keeps: { Bool };
@@ -33,6 +40,10 @@ impl Hosting for Brand {
     ghost began = { empty_files };
 
     ghost first = { 0 };
+
+    ghost opening = { NotCalled };
+
+    ghost counted = { 0 };
 
     ghost keeps = { false };
 

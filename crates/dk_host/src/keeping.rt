@@ -14,7 +14,9 @@ ghost use Rattle.dk_host.specs.Keeping.{listed};
 use crate::history::History;
 use crate::hosting::Hosting;
 use dk_core::{ClaimRefused, Claimed, ConnectRefused, Core, Handed, PostRefused};
-use dk_types::{ClaimReply, ConnNo, ConnectReply, Event, Input, Job, Listed, Name, NoMemory, Out, PostReply};
+use dk_types::{
+    ClaimReply, ConnNo, ConnectReply, Event, Input, Job, Listed, Name, NoMemory, Out, PostReply,
+};
 
 // A copy of a name, where events are kept.
 pub(crate) fn kept_name<W: Hosting>(
@@ -38,7 +40,9 @@ pub(crate) fn kept_input<W: Hosting>(
     ensures spared { IfErr result (λ _. is_disconnect (waits.Input input.now) ≡ false) }
 {
     if let Input::Disconnect { graceful } = input {
-        return Ok(Some(Input::Disconnect { graceful: *graceful }));
+        return Ok(Some(Input::Disconnect {
+            graceful: *graceful,
+        }));
     }
     if history.keeps() {
         return Ok(Some(input.clone()?));

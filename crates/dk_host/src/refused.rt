@@ -3,9 +3,11 @@ ghost use Rattle.std.specs.Prelude.{◌≡◌};
 ghost use Rattle.dk_journal.specs.Refusals.{IsAppendFault};
 ghost use Rattle.dk_host.specs.Refusals.{IsWhyOfAppend, IsWhyOfLook};
 ghost use Rattle.dk_host.specs.Checkpoints.{refusal_of};
+ghost use Rattle.dk_host.specs.Tails.{refusal_of as tail_of};
 ghost use Rattle.dk_host.specs.declared.refused.CheckpointRefused.TheVariants.{NoMemory as WantOfMemory};
 
 use dk_checkpoint::CheckpointRefused as NotWritten;
+use dk_commit_log::LogRefused;
 use dk_core::{Claimed, PrepareRefused};
 use dk_journal::JournalRefused;
 use dk_types::{Item, NoMemory, Seen};
@@ -66,6 +68,34 @@ impl From<NotWritten> for CheckpointRefused {
             NotWritten::TooLarge { length } => CheckpointRefused::TooLarge { length },
             NotWritten::EpochEnd { epoch } => CheckpointRefused::EpochEnd { epoch },
             NotWritten::NoMemory => CheckpointRefused::NoMemory,
+        }
+    }
+}
+
+/// Why commits were not read back. The first cause in this order is told. Nothing was written.
+#[derive(Clone, Copy, Debug, Drop, PartialEq, Eq)]
+pub enum TailRefused {
+    /// The disk failed in an earlier commit or checkpoint, and `faults` was its count then.
+    Stopped { faults: u64 },
+    /// The journal begins with the entry of this number.
+    Older { first: u64 },
+    /// The disk failed in this call. The host goes on.
+    DiskFault,
+    /// There was no memory.
+    NoMemory,
+    /// What stands at this place of the file is no record of the commits that should come next. A home that tells its
+    /// content never has such.
+    Damaged { at: u64 },
+}
+
+impl From<LogRefused> for TailRefused {
+    ghost from_gives = { λ log refused. refused ≡ tail_of log };
+
+    fn from(refused: LogRefused) -> TailRefused {
+        match refused {
+            LogRefused::DiskFault => TailRefused::DiskFault,
+            LogRefused::NoMemory => TailRefused::NoMemory,
+            LogRefused::Damaged { at } => TailRefused::Damaged { at },
         }
     }
 }

@@ -8,7 +8,7 @@ mod runs;
 
 pub(crate) use commits::{Prepare, Publish};
 pub(crate) use connections::{Connect, Hand, Post};
-pub(crate) use copies::{CopyLast, CopyWorld, Glance};
+pub(crate) use copies::{CopyLast, CopyWorld, CountLast, Glance};
 pub(crate) use events::{CountKept, ReadItem, Tick};
 pub(crate) use runs::{Claim, Release};
 

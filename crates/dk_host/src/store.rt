@@ -1,5 +1,5 @@
 //! The store behind the commit lock.
-ghost use Rattle.std.specs.Prelude.{◌≡◌, ◌<◌, ◌^◌, ◌↔◌, ◌+◌, ℕ, min, None, [], ◌∷◌, length, IsErrOf, IsTrue};
+ghost use Rattle.std.specs.Prelude.{◌≡◌, ◌<◌, ◌^◌, ◌↔◌, ◌+◌, ℕ, min, None, Some, [], ◌∷◌, length, IsErrOf, IsTrue};
 ghost use Rattle.std.specs.List.{All};
 ghost use Rattle.dk_types.specs.Faults.{COUNT_END};
 ghost use Rattle.dk_types.specs.declared.event.Event.TheVariants as event;
@@ -39,6 +39,8 @@ pub struct CommitStore<W: Hosting, J: Naming, M: Home> {
     pub(crate) journal: Journal,
     // The epoch of the store as it was opened.
     pub(crate) first: u64,
+    // How many commits come before the journal's entries: those of its image, once they are known.
+    pub(crate) base: Option<u64>,
     pub(crate) watcher: Watcher<WorldBook<W>, J>,
     pub(crate) right: CommitRight<W>,
     // Where the store is stopped, the one whose record the disk did not take.
@@ -50,7 +52,7 @@ pub struct CommitStore<W: Hosting, J: Naming, M: Home> {
 
 impl<W: Hosting, J: Naming, M: Home> Model for CommitStore<W, J, M> {
     ghost use Rattle.std.specs.Prelude.{◌≡◌};
-    ghost use Rattle.dk_host.specs.Stores.{Stored, stored, IsKeptOn, IsStored};
+    ghost use Rattle.dk_host.specs.Stores.{Stored, stored, IsKeptOn, IsSameHome, IsStored};
 
     ghost Value = { Stored };
 
@@ -58,8 +60,9 @@ impl<W: Hosting, J: Naming, M: Home> Model for CommitStore<W, J, M> {
 
     ghost invariant = { λ s. (s.right.commits.parts ≡ 1)
         × (s.right.places.parts ≡ 1)
-        × IsKeptOn s.side s.journal W.first s.first
-        × IsStored W.opened W.began M.tells (M.past s.home) (M.opening s.home) s.game s.journal s.watcher.front s.right.commits.amount s.right.places.amount s.waiting s.faults };
+        × IsKeptOn s.side s.journal s.base W.first s.first
+        × IsStored W.opened W.began M.tells (M.past s.home) (M.opening s.home) s.game s.journal s.base s.watcher.front s.right.commits.amount s.right.places.amount s.waiting s.faults
+        × IsSameHome W.counted W.opening s.faults (M.counted s.home) (M.opening s.home) };
 }
 
 // What waits after an append, and the kept count of faults where it stopped the store.
@@ -75,6 +78,13 @@ fn settle(
         Err(JournalRefused::DiskFault) => (Some(prepared), Some(faults)),
         Err(_) => (None, None),
     }
+}
+
+// How many commits come before the entries of a journal of this epoch, if no image has to tell it.
+fn base_of(epoch: u64) -> Option<u64>
+    ensures { (n : ℕ) → result ≡ Some n → (n ≡ 0) × (epoch ≡ 0) }
+{
+    if epoch == 0 { Some(0) } else { None }
 }
 
 impl<W: Hosting, J: Naming, M: Home> CommitStore<W, J, M> {
@@ -95,6 +105,8 @@ impl<W: Hosting, J: Naming, M: Home> CommitStore<W, J, M> {
         requires is_open { IsOpen (M.opening home) }
         requires here { journal.side ≡ side }
         requires first { journal.epoch ≡ W.first }
+        requires opening { M.opening home ≡ W.opening }
+        requires counted { M.counted home ≡ W.counted }
         requires format { journal.format ≡ 2 }
         requires holds { IsTrue M.tells → HoldsNow (M.past home) game journal W.opened.durable }
         requires since { IsTrue M.tells → HasRecovered W.opened W.began (M.past home) [] [] }
@@ -107,6 +119,7 @@ impl<W: Hosting, J: Naming, M: Home> CommitStore<W, J, M> {
             side,
             journal,
             first,
+            base: base_of(first),
             watcher,
             right,
             waiting: None,

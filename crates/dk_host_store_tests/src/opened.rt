@@ -13,6 +13,16 @@ pub enum Answer {
     Refused(OpenFault),
 }
 
+impl Answer {
+    // A store was opened, and its world has these counts.
+    fn has(&self, counts: Counts) -> bool {
+        match self {
+            Answer::Opened(_, _, held) => *held == counts,
+            Answer::Refused(_) => false,
+        }
+    }
+}
+
 /// How many commits, objects and names a world has.
 #[derive(Clone, Copy, Debug, PartialEq, Eq)]
 pub struct Counts(pub u64, pub usize, pub usize);
@@ -48,6 +58,26 @@ pub fn opened(
     }
 }
 
+/// Whether each torn image at this moment is opened with a world of these counts.
+pub fn is_held(
+    alloc: Global,
+    home: &MemoryHome,
+    game: &GameId,
+    counts: Counts,
+    moment: u64,
+) -> Result<bool, AllocError> {
+    for torn in [Torn::Old, Torn::New, Torn::Zeros, Torn::Ones] {
+        let Ok((zero, one)) = home.crash_at(moment, torn) else {
+            return Ok(false);
+        };
+        let (given, _) = opened(alloc, &zero, &one, game, 0)?;
+        if !given.has(counts) {
+            return Ok(false);
+        }
+    }
+    Ok(true)
+}
+
 /// Whether each image that a stop leaves, at each moment of this home, is opened with a world of these counts.
 pub fn is_kept(
     alloc: Global,
@@ -56,14 +86,8 @@ pub fn is_kept(
     counts: Counts,
 ) -> Result<bool, AllocError> {
     for moment in 0..=home.calls() {
-        for torn in [Torn::Old, Torn::New, Torn::Zeros, Torn::Ones] {
-            let Ok((zero, one)) = home.crash_at(moment, torn) else {
-                return Ok(false);
-            };
-            match opened(alloc, &zero, &one, game, 0)? {
-                (Answer::Opened(_, _, held), _) if held == counts => {}
-                _ => return Ok(false),
-            }
+        if !is_held(alloc, home, game, counts, moment)? {
+            return Ok(false);
         }
     }
     Ok(true)

@@ -1,7 +1,7 @@
 //! What opening gives, and what stops and failures leave.
 
 use crate::files::{Records, file_of};
-use crate::opened::{Answer, Counts, is_kept, opened};
+use crate::opened::{Answer, Counts, is_held, is_kept, opened};
 use dk_host::OpenFault;
 use dk_types::{GameId, Side};
 use std::alloc::Global;
@@ -159,7 +159,7 @@ fn a_store_of_the_older_format_is_written_anew(rt: HostRuntime) -> Result<(), Fa
     Ok(())
 }
 
-// Stops at each moment while the store on these files is opened, and while that fails at each of its calls.
+// Stops at each moment while the store on these files is opened, and after each of its calls that fails.
 fn stops(rt: &impl Abort, alloc: Global, files: Files, counts: Counts) -> Result<(), Fail> {
     let id = game(b"sword-world")?;
     let (zero, one) = bytes_of(alloc, files)?;
@@ -168,7 +168,8 @@ fn stops(rt: &impl Abort, alloc: Global, files: Files, counts: Counts) -> Result
     for failing in 1..=home.calls() {
         let (given, home) = opened(alloc, &zero, &one, &id, failing)?;
         assert_eq!(rt; given, Answer::Refused(OpenFault::DiskFault), "{failing}");
-        assert!(rt; is_kept(alloc, &home, &id, counts)?, "{files:?} {failing}");
+        let last = home.calls();
+        assert!(rt; is_held(alloc, &home, &id, counts, last)?, "{failing}");
     }
     Ok(())
 }

@@ -16,6 +16,7 @@ use std::sync::{Wait, ledger};
 use std::test::Fail;
 
 /// How two sessions ended, how many events were kept by then, and what was kept when the host was closed.
+#[derive(Drop)]
 pub(crate) struct Sessions {
     pub(crate) ends: (SessionEnd, SessionEnd),
     pub(crate) count: u64,
@@ -76,6 +77,8 @@ fn on_ledgers<W: Hosting, R: Wait>(
     requires began { past_of store.home ≡ W.began }
     requires keep { W.keeps ≡ keep }
     requires epoch { store.journal.epoch ≡ W.first }
+    requires opening { store.home.opening ≡ W.opening }
+    requires counted { store.home.plan.faults ≡ W.counted }
 {
     let Ok(blank) = Blank::new(alloc, 1) else {
         return Err(Fail::from("a turn"));
@@ -103,9 +106,10 @@ fn on_host<W: Hosting, J: Naming, R: Wait>(
     requires began { past_of store.home ≡ W.began }
     requires keep { W.keeps ≡ keep }
     requires epoch { store.journal.epoch ≡ W.first }
+    requires opening { store.home.opening ≡ W.opening }
+    requires counted { store.home.plan.faults ≡ W.counted }
 {
-    let opened =
-        Host::<W, J, MemoryHome>::open(alloc, blank, commits, places, store, None, keep);
+    let opened = Host::<W, J, MemoryHome>::open(alloc, blank, commits, places, store, None, keep);
     let Ok((host, mut passes)) = opened else {
         return Err(Fail::from("a host"));
     };

@@ -163,16 +163,34 @@ fn a_body_that_is_too_long_is_bad(rt: HostRuntime) -> Result<(), Fail> {
 }
 
 // What two whole sessions enter, after a hand to a connection that is not there.
-const KEPT: &str = "hand 7, connect 0, message 0, disconnect 0, connect 1, message 1, disconnect 1, ";
+const KEPT: &str =
+    "hand 7, connect 0, message 0, disconnect 0, connect 1, message 1, disconnect 1, ";
 
 fn kept(alloc: Global, events: &[Event]) -> Result<String, Fail> {
     let mut text = String::new(alloc);
     for event in events {
         let line = match event {
-            Event::Hand { conn, end: true, .. } => format!(in alloc; "hand {}, ", conn.0)?,
-            Event::Connect { reply: ConnectReply::Number(conn), .. } => format!(in alloc; "connect {}, ", conn.0)?,
-            Event::Post { conn, input: Input::Message(_), reply: PostReply::Taken, .. } => format!(in alloc; "message {}, ", conn.0)?,
-            Event::Post { conn, input: Input::Disconnect { graceful: true }, reply: PostReply::Taken, .. } => format!(in alloc; "disconnect {}, ", conn.0)?,
+            Event::Hand {
+                conn,
+                end: true,
+                ..
+            } => format!(in alloc; "hand {}, ", conn.0)?,
+            Event::Connect {
+                reply: ConnectReply::Number(conn),
+                ..
+            } => format!(in alloc; "connect {}, ", conn.0)?,
+            Event::Post {
+                conn,
+                input: Input::Message(_),
+                reply: PostReply::Taken,
+                ..
+            } => format!(in alloc; "message {}, ", conn.0)?,
+            Event::Post {
+                conn,
+                input: Input::Disconnect { graceful: true },
+                reply: PostReply::Taken,
+                ..
+            } => format!(in alloc; "disconnect {}, ", conn.0)?,
             _ => format!(in alloc; "other, ")?,
         };
         text.push_str(line.as_str())?;

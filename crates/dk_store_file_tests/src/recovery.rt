@@ -1,34 +1,31 @@
 //! What recovering two files gives.
 
-use dk_disk::{Home, MemoryHome};
+use crate::open_home::OpenHome;
+use crate::pieces::Pieces;
 use dk_recover::{OpenFault, Recovered, recover};
+use dk_rows::Words;
 use dk_types::{GameId, RunNo, Side};
-use std::alloc::{AllocError, Global};
+use std::alloc::Global;
+use std::str::from_utf8;
 
-/// What two files hold for a game.
-#[derive(Clone, Copy, Debug, PartialEq, Eq)]
-pub enum Answer {
-    NoStore,
-    Holds(Held),
-    NotAStore(Side, u64),
-    OfOther(GameId),
-    Damaged(Side, u64),
-    NoMemory,
-    DiskFault,
+/// What a file's own bytes say: one more than its greatest run, and its game. A store that has these is said to have its own.
+#[derive(Clone, Copy)]
+pub struct Own<'a> {
+    pub next: u64,
+    pub game: &'a [u8],
 }
 
-/// A store by its numbers: the file that stands, its format and epoch, where its journal ends, and what its world has.
-#[derive(Clone, Copy, Debug, PartialEq, Eq)]
-pub struct Held {
-    pub side: Side,
-    pub format: u16,
-    pub epoch: u64,
-    pub length: u64,
-    pub commits: u64,
-    /// One more than the largest committed run, or 0.
-    pub next: u64,
-    pub objects: usize,
-    pub names: usize,
+/// No store's.
+const OF_NONE: Own<'static> = Own {
+    next: u64::MAX,
+    game: &[],
+};
+
+fn name_of(side: Side) -> &'static str {
+    match side {
+        Side::Zero => "zero",
+        Side::One => "one",
+    }
 }
 
 fn next_of(last: Option<RunNo>) -> u64 {
@@ -38,62 +35,88 @@ fn next_of(last: Option<RunNo>) -> u64 {
     }
 }
 
-fn answer_of(found: &Recovered) -> Answer {
-    match &found.store {
-        None => Answer::NoStore,
-        Some(journal) => Answer::Holds(Held {
-            side: found.side,
-            format: found.format,
-            epoch: journal.epoch(),
-            length: journal.length(),
-            commits: found.durable.commits,
-            next: next_of(found.durable.last),
-            objects: found.durable.objects.as_slice().len(),
-            names: found.durable.names.as_slice().len(),
-        }),
-    }
-}
-
-fn refusal_of(fault: OpenFault) -> Answer {
-    match fault {
-        OpenFault::NoMemory => Answer::NoMemory,
-        OpenFault::DiskFault => Answer::DiskFault,
-        OpenFault::NotAStore { side, at } => Answer::NotAStore(side, at),
-        OpenFault::WrongGame { found } => Answer::OfOther(found),
-        OpenFault::Damaged { side, at } => Answer::Damaged(side, at),
-    }
-}
-
-/// What these two files hold for this game where this call fails, and how many calls were made. The calls have numbers
-/// from 1 on.
-pub fn calls_of(
-    alloc: Global,
-    zero: &[u8],
-    one: &[u8],
-    game: &GameId,
-    failing: u64,
-) -> Result<(Answer, u64), AllocError> {
-    let zero = Vec::from_slice(alloc, zero)?;
-    let one = Vec::from_slice(alloc, one)?;
-    let failing = vec![in alloc; failing]?;
-    let mut home = MemoryHome::new(alloc, zero, one, failing, false);
-    if home.open("").is_err() {
-        return Ok((Answer::DiskFault, 0));
-    }
-    let answer = match recover(alloc, &mut home, game) {
-        Ok(found) => answer_of(&found),
-        Err(fault) => refusal_of(fault),
+// The file that stands, its format and epoch and where its journal ends; and of its world the commits, one more than the largest
+// committed run or 0, the objects and the names.
+fn held(alloc: Global, found: &Recovered, own: Own<'_>) -> Option<String> {
+    let Some(journal) = &found.store else {
+        return String::from_str(alloc, "none").ok();
     };
-    Ok((answer, home.calls()))
+    let (durable, next) = (&found.durable, next_of(found.durable.last));
+    let mut text = format!(in alloc;
+        "{} {} {}",
+        name_of(found.side),
+        found.format,
+        journal.epoch()
+    )
+    .ok()?;
+    write!(text, " {} {}", journal.length(), durable.commits).ok()?;
+    if next == own.next {
+        text.push_str(" own").ok()?;
+    } else {
+        write!(text, " {next}").ok()?;
+    }
+    let (objects, names) = (
+        durable.objects.as_slice().len(),
+        durable.names.as_slice().len(),
+    );
+    write!(text, " {objects} {names}").ok()?;
+    Some(text)
 }
 
-/// What these two files hold for this game.
-pub fn recovered(
-    alloc: Global,
-    zero: &[u8],
-    one: &[u8],
-    game: &GameId,
-) -> Result<Answer, AllocError> {
-    let (answer, _) = calls_of(alloc, zero, one, game, 0)?;
-    Ok(answer)
+// A store of another game, with its id.
+fn other(alloc: Global, game: GameId, own: Own<'_>) -> Option<String> {
+    let id = game.as_slice();
+    if id == own.game {
+        return String::from_str(alloc, "other own").ok();
+    }
+    format!(in alloc; "other {}", from_utf8(id).ok()?).ok()
+}
+
+fn refused(alloc: Global, fault: OpenFault, own: Own<'_>) -> Option<String> {
+    match fault {
+        OpenFault::NoMemory => None,
+        OpenFault::DiskFault => String::from_str(alloc, "disk fault").ok(),
+        OpenFault::NotAStore { side, at } => {
+            format!(in alloc; "no store {} {at}", name_of(side)).ok()
+        }
+        OpenFault::WrongGame { found } => other(alloc, found, own),
+        OpenFault::Damaged { side, at } => {
+            format!(in alloc; "damaged {} {at}", name_of(side)).ok()
+        }
+    }
+}
+
+/// What a home's files hold for this game.
+pub fn told(alloc: Global, home: &mut OpenHome, game: &GameId, own: Own<'_>) -> Option<String> {
+    match recover(alloc, home, game) {
+        Ok(found) => held(alloc, &found, own),
+        Err(fault) => refused(alloc, fault, own),
+    }
+}
+
+/// `recovers GAME ZERO ONE`: what these two files hold for this game.
+pub fn recovers(alloc: Global, pieces: &Pieces, call: &mut Words<'_>) -> Option<String> {
+    let game = GameId::new(call.word()?.as_bytes()).ok()?;
+    let zero = pieces.next(alloc, call)?;
+    let one = pieces.next(alloc, call)?;
+    let mut home = OpenHome::of(alloc, &zero, &one, 0)?;
+    told(alloc, &mut home, &game, OF_NONE)
+}
+
+/// `fails ZERO ONE`: what they hold for the worked game, where each call of recovering them, if it fails, is a disk fault behind which no
+/// call is made.
+pub fn fails(alloc: Global, pieces: &Pieces, call: &mut Words<'_>) -> Option<String> {
+    let game = GameId::new(b"sword-world").ok()?;
+    let zero = pieces.next(alloc, call)?;
+    let one = pieces.next(alloc, call)?;
+    let mut home = OpenHome::of(alloc, &zero, &one, 0)?;
+    let text = told(alloc, &mut home, &game, OF_NONE)?;
+    for failing in 1..=home.inner().calls() {
+        let mut again = OpenHome::of(alloc, &zero, &one, failing)?;
+        let other = told(alloc, &mut again, &game, OF_NONE)?;
+        if other.as_str() != "disk fault" || again.inner().calls() != failing {
+            return format!(in alloc; "{other} where call {failing} fails").ok();
+        }
+    }
+    Some(text)
 }

@@ -16,7 +16,7 @@ use Rattle.dk_laws.proofs.ClaimedOnce.{claimed_once}
 use Rattle.dk_txn.specs.declared.finished.Finished.{Finished}
 use Rattle.dk_txn.specs.Finishes.{told}
 use Rattle.dk_txn.specs.Knowing.{HasTaskLimits}
-use Rattle.dk_core.specs.StampedWorlds.{Stamped, read_now, seen_now}
+use Rattle.dk_core.specs.StampedWorlds.{Stamped, seen_now}
 use Rattle.dk_core.specs.Changes.{IsFirstConflict}
 use Rattle.dk_core.specs.declared.durable.conflicts.Conflict.{Conflict}
 use Rattle.dk_game.proofs.Lent.{job_fits}

@@ -3,3 +3,4 @@ pub mod HonestRuns
 pub mod Tries
 pub mod Rounds
 pub mod Shifts
+pub mod Crossing

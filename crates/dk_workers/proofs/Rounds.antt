@@ -1,12 +1,12 @@
 -- How the claims of a worker, and what it did of each, go together.
-use Rattle.std.proofs.Common.{◌≡◌, ℕ, ◌<◌, List, [], ◌∷◌, ◌++◌, Option, Some, None, Result, Ok, Err, refl, sym, ap, subst, ◌∙◌, append_assoc, inl, inr}
-use Rattle.std.specs.List.{All, flat_map}
+use Rattle.std.proofs.Common.{◌≡◌, ℕ, ◌<◌, List, [], ◌∷◌, ◌++◌, Result, Ok, Err, refl, ap, subst, ◌∙◌, append_assoc, inl, inr}
+use Rattle.std.specs.List.{All}
 use Rattle.std.proofs.lemmas.Grind.{flat_map-append}
 use Rattle.dk_types.specs.declared.event.ClaimReply.{ClaimReply}
 use Rattle.dk_types.specs.declared.event.ClaimReply.TheVariants as reply
 use Rattle.dk_types.specs.declared.event.Event.{Event}
 use Rattle.dk_types.specs.declared.event.Event.TheVariants as event
-use Rattle.dk_model.specs.Legal.{Opened, IsLegal, pass_of}
+use Rattle.dk_model.specs.Legal.{Opened, pass_of}
 use Rattle.dk_core.specs.declared.claimed.Claimed.{Claimed}
 use Rattle.dk_turn.specs.Fronts.{Known}
 use Rattle.dk_core.specs.declared.answers.ClaimRefused.{ClaimRefused}
@@ -77,7 +77,7 @@ module _ (o : Opened) (count : ℕ) where
 
   -- a claim that was granted, and what was done of it
   module _ (p m q : Known Event) (c : Claimed) (m_is : m.number ≡ p.number) (q_is : q.number ≡ m.number) (claim : Entered o p.number (event.Claim p.number (reply.Granted c.run c.at c.job) ∷ []) p.front m.front)
-    (m_named : All (λ e. pass_of e < count) m.front) (q_named : All (λ e. pass_of e < count) q.front) where
+      (m_named : All (λ e. pass_of e < count) m.front) (q_named : All (λ e. pass_of e < count) q.front) where
     enters_both : (e : Event) → Entered o p.number (e ∷ []) m.front q.front → Enters o count p.number (event.Claim p.number (reply.Granted c.run c.at c.job) ∷ e ∷ []) p.front q.front
     enters_both e h = enters_then o count p.number (event.Claim p.number (reply.Granted c.run c.at c.job) ∷ []) (e ∷ []) p.front m.front q.front (enters_one o count p.number _ p.front m.front claim m_named) (enters_one o count p.number _ m.front q.front h q_named)
 

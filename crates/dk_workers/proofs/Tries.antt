@@ -1,11 +1,11 @@
 -- How the calls of a try go together.
-use Rattle.std.proofs.Common.{◌≡◌, ◌≢◌, ℕ, cond, List, [], ◌∷◌, ◌++◌, Option, Some, None, Result, Ok, Err, refl, sym, ap, subst, ◌∙◌, ne_eqb, append_assoc}
+use Rattle.std.proofs.Common.{◌≡◌, ◌≢◌, ℕ, cond, List, [], ◌∷◌, ◌++◌, Some, None, Ok, Err, refl, sym, ap, subst, ◌∙◌, ne_eqb, append_assoc}
 use Rattle.std.specs.List.{AllByRecursion}
 use Rattle.std.proofs.lemmas.List.{append-nil}
 use mathlib.Core.List.{IsPrefix}
 use Rattle.dk_types.specs.declared.event.Event.{Event}
 use Rattle.dk_types.specs.declared.event.Event.TheVariants as event
-use Rattle.dk_model.specs.Legal.{Opened, opening_of, IsFront, IsLegal, pass_of}
+use Rattle.dk_model.specs.Legal.{Opened, opening_of, IsFront, pass_of}
 use Rattle.dk_laws.proofs.LaterOn.{front_on, honest_on}
 use Rattle.dk_txn.specs.declared.finished.Finished.{Finished}
 use Rattle.dk_txn.specs.Finishes.{told}
@@ -13,13 +13,13 @@ use Rattle.dk_core.specs.declared.claimed.Claimed.{Claimed}
 use Rattle.dk_turn.specs.Fronts.{Known, own}
 use Rattle.dk_turn.proofs.Beginnings.{own-append, prefix_self}
 use Rattle.dk_host.specs.Calls.{Entered, IsClaimOf, IsHonestAt}
-use Rattle.dk_host.specs.Refusals.{IsBackAt, IsCauseAt, commit_events}
+use Rattle.dk_host.specs.Refusals.{IsBackAt, commit_events}
 use Rattle.dk_host.specs.declared.refused.CommitRefused.{CommitRefused}
 use Rattle.dk_host.specs.declared.refused.Why.{Why}
 use Rattle.dk_host.specs.declared.refused.Why.TheVariants as why
 use Rattle.dk_host.proofs.Looking.{front_goes}
 use Rattle.dk_workers.specs.Refused.{WasRefused, HasCause, end_by}
-use Rattle.dk_workers.specs.Tries.{IsCommitted, IsGivenUp, IsInHand, EndsTry, EndsRefused, EndsClaim}
+use Rattle.dk_workers.specs.Tries.{IsCommitted, IsGivenUp, EndsTry, EndsRefused}
 use Rattle.dk_workers.specs.declared.trying.Tried.{Tried}
 use Rattle.dk_workers.specs.declared.trying.Tried.TheVariants as tried
 use Rattle.dk_workers.specs.declared.worked.Worked.{Worked}
@@ -86,7 +86,7 @@ module _ (o : Opened) (first mid : Known Event) (c back : Claimed) where
 
 -- a commit that was refused
 module _ (o : Opened) (c : Claimed) (f : Finished) (old new : Known Event) (number : new.number ≡ old.number) (claim : IsClaimOf o old c) (honest : IsHonestAt o old.front c f)
-  (r : CommitRefused) (e : Entered o old.number [] old.front new.front) (back : IsBackAt o new.front c f (Err r)) where
+    (r : CommitRefused) (e : Entered o old.number [] old.front new.front) (back : IsBackAt o new.front c f (Err r)) where
   goes : IsFront old.number old.front new.front
   goes = front_goes o c.run old new number e
 

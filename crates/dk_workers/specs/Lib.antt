@@ -1,4 +1,5 @@
 pub mod Working
 pub mod Refused
 pub mod Tries
+pub mod Rows
 pub mod Workers

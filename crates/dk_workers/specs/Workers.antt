@@ -1,6 +1,6 @@
 -- What workers do to the world that they share.
-use Rattle.std.specs.Prelude.{◌≡◌, ◌⊎◌, ℕ, ◌<◌, Bool, true, false, not, List, [], ◌∷◌, ◌++◌, map, unwrap_or, Result, Ok, Err}
-use Rattle.std.specs.List.{All, find, flat_map}
+use Rattle.std.specs.Prelude.{◌≡◌, ◌⊎◌, ℕ, ◌<◌, List, [], ◌∷◌, ◌++◌, Result, Ok, Err}
+use Rattle.std.specs.List.{All, flat_map}
 use Rattle.dk_types.specs.declared.event.ClaimReply.{ClaimReply}
 use Rattle.dk_types.specs.declared.event.ClaimReply.TheVariants as reply
 use Rattle.dk_types.specs.declared.event.Event.{Event}
@@ -10,6 +10,7 @@ use Rattle.dk_core.specs.declared.claimed.Claimed.{Claimed}
 use Rattle.dk_turn.specs.Fronts.{Known}
 use Rattle.dk_host.specs.Passes.{Enters}
 use Rattle.dk_workers.specs.Refused.{HasCause}
+use Rattle.dk_workers.specs.Rows.{IsServed}
 use Rattle.dk_workers.specs.Working.{claim_of, commit_of}
 use Rattle.dk_workers.specs.declared.worked.Worked.{Worked}
 use Rattle.dk_workers.specs.declared.worked.Worked.TheVariants as worked
@@ -62,30 +63,6 @@ abbrev pub WorksNext : Opened → ℕ → Result (Unit {0}) Worked → Known Eve
 WorksNext o count (Ok done) old new = HasWorked o count old new
 WorksNext o count (Err end) old new = Works o count end old new
 
--- one worker: its pass before and after, and its answer
-pub record Shift : Type 0 where
-  pub old : Known Event
-  pub new : Known Event
-  pub end : Worked
-
--- whether an answer is that nothing can be run
-abbrev pub is_idle : Worked → Bool
-is_idle worked.Idle = true
-is_idle (worked.Spent granted) = false
-is_idle (worked.Exhausted next) = false
-is_idle worked.DiskFault = false
-is_idle (worked.Stopped faults) = false
-is_idle (worked.JournalFull length) = false
-is_idle worked.NoMemory = false
-
--- the first of these answers that is not Idle, or Idle
-abbrev pub first_of : List Worked → Worked
-first_of ends = unwrap_or (find (λ end. not (is_idle end)) ends) worked.Idle
-
--- each pass had one worker, and the answer is the first of theirs that is not Idle, or Idle
-pub record WorkAll (o : Opened) (count : ℕ) (end : Worked) (olds news : List (Known Event)) : Type 0 where
-  pub shifts : List Shift
-  pub before : olds ≡ map (λ (s : Shift). s.old) shifts
-  pub after : news ≡ map (λ (s : Shift). s.new) shifts
-  pub each : All (λ (s : Shift). Works o count s.end s.old s.new) shifts
-  pub first : end ≡ first_of (map (λ (s : Shift). s.end) shifts)
+-- each pass had one worker, and the answer is the first of theirs, in the order of the passes, that is not Idle, or Idle
+abbrev pub WorkAll : Opened → ℕ → Worked → List (Known Event) → List (Known Event) → Type 0
+WorkAll o count end olds news = IsServed (λ old one new. Works o count one old new) end olds news

@@ -7,6 +7,7 @@
 #![tactic(auto)]
 
 mod gate;
+mod row;
 mod running;
 mod team;
 mod trying;

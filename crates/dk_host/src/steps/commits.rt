@@ -110,15 +110,14 @@ impl<W: Hosting> Step<WorldBook<W>> for Publish<W> {
             seq,
             outcome,
         });
-        book.history
-            .enter::<Told<'_, Committed, u64>, Publish<W>>(
-                &Told {
-                    pass,
-                    ask: &committed,
-                    reply: &seq,
-                },
-                event,
-            );
+        book.history.enter::<Told<'_, Committed, u64>, Publish<W>>(
+            &Told {
+                pass,
+                ask: &committed,
+                reply: &seq,
+            },
+            event,
+        );
         let Committed { run: _, outcome: _ } = committed;
         (right, seq)
     }

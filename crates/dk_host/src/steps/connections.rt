@@ -2,7 +2,9 @@
 
 use crate::book::WorldBook;
 use crate::hosting::Hosting;
-use crate::keeping::{connect_event, hand_event, kept_input, kept_messages, kept_name, post_event, room_for_post};
+use crate::keeping::{
+    connect_event, hand_event, kept_input, kept_messages, kept_name, post_event, room_for_post,
+};
 use crate::steps::Told;
 use dk_core::{ConnectRefused, Handed, PostRefused};
 use dk_turn::{NotingAll, Step};

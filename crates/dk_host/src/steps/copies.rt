@@ -83,3 +83,32 @@ impl<W: Hosting> Step<WorldBook<W>> for CopyLast<W> {
         false
     }
 }
+
+/// How many commits there are, for the one who alone may commit.
+pub(crate) struct CountLast<W: Hosting> {
+    pub(crate) right: CommitRight<W>,
+}
+
+impl<W: Hosting> Step<WorldBook<W>> for CountLast<W> {
+    ghost use Rattle.std.specs.Prelude.{◌≡◌};
+    ghost use Rattle.dk_host.specs.Steps.{IsWhole, CountsLast};
+
+    type Reply = (CommitRight<W>, u64);
+
+    ghost may = { λ s _ _. IsWhole s.right.commits.parts s.right.places.parts };
+
+    ghost gives = { λ s _ before reply added. (reply.0.commits.amount ≡ s.right.commits.amount)
+        × (reply.0.places.amount ≡ s.right.places.amount)
+        × IsWhole reply.0.commits.parts reply.0.places.parts
+        × CountsLast W.opened s.right.commits.amount before reply.1 added };
+
+    fn apply(self, _pass: u32, book: &mut WorldBook<W>) -> (CommitRight<W>, u64) {
+        let CountLast { mut right } = self;
+        right.audit(&mut book.commits, &mut book.places);
+        (right, book.core.commits())
+    }
+
+    fn wakes(_reply: &(CommitRight<W>, u64)) -> bool {
+        false
+    }
+}

@@ -1,4 +1,3 @@
-use Rattle.std.proofs.Common.{◌≡◌, sym, subst}
 use Rattle.dk_workers.proofs.Tries.{refused_cause, refused_claim, refused_ends, run_committed, run_given_up}
 use Rattle.dk_workers.proofs.trying.try_run.Goals as goal
 

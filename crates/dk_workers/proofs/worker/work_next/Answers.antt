@@ -1,4 +1,4 @@
-use Rattle.std.proofs.Common.{◌≡◌, [], ◌∷◌, Ok, Err, Some, None, sym, subst}
+use Rattle.std.proofs.Common.{[], ◌∷◌, Ok, Err, sym, subst}
 use Rattle.dk_types.specs.declared.event.ClaimReply.TheVariants as reply
 use Rattle.dk_types.specs.declared.event.Event.TheVariants as event
 use Rattle.dk_host.specs.Calls.{Entered, claim_events}

@@ -30,3 +30,9 @@ new-store-requires-clause-holds g c tells =
 
 pub new-store-requires-clause-first : goal.new-store-requires-clause-first
 new-store-requires-clause-first g c = ap (λ (x : StoreOpened _). x.journal.epoch) c.store.view_is ∙ c.requires.first
+
+pub new-store-requires-clause-opening : goal.new-store-requires-clause-opening
+new-store-requires-clause-opening g c = ap (λ (x : StoreOpened _). g.M.Home.opening x.home) c.store.view_is ∙ c.requires.opening
+
+pub new-store-requires-clause-counted : goal.new-store-requires-clause-counted
+new-store-requires-clause-counted g c = ap (λ (x : StoreOpened _). g.M.Home.counted x.home) c.store.view_is ∙ c.requires.counted

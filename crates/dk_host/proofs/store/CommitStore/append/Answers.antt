@@ -2,6 +2,7 @@ use Rattle.std.proofs.Common.{◌≡◌, ◌+◌, ◌<◌, ◌^◌, ◌↔◌, m
 use Rattle.dk_types.specs.Faults.{COUNT_END}
 use Rattle.dk_journal.specs.declared.refused.JournalRefused.TheVariants.{Full}
 use Rattle.dk_host.specs.Stores.{Stored, IsNextCommit}
+use Rattle.dk_host.proofs.Homes.{as_stopped, appended_home}
 use Rattle.dk_host.proofs.Storing.{as_waiting, as_faults, kept_still, store_settled}
 use Rattle.dk_host.proofs.store.CommitStore.append.Goals as goal
 
@@ -16,10 +17,13 @@ invariant_of-self g c =
     let room = ap (λ (v : Stored). v.room) c.self.view_is ∙ c.requires.ready.1.1.1 in (
       c.self.invariant.0,
       c.self.invariant.1,
-      kept_still _ _ _ _ _ c.append-answer.ensures.header.0 c.append-answer.ensures.header.1 c.self.invariant.2,
+      kept_still _ _ _ _ _ _ c.append-answer.ensures.header.0 c.append-answer.ensures.header.1 c.self.invariant.2,
       as_waiting _ _ (sym c.settle-waiting.ensures.0) (as_faults _ _ (sym c.settle-waiting.ensures.1)
-          (store_settled g.W.Hosting.opened _ _ _ _ _ _ _ _ _ _ _ _ claimed f _ _ s next room c.args.commit.spelled c.append-answer.ensures.run c.append-answer.ensures.falls c.append-answer.ensures.opening c.append-answer.ensures.header.0 c.append-answer.ensures.header.1
+          (store_settled g.W.Hosting.opened _ _ _ _ _ _ _ _ _ _ _ _ _ claimed f _ _ s next room c.args.commit.spelled c.append-answer.ensures.run c.append-answer.ensures.falls c.append-answer.ensures.opening c.append-answer.ensures.header.0 c.append-answer.ensures.header.1
           c.append-answer.ensures.header.2 c.append-answer.result _ c.append-answer.ensures.acknowledged (λ m e. ap g.M.Home.past (c.append-answer.ensures.untouched m e)) c.append-answer.ensures.refused c.append-answer.ensures.only)),
+      as_stopped _ _ (sym c.settle-waiting.ensures.1)
+          (appended_home _ _ _ _ _ _ _ (as_stopped _ _ running c.self.invariant.4) c.append-answer.ensures.opening c.append-answer.result c.append-answer.ensures.steady c.append-answer.ensures.cause
+          (λ m e. ap g.M.Home.counted (c.append-answer.ensures.untouched m e)) c.append-answer.ensures.only),
     )
 
 pub returns-clause-full : goal.returns-clause-full

@@ -1,6 +1,7 @@
-use Rattle.std.proofs.Common.{◌≡◌, None, sym, ap, ◌∙◌}
+use Rattle.std.proofs.Common.{◌≡◌, None, sym, ap, subst, ◌∙◌}
+use Rattle.dk_host.specs.Calls.{IsCopyAt}
 use Rattle.dk_host.specs.Stores.{Stored}
-use Rattle.dk_host.proofs.Copying.{copied_stored, copied_entered, copied_at}
+use Rattle.dk_host.proofs.Copying.{seen_stored, seen_entered}
 use Rattle.dk_host.proofs.Storing.{as_waiting, as_front}
 use Rattle.dk_host.proofs.store.CommitStore.copy.Goals as goal
 
@@ -13,15 +14,15 @@ invariant_of-self g c =
       c.with_watcher-right.ensures.called.given.1.2.0,
       c.with_watcher-right.ensures.called.given.1.2.1,
       c.self.invariant.2,
-      as_front _ _ (sym c.with_watcher-right.ensures.same) (as_waiting _ _ (sym none) (copied_stored g.W.Hosting.opened _ _ _ _ _ _ _ _ _ _ (as_waiting _ _ none c.self.invariant.3) c.args.pass.now _ _ _ c.lend-right.ensures.commits.1 _ _ _ _ _ c.with_watcher-right.ensures.called)),
+      as_front _ _ (sym c.with_watcher-right.ensures.same)
+          (as_waiting _ _ (sym none) (seen_stored g.W.Hosting.opened _ _ _ _ _ _ _ _ _ _ _ (as_waiting _ _ none c.self.invariant.3) c.args.pass.now _ _ _ c.lend-right.ensures.commits.1 _ _ _ _ _ (λ before added h. h.sees) c.with_watcher-right.ensures.called)),
+      c.self.invariant.4,
     )
 
 pub returns-clause-entered : goal.returns-clause-entered
 returns-clause-entered g c =
     let none : c.self.inside.waiting ≡ None = ap (λ (v : Stored). v.waiting) c.self.view_is ∙ c.requires.none_waits in
-    copied_entered g.W.Hosting.opened _ _ _ _ _ _ _ _ _ _ (as_waiting _ _ none c.self.invariant.3) c.args.pass.now _ _ _ c.lend-right.ensures.commits.1 _ _ _ _ _ c.with_watcher-right.ensures.called
+    seen_entered g.W.Hosting.opened _ _ _ _ _ _ _ _ _ _ _ (as_waiting _ _ none c.self.invariant.3) c.args.pass.now _ _ _ c.lend-right.ensures.commits.1 _ _ _ _ _ (λ before added h. h.sees) c.with_watcher-right.ensures.called
 
 pub returns-clause-copied : goal.returns-clause-copied
-returns-clause-copied g c =
-    let none : c.self.inside.waiting ≡ None = ap (λ (v : Stored). v.waiting) c.self.view_is ∙ c.requires.none_waits in
-    copied_at g.W.Hosting.opened _ _ _ _ _ _ _ _ _ _ (as_waiting _ _ none c.self.invariant.3) c.args.pass.now _ _ _ c.lend-right.ensures.commits.1 _ _ _ _ _ c.with_watcher-right.ensures.called
+returns-clause-copied g c = subst (λ es. IsCopyAt g.W.Hosting.opened es c.with_watcher-right.result.1) (sym c.with_watcher-right.ensures.called.front) c.with_watcher-right.ensures.called.given.1.3.copied

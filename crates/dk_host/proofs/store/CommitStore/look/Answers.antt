@@ -18,15 +18,16 @@ invariant_of-self g c =
       c.with_watcher-right.ensures.called.given.1.0,
       c.with_watcher-right.ensures.called.given.1.1,
       c.self.invariant.2,
-      as_front _ _ (sym c.with_watcher-right.ensures.same) (as_waiting _ _ (sym none) (looked_stored g.W.Hosting.opened _ _ _ _ _ _ _ _ _ _ (as_waiting _ _ none c.self.invariant.3) c.args.claimed.now c.args.finished.now c.args.pass.now _ _ c.lend-right.ensures.commits.1 _ _ _ _ _ c.with_watcher-right.ensures.called)),
+      as_front _ _ (sym c.with_watcher-right.ensures.same) (as_waiting _ _ (sym none) (looked_stored g.W.Hosting.opened _ _ _ _ _ _ _ _ _ _ _ (as_waiting _ _ none c.self.invariant.3) c.args.claimed.now c.args.finished.now c.args.pass.now _ _ c.lend-right.ensures.commits.1 _ _ _ _ _ c.with_watcher-right.ensures.called)),
+      c.self.invariant.4,
     )
 
 pub returns-clause-entered : goal.returns-clause-entered
 returns-clause-entered g c =
     let none : c.self.inside.waiting ≡ None = ap (λ (v : Stored). v.waiting) c.self.view_is ∙ c.requires.none_waits in
-    looked_entered g.W.Hosting.opened _ _ _ _ _ _ _ _ _ _ (as_waiting _ _ none c.self.invariant.3) c.args.claimed.now c.args.finished.now c.args.pass.now _ _ c.lend-right.ensures.commits.1 _ _ _ _ _ c.with_watcher-right.ensures.called
+    looked_entered g.W.Hosting.opened _ _ _ _ _ _ _ _ _ _ _ (as_waiting _ _ none c.self.invariant.3) c.args.claimed.now c.args.finished.now c.args.pass.now _ _ c.lend-right.ensures.commits.1 _ _ _ _ _ c.with_watcher-right.ensures.called
 
 pub returns-clause-finds : goal.returns-clause-finds
 returns-clause-finds g c =
     let none : c.self.inside.waiting ≡ None = ap (λ (v : Stored). v.waiting) c.self.view_is ∙ c.requires.none_waits in
-    looked_next g.W.Hosting.opened _ _ _ _ _ _ _ _ _ _ (as_waiting _ _ none c.self.invariant.3) c.args.claimed.now c.args.finished.now c.args.pass.now _ _ c.lend-right.ensures.commits.1 _ _ _ _ _ c.with_watcher-right.ensures.called c.requires.claim
+    looked_next g.W.Hosting.opened _ _ _ _ _ _ _ _ _ _ _ (as_waiting _ _ none c.self.invariant.3) c.args.claimed.now c.args.finished.now c.args.pass.now _ _ c.lend-right.ensures.commits.1 _ _ _ _ _ c.with_watcher-right.ensures.called c.requires.claim

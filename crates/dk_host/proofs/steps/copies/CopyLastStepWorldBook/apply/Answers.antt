@@ -3,7 +3,7 @@ use Rattle.std.proofs.lemmas.List.{append-nil}
 use Rattle.dk_core.specs.Rooms.{HasPlaces}
 use Rattle.dk_host.specs.Books.{IsKept}
 use Rattle.dk_host.proofs.Stepping.{nothing_of}
-use Rattle.dk_host.proofs.Copying.{copies}
+use Rattle.dk_host.proofs.Copying.{adds_none, copies}
 use Rattle.dk_host.proofs.steps.copies.CopyLastStepWorldBook.apply.Goals as goal
 
 pub invariant_of-book : goal.invariant_of-book
@@ -26,6 +26,6 @@ returns g c =
         c.audit.ensures.commits.1,
         c.audit.ensures.places.1,
         c.audit.ensures.whole,
-        record { copies = copies o now c.book.inside.core _ _ k c.durable.result c.durable.ensures; counted = sym (c.audit.ensures.commits.0 ∙ k.2) },
+        record { sees = record { adds = adds_none o now c.book.inside.core _ _ k; counted = sym (c.audit.ensures.commits.0 ∙ k.2) }; copied = (copies o now c.book.inside.core _ _ k c.durable.result c.durable.ensures).copied },
       ),
     )

@@ -1,0 +1,10 @@
+pub mod Told
+pub mod Own
+pub mod Worked
+pub mod Boxes
+pub mod Small
+pub mod Entered
+pub mod Drained
+pub mod Unclaimed
+pub mod Phasing
+pub mod Budgets

@@ -1,0 +1,5 @@
+use Rattle.dk_play_laws.proofs.Told.{silent_told}
+use Rattle.dk_play_laws.proofs.plays.silent_claims_print_nothing.Goals as goal
+
+pub returns : goal.returns
+returns c = silent_told

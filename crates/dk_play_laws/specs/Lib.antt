@@ -1,0 +1,9 @@
+pub mod Told
+pub mod Worked
+pub mod Seen
+pub mod AloneLaw
+pub mod WorkedLaw
+pub mod LineEvents
+pub mod Phased
+pub mod PhasedLaw
+pub mod BudgetLaw
