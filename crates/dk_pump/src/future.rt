@@ -100,14 +100,14 @@ impl<W: Hosting, J: Naming, M: Home, R: Wait, K: Link + Drop> Future
         // When it may be pending, beyond what each future says.
         ensures waits { OnPending result (IfSome self.old.underway (λ u. IfSome self.new.underway (λ v. MayWait W.opened u.pass u.link v.pass v.link v.course))) }
     {
-        let Some(Underway {
+        let Some(underway) = self.underway.take() else {
+            unreachable!()
+        };
+        let Underway {
             began,
             given,
             mut session,
-        }) = self.underway.take()
-        else {
-            unreachable!()
-        };
+        } = underway;
         match session.go_on(self.rt, self.host, context) {
             Poll::Pending => {
                 self.underway = Some(Underway {
