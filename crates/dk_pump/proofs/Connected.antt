@@ -55,19 +55,20 @@ module _ (left mid left' : Option (List ℕ)) (at new : Decoding) (counted count
     counts = subst (λ k. Counts end k counted') w.counts n.counts;
   }
 
-module _ (o : Opened) (count pass : ℕ) (left left' : Option (List ℕ)) (new : Decoding) (counted counted' : ℕ) where
-  connects_none : (end : SessionEnd) → IsOfRead end → ConnectsBy pass [] (Err end) []
-  connects_none ends.Logout is = absurd is
-  connects_none (ends.End at) is = (refl, refl)
-  connects_none (ends.Truncated at) is = (refl, refl)
-  connects_none (ends.Bad bad) is = (refl, refl)
-  connects_none ends.ReadFault is = (refl, refl)
-  connects_none (ends.Flood waiting) is = absurd is
-  connects_none ends.Closed is = absurd is
-  connects_none (ends.Exhausted next) is = absurd is
-  connects_none (ends.Budget bytes) is = (refl, refl)
-  connects_none ends.NoMemory is = refl
+-- before a frame came nothing is entered
+pub connects_none : (pass : ℕ) (end : SessionEnd) → IsOfRead end → ConnectsBy pass [] (Err end) []
+connects_none pass ends.Logout is = absurd is
+connects_none pass (ends.End at) is = (refl, refl)
+connects_none pass (ends.Truncated at) is = (refl, refl)
+connects_none pass (ends.Bad bad) is = (refl, refl)
+connects_none pass ends.ReadFault is = (refl, refl)
+connects_none pass (ends.Flood waiting) is = absurd is
+connects_none pass ends.Closed is = absurd is
+connects_none pass (ends.Exhausted next) is = absurd is
+connects_none pass (ends.Budget bytes) is = (refl, refl)
+connects_none pass ends.NoMemory is = refl
 
+module _ (o : Opened) (count pass : ℕ) (left left' : Option (List ℕ)) (new : Decoding) (counted counted' : ℕ) where
   -- no LOGIN came
   pub greets_end : (end : SessionEnd) (front : List Event) → IsFirstEnd end left left' new counted counted' → new.fed ≤ SESSION_MOST_BYTES → Greets o count pass (Err end) left left' new counted counted' front front
   greets_end end front n few = record {
@@ -79,7 +80,7 @@ module _ (o : Opened) (count pass : ℕ) (left left' : Option (List ℕ)) (new :
     loses = n.loses;
     stands = n.stands;
     few = few;
-    connects = connects_none end n.of_read;
+    connects = connects_none pass end n.of_read;
     cause = n.cause;
     counts = n.counts;
     enters = enters_none o count pass front;

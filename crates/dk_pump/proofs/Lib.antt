@@ -7,3 +7,12 @@ mod Connected
 mod WrittenOn
 mod Disconnecting
 mod Ended
+mod InOrder
+mod PostedBehind
+mod ReadParts
+mod WriteParts
+mod Steps
+mod Finding
+mod Later
+mod Midst
+mod PutParts

@@ -1,6 +1,8 @@
 -- One piece of a session's stream: what a decoder that is fed nothing tells, and then one that is fed the piece.
 use Rattle.std.proofs.Common.{◌≡◌, ℕ, ◌+◌, ◌<◌, ◌≤◌, List, [], ◌∷◌, ◌++◌, length, map, take, Option, None, refl, sym, ap, subst, ◌∙◌, length-append, arith}
 use Rattle.std.proofs.lemmas.List.{append-nil, length-take}
+use Rattle.std.proofs.Math.Logic.{∥∥₁_elim}
+use denote.Struct.Props.{props}
 use Rattle.std.specs.Io.KnownBytes.{Consumes, Keeps}
 use Rattle.dk_types.specs.Faults.{HasRisen}
 use Rattle.dk_model.specs.Frames.{Frame, Begun}
@@ -12,6 +14,7 @@ use Rattle.dk_frame.specs.Meanings.{frame_of}
 use Rattle.dk_frame.specs.Decoding.{Decoding, HasDecoded, Refuses, IsNotBegun, following}
 use Rattle.dk_pump.specs.declared.limits.TheConstants.{SESSION_MOST_BYTES}
 use Rattle.dk_pump.specs.declared.ends.SessionEnd.TheVariants as ends
+use Rattle.dk_pump.specs.Ends.{end_of_frames}
 use Rattle.dk_pump.specs.Reading.{HasStream, IsNextRead, IsNextEnd}
 use Rattle.dk_pump.proofs.Streams.{consumes_none, keeps_consumes, whole_at_end, none_given, stands_as, nothing_follows}
 
@@ -20,7 +23,6 @@ pub record IsIdle (old mid : Decoding) : Type 0 where
   pub same : (stream : List ℕ) (given : List Frame) → HasDecoded old stream given → HasDecoded mid stream given
   pub fed : mid.fed ≡ old.fed
   pub fault : mid.fault ≡ None
-  pub stream : HasStream mid
 
 map_nil : (items : List ClientFrame) → map frame_of items ≡ [] → items ≡ []
 map_nil [] is = refl
@@ -36,8 +38,20 @@ idle old mid piece items s nothing fed told =
       same = λ stream given before. stands_as old mid stream given (map frame_of items) before (on stream given before);
       fed = now.fed ∙ sym s.stands.fed;
       fault = told none;
-      stream = record { stream = s.stream; given = s.given; stands = now };
     }
+
+-- where no frame came, and it is only known that there is a stream
+pub idle_merely : (old mid : Decoding) (items : List ClientFrame) → ∥ HasStream old ∥₁ → items ≡ []
+    → ((stream : List ℕ) (given : List Frame) → HasDecoded old stream given → HasDecoded mid (stream ++ []) (given ++ map frame_of items)) → (items ≡ [] → mid.fault ≡ None) → IsIdle old mid
+idle_merely old mid items s none fed told = record {
+  same = λ stream given before. stands_as old mid stream given (map frame_of items) before (fed stream given before);
+  fed = ∥∥₁_elim s (search props) (λ t. (idle old mid [] items t refl fed told).fed);
+  fault = told none;
+}
+
+-- the decoder stands for the stream still
+pub idle_stream : (old mid : Decoding) → IsIdle old mid → HasStream old → HasStream mid
+idle_stream old mid is s = record { stream = s.stream; given = s.given; stands = is.same s.stream s.given s.stands }
 
 -- how many bytes were fed
 pub fed_more : (d d' : Decoding) (piece : List ℕ) (frames : List Frame) → HasStream d → ((stream : List ℕ) (given : List Frame) → HasDecoded d stream given → HasDecoded d' (stream ++ piece) (given ++ frames)) → d'.fed ≡ d.fed + length piece
@@ -82,10 +96,10 @@ module _ (left left' : Option (List ℕ)) (old mid : Decoding) (counted counted'
         record { bytes = []; lost = []; loses = refl; consumed = nothing_left; fed = none_fed; of_read = tt; cause = (begun, whole_at_end left (gives.end zero), few); counts = steady }
 
   -- it gave a piece, which was fed
-  pub next_read : (new : Decoding) (piece : List ℕ) (frames : List Frame) → Consumes left left' piece → 0 < length piece
+  pub next_read : HasStream mid → (new : Decoding) (piece : List ℕ) (frames : List Frame) → Consumes left left' piece → 0 < length piece
       → ((stream : List ℕ) (given : List Frame) → HasDecoded mid stream given → HasDecoded new (stream ++ piece) (given ++ frames)) → counted' ≡ counted → IsNextRead frames left left' old new counted counted'
-  next_read new piece frames consumed some fed steady =
-      let more = fed_more mid new piece frames is.stream fed in
+  next_read s new piece frames consumed some fed steady =
+      let more = fed_more mid new piece frames s fed in
       let same = is.fed in
       record { bytes = piece; read = record { consumed = consumed; fed = λ stream given s. fed stream given (is.same stream given s) }; more = omega (arith, more, same, some); counts = steady }
 
@@ -94,8 +108,8 @@ pub piece_fits : (fed room : ℕ) (piece : List ℕ) → fed + room ≤ SESSION_
 piece_fits fed room piece fits = let long = length-take room piece in omega (arith, fits, long)
 
 -- a decoder of which no bad frame is known, as it stands
-pub idle_now : (d : Decoding) → HasStream d → d.fault ≡ None → IsIdle d d
-idle_now d s none = record { same = λ stream given h. h; fed = refl; fault = none; stream = s }
+pub idle_now : (d : Decoding) → d.fault ≡ None → IsIdle d d
+idle_now d none = record { same = λ stream given h. h; fed = refl; fault = none }
 
 -- what was read of a decoder that was fed nothing
 module _ (left left' : Option (List ℕ)) (old mid new : Decoding) (counted counted' : ℕ) (is : IsIdle old mid) where
@@ -107,3 +121,30 @@ module _ (left left' : Option (List ℕ)) (old mid new : Decoding) (counted coun
 
   pub end_from : (end : _) → IsNextEnd end left left' mid new counted counted' → IsNextEnd end left left' old new counted counted'
   end_from end n = record { bytes = n.bytes; lost = n.lost; loses = n.loses; consumed = n.consumed; fed = λ stream given s. n.fed stream given (is.same stream given s); of_read = n.of_read; cause = n.cause; counts = n.counts }
+
+-- ---- a feed that was refused
+
+-- want of memory loses the piece; a bad frame is told of all bytes fed
+pub refused_end : (r : FrameRefused) (left left' : Option (List ℕ)) (start old new : Decoding) (piece : List ℕ) (counted counted' : ℕ)
+    → ((stream : List ℕ) (given : List Frame) → HasDecoded start stream given → HasDecoded old stream given) → Consumes left left' piece → Refuses old piece new r → counted' ≡ counted
+    → IsNextEnd (end_of_frames r) left left' start new counted counted'
+refused_end (frames.BadFrame at why) left left' start old new piece counted counted' same consumed h steady = record {
+  bytes = piece;
+  lost = [];
+  loses = refl;
+  consumed = subst (Consumes left left') (sym (append-nil piece)) consumed;
+  fed = λ stream given s. h.1 stream given (same stream given s);
+  of_read = tt;
+  cause = h.0;
+  counts = steady;
+}
+refused_end frames.NoMemory left left' start old new piece counted counted' same consumed h steady = record {
+  bytes = [];
+  lost = piece;
+  loses = tt;
+  consumed = consumed;
+  fed = λ stream given s. subst (λ bytes. HasDecoded new bytes given) (sym (append-nil stream)) (subst (λ d. HasDecoded d stream given) (sym h) (same stream given s));
+  of_read = tt;
+  cause = tt;
+  counts = steady;
+}

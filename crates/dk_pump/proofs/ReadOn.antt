@@ -5,50 +5,27 @@ use Rattle.std.specs.Io.KnownBytes.{Consumes}
 use Rattle.dk_types.specs.declared.number.ConnNo.{ConnNo}
 use Rattle.dk_types.specs.declared.event.Event.{Event}
 use Rattle.dk_types.specs.declared.event.Event.TheVariants as event
-use Rattle.dk_model.specs.Frames.{Frame, Login, InSession, AreInTurn, stage_after}
+use Rattle.dk_model.specs.Frames.{Frame, Stage, Login, InSession, AreInTurn, stage_after}
 use Rattle.dk_model.specs.Legal.{Opened}
 use Rattle.dk_connections.specs.declared.answers.PostRefused.{PostRefused}
 use Rattle.dk_connections.specs.declared.answers.PostRefused.TheVariants as refused
-use Rattle.dk_frame.specs.declared.frame.FrameRefused.{FrameRefused}
-use Rattle.dk_frame.specs.declared.frame.FrameRefused.TheVariants as frames
-use Rattle.dk_frame.specs.Decoding.{Decoding, HasDecoded, Refuses}
+use Rattle.dk_frame.specs.Decoding.{Decoding, HasDecoded}
 use Rattle.dk_frame.proofs.Turns.{stage_after-append}
 use Rattle.dk_pump.specs.declared.ends.SessionEnd.{SessionEnd}
 use Rattle.dk_pump.specs.declared.ends.SessionEnd.TheVariants as ends
 use Rattle.dk_pump.specs.declared.posting.Progress.TheVariants as progress
-use Rattle.dk_pump.specs.Ends.{end_of_frames, end_of_post}
+use Rattle.dk_pump.specs.Ends.{end_of_post}
 use Rattle.dk_pump.specs.Passes.{Enters}
 use Rattle.dk_pump.specs.Reading.{inputs_of, taken, StopsAt, PostsFrames, IsRead, IsCause, IsOfRead, Counts, Loses, HasStream, IsNextRead, IsNextEnd, IsGreeted, IsPosted, ReadsTo, IsClosed, ReadsSession}
 use Rattle.dk_pump.proofs.Entering.{enters_none, enters_then, enters_as}
 use Rattle.dk_pump.proofs.PostedFrames.{inputs-append, taken-append}
+use Rattle.dk_pump.proofs.PostedBehind.{posted_whole, posted_to_end, refused_behind}
 use Rattle.dk_pump.proofs.Streams.{consumes_none, consumes_then, cause_then}
 
--- ---- a feed that was refused
-
--- want of memory loses the piece; a bad frame is told of all bytes fed
-pub refused_end : (r : FrameRefused) (left left' : Option (List ℕ)) (start old new : Decoding) (piece : List ℕ) (counted counted' : ℕ)
-    → ((stream : List ℕ) (given : List Frame) → HasDecoded start stream given → HasDecoded old stream given) → Consumes left left' piece → Refuses old piece new r → counted' ≡ counted
-    → IsNextEnd (end_of_frames r) left left' start new counted counted'
-refused_end (frames.BadFrame at why) left left' start old new piece counted counted' same consumed h steady = record {
-  bytes = piece;
-  lost = [];
-  loses = refl;
-  consumed = subst (Consumes left left') (sym (append-nil piece)) consumed;
-  fed = λ stream given s. h.1 stream given (same stream given s);
-  of_read = tt;
-  cause = h.0;
-  counts = steady;
-}
-refused_end frames.NoMemory left left' start old new piece counted counted' same consumed h steady = record {
-  bytes = [];
-  lost = piece;
-  loses = tt;
-  consumed = consumed;
-  fed = λ stream given s. subst (λ bytes. HasDecoded new bytes given) (sym (append-nil stream)) (subst (λ d. HasDecoded d stream given) (sym h) (same stream given s));
-  of_read = tt;
-  cause = tt;
-  counts = steady;
-}
+-- frames behind others come in turn
+pub turn_behind : (stage : Stage) (first second : List Frame) → AreInTurn stage (first ++ second) → AreInTurn (stage_after stage first) second
+turn_behind stage [] second turn = turn
+turn_behind stage (f ∷ first) second turn = turn_behind _ first second turn.2
 
 -- ---- reading goes on
 
@@ -84,10 +61,6 @@ module _ (o : Opened) (count pass : ℕ) (conn : ConnNo) (rest : List Frame) whe
     pub reading_stream : (pending : List Frame) → IsGreeted old rest → IsReading o count pass conn rest pending left left' old new counted counted' front mid → HasStream new
     reading_stream pending g r = record { stream = g.stream ++ r.bytes; given = (Login g.name ∷ rest) ++ r.later; stands = r.read.fed g.stream (Login g.name ∷ rest) g.stands }
 
-    turn_behind : (stage : _) (first second : List Frame) → AreInTurn stage (first ++ second) → AreInTurn (stage_after stage first) second
-    turn_behind stage [] second turn = turn
-    turn_behind stage (f ∷ first) second turn = turn_behind _ first second turn.2
-
     -- what is pending comes in turn
     pub pending_turn : (pending : List Frame) → IsGreeted old rest → IsReading o count pass conn rest pending left left' old new counted counted' front mid → AreInTurn InSession pending
     pending_turn pending g r =
@@ -111,10 +84,6 @@ module _ (o : Opened) (count pass : ℕ) (conn : ConnNo) (rest : List Frame) whe
           (enters_then o count pass (taken pass conn (inputs_of r.done)) p.events front mid front' r.enters p.enters);
     }
 
-    -- the inputs of all frames are those of the frames before and of the pending ones
-    all_inputs : (pending : List Frame) (r : IsReading o count pass conn rest pending left left' old new counted counted' front mid) → inputs_of (rest ++ r.later) ≡ inputs_of r.done ++ inputs_of pending
-    all_inputs pending r = ap inputs_of r.parts ∙ inputs-append r.done pending
-
     -- up to a LOGOUT, which is the last
     pub reads_to_logout : (pending : List Frame) → IsReading o count pass conn rest pending left left' old new counted counted' front mid → PostsFrames o count pass conn pending (Ok progress.ToLogout) mid front'
         → ReadsTo o count pass conn ends.Logout rest left left' old new counted counted' front front'
@@ -126,39 +95,13 @@ module _ (o : Opened) (count pass : ℕ) (conn : ConnNo) (rest : List Frame) whe
       consumed = subst (Consumes left left') (sym (append-nil r.bytes)) r.read.consumed;
       loses = refl;
       fed = r.read.fed;
-      posted = (
-        r.done ++ p.posts.0,
-        r.parts ∙ ap (λ fs. r.done ++ fs) p.posts.1 ∙ sym (append_assoc r.done p.posts.0 _),
-        ap (λ es. taken pass conn (inputs_of r.done) ++ es) p.posts.2 ∙ sym (ap (taken pass conn) (all_inputs pending r) ∙ taken-append pass conn (inputs_of r.done) (inputs_of pending)),
-      );
+      posted = subst (λ fs. IsPosted pass conn fs ends.Logout (taken pass conn (inputs_of r.done) ++ p.events)) (sym r.parts) (posted_to_end pass conn r.done pending p.events p.posts);
       cause = tt;
       counts = r.counts;
       enters = enters_then o count pass (taken pass conn (inputs_of r.done)) p.events front mid front' r.enters p.enters;
     }
 
-    -- up to a post that was refused
-    stops_behind : (pending : List Frame) (r : IsReading o count pass conn rest pending left left' old new counted counted' front mid) (reply : _) (events : List Event)
-        → StopsAt pass conn (inputs_of pending) reply events → StopsAt pass conn (inputs_of (rest ++ r.later)) reply (taken pass conn (inputs_of r.done) ++ events)
-    stops_behind pending r reply events s = record {
-      before = inputs_of r.done ++ s.before;
-      at = s.at;
-      after = s.after;
-      parts = all_inputs pending r ∙ ap (λ is. inputs_of r.done ++ is) s.parts ∙ sym (append_assoc (inputs_of r.done) s.before (s.at ∷ s.after));
-      posts = ap (λ es. taken pass conn (inputs_of r.done) ++ es) s.posts ∙ sym (append_assoc (taken pass conn (inputs_of r.done)) (taken pass conn s.before) (event.Post pass conn s.at reply ∷ [])) ∙ ap (λ es. es ++ event.Post pass conn s.at reply ∷ []) (sym (taken-append pass conn (inputs_of r.done) s.before));
-    }
-
-    posted_refused : (pending : List Frame) (r : IsReading o count pass conn rest pending left left' old new counted counted' front mid) (why : PostRefused) (p : PostsFrames o count pass conn pending (Err why) mid front')
-        → IsPosted pass conn (rest ++ r.later) (end_of_post why) (taken pass conn (inputs_of r.done) ++ p.events)
-    posted_refused pending r refused.Closed p = stops_behind pending r _ p.events p.posts
-    posted_refused pending r (refused.QueueFull waiting) p = stops_behind pending r _ p.events p.posts
-    posted_refused pending r refused.NoMemory p = record {
-      before = inputs_of r.done ++ p.posts.before;
-      after = p.posts.after;
-      parts = all_inputs pending r ∙ ap (λ is. inputs_of r.done ++ is) p.posts.parts ∙ sym (append_assoc (inputs_of r.done) p.posts.before p.posts.after);
-      posts = ap (λ es. taken pass conn (inputs_of r.done) ++ es) p.posts.posts ∙ sym (taken-append pass conn (inputs_of r.done) p.posts.before);
-    }
-
-    -- nothing was lost, the count stayed, and the answer tells the cause
+    -- up to a post that was refused: nothing was lost, the count stayed, and the answer tells the cause
     post_end : (why : PostRefused) (bytes : List ℕ) → Loses (end_of_post why) [] × IsCause (end_of_post why) left bytes new × (counted' ≡ counted → Counts (end_of_post why) counted counted')
     post_end refused.Closed bytes = (refl, tt, λ h. h)
     post_end (refused.QueueFull waiting) bytes = (refl, tt, λ h. h)
@@ -176,7 +119,7 @@ module _ (o : Opened) (count pass : ℕ) (conn : ConnNo) (rest : List Frame) whe
           consumed = subst (Consumes left left') (sym (append-nil r.bytes)) r.read.consumed;
           loses = e.0;
           fed = r.read.fed;
-          posted = posted_refused pending r why p;
+          posted = subst (λ fs. IsPosted pass conn fs (end_of_post why) (taken pass conn (inputs_of r.done) ++ p.events)) (sym r.parts) (refused_behind pass conn r.done pending why p.events p.posts);
           cause = e.1;
           counts = e.2 r.counts;
           enters = enters_then o count pass (taken pass conn (inputs_of r.done)) p.events front mid front' r.enters p.enters;
@@ -208,21 +151,6 @@ module _ (o : Opened) (count pass : ℕ) (conn : ConnNo) (rest : List Frame) whe
     all_done : rest ++ r.later ≡ r.done
     all_done = r.parts ∙ append-nil r.done
 
-    all_posted : (taken pass conn (inputs_of r.done) ≡ taken pass conn (inputs_of (rest ++ r.later))) × (stage_after InSession (rest ++ r.later) ≡ InSession)
-    all_posted = (ap (λ fs. taken pass conn (inputs_of fs)) (sym all_done), ap (stage_after InSession) all_done ∙ r.stage)
-
-    posted_at : (end : SessionEnd) → IsOfRead end → IsPosted pass conn (rest ++ r.later) end (taken pass conn (inputs_of r.done))
-    posted_at ends.Logout is = absurd is
-    posted_at (ends.End at) is = (all_posted.1, all_posted.0)
-    posted_at (ends.Truncated at) is = (all_posted.1, all_posted.0)
-    posted_at (ends.Bad bad) is = (all_posted.1, all_posted.0)
-    posted_at ends.ReadFault is = (all_posted.1, all_posted.0)
-    posted_at (ends.Flood waiting) is = absurd is
-    posted_at ends.Closed is = absurd is
-    posted_at (ends.Exhausted next) is = absurd is
-    posted_at (ends.Budget bytes) is = (all_posted.1, all_posted.0)
-    posted_at ends.NoMemory is = record { before = inputs_of (rest ++ r.later); after = []; parts = sym (append-nil (inputs_of (rest ++ r.later))); posts = all_posted.0 }
-
     counts_from : (end : SessionEnd) → counted_at ≡ counted → Counts end counted_at counted' → Counts end counted counted'
     counts_from end same h = subst (λ n. Counts end n counted') same h
 
@@ -236,7 +164,7 @@ module _ (o : Opened) (count pass : ℕ) (conn : ConnNo) (rest : List Frame) whe
       consumed = subst (Consumes left left') (sym (append_assoc r.bytes n.bytes n.lost)) (consumes_then left mid left' r.bytes (n.bytes ++ n.lost) r.read.consumed n.consumed);
       loses = n.loses;
       fed = λ stream given s. subst (λ bytes. HasDecoded new bytes (given ++ r.later)) (append_assoc stream r.bytes n.bytes) (n.fed (stream ++ r.bytes) (given ++ r.later) (r.read.fed stream given s));
-      posted = posted_at end n.of_read;
+      posted = subst (λ fs. IsPosted pass conn fs end (taken pass conn (inputs_of r.done))) (sym all_done) (posted_whole pass conn r.done r.stage end n.of_read);
       cause = cause_then end left mid r.bytes n.bytes new r.read.consumed n.cause;
       counts = counts_from end r.counts n.counts;
       enters = r.enters;

@@ -116,7 +116,7 @@ ended_on o keeps pass conn front front' closing on (inr d) =
     inr (d.0, (d.1.0, record { at = was.at; seen = (was.seen.0 ++ on.0, sym (append_assoc was.at was.seen.0 on.0) ∙ (ap (λ es. es ++ on.0) was.seen.1 ∙ on.1)); shut = was.shut }))
 
 -- what was handed was handed by Hands
-handed_by_hands : (conn : ConnNo) (events : List Event) → handed events conn ≡ handed (hands_to conn events) conn
+pub handed_by_hands : (conn : ConnNo) (events : List Event) → handed events conn ≡ handed (hands_to conn events) conn
 handed_by_hands conn [] = refl
 handed_by_hands conn (event.Hand pass to most outs end ∷ events) =
     let later = handed_by_hands conn events in
@@ -150,7 +150,7 @@ or_assoc : (x y z : Bool) → ((x || y) || z) ≡ (x || (y || z))
 or_assoc true y z = refl
 or_assoc false y z = refl
 
-or_right : (x y : Bool) → y ≡ true → (x || y) ≡ true
+pub or_right : (x y : Bool) → y ≡ true → (x || y) ≡ true
 or_right true y is = refl
 or_right false y is = is
 

@@ -2,3 +2,5 @@ pub mod Ends
 pub mod Passes
 pub mod Reading
 pub mod Writing
+pub mod Sessions
+pub mod Waiting

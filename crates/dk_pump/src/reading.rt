@@ -65,7 +65,7 @@ fn read_frames<W: Hosting, J: Naming, M: Home, R: Wait, S: Source>(
 }
 
 /// Posts the Disconnect that this end wants.
-fn close<W: Hosting, J: Naming, M: Home, R: Wait>(
+pub(crate) fn close<W: Hosting, J: Naming, M: Home, R: Wait>(
     rt: &R,
     host: &Host<W, J, M>,
     pass: &mut Pass<WorldBook<W>, J>,

@@ -3,8 +3,7 @@ use Rattle.std.proofs.lemmas.Result.{IfOk-weaker, IfErr-weaker}
 use Rattle.dk_frame.specs.Meanings.{frame_of}
 use Rattle.dk_pump.specs.Ends.{end_of_frames}
 use Rattle.dk_pump.proofs.Ended.{if_err}
-use Rattle.dk_pump.proofs.OnePiece.{idle, refused_fed, budget_end, piece_fits, read_from, end_from}
-use Rattle.dk_pump.proofs.ReadOn.{refused_end}
+use Rattle.dk_pump.proofs.OnePiece.{idle, refused_fed, budget_end, piece_fits, read_from, end_from, idle_stream, refused_end}
 use Rattle.dk_pump.proofs.Streams.{consumes_none}
 use Rattle.dk_pump.proofs.pieces.next_frames.Goals as goal
 
@@ -42,7 +41,7 @@ returns-then-left-eq0-clause-few g c =
     omega (arith, same, few)
 
 pub read_piece-requires-clause-stream : goal.read_piece-requires-clause-stream
-read_piece-requires-clause-stream g c = (idle c.args.decoder.now c.feed.new.self [] c.in_ok-feed.field-0.items c.requires.stream refl c.in_ok-feed.ensures.ok c.in_ok-feed.ensures.told).stream
+read_piece-requires-clause-stream g c = idle_stream c.args.decoder.now c.feed.new.self (idle c.args.decoder.now c.feed.new.self [] c.in_ok-feed.field-0.items c.requires.stream refl c.in_ok-feed.ensures.ok c.in_ok-feed.ensures.told) c.requires.stream
 
 pub read_piece-requires-clause-good : goal.read_piece-requires-clause-good
 read_piece-requires-clause-good g c = (idle c.args.decoder.now c.feed.new.self [] c.in_ok-feed.field-0.items c.requires.stream refl c.in_ok-feed.ensures.ok c.in_ok-feed.ensures.told).fault

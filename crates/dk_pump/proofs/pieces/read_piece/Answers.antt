@@ -6,8 +6,7 @@ use Rattle.dk_pump.specs.declared.ends.SessionEnd.TheVariants as ends
 use Rattle.dk_pump.specs.Ends.{end_of_frames}
 use Rattle.dk_pump.specs.Reading.{IsNextEnd}
 use Rattle.dk_pump.proofs.Ended.{if_err}
-use Rattle.dk_pump.proofs.OnePiece.{idle_now, refused_fed, fed_more, fault_end, input_end, truncated_end, next_read}
-use Rattle.dk_pump.proofs.ReadOn.{refused_end}
+use Rattle.dk_pump.proofs.OnePiece.{idle_now, refused_fed, fed_more, fault_end, input_end, truncated_end, next_read, refused_end}
 use Rattle.dk_pump.proofs.pieces.read_piece.Goals.{in-Ok, in-Err}
 use Rattle.dk_pump.proofs.pieces.read_piece.Goals as goal
 
@@ -16,7 +15,7 @@ returns-in_err-count-clause-ended g c =
     let some = c.requires.some in
     let few = c.requires.few in
     if_err c.from_residual.result ends.ReadFault _ c.from_residual.ensures.1
-    (fault_end (g.S.Source.remaining c.args.source.now) (g.S.Source.remaining c.take.new.self) c.args.decoder.now c.args.decoder.now (g.S.Source.counted c.args.source.now) (g.S.Source.counted c.take.new.self) (idle_now c.args.decoder.now c.requires.stream c.requires.good) (omega (arith, some, few)) c.in_err-count.ensures.bytes c.in_err-count.ensures.cause)
+    (fault_end (g.S.Source.remaining c.args.source.now) (g.S.Source.remaining c.take.new.self) c.args.decoder.now c.args.decoder.now (g.S.Source.counted c.args.source.now) (g.S.Source.counted c.take.new.self) (idle_now c.args.decoder.now c.requires.good) (omega (arith, some, few)) c.in_err-count.ensures.bytes c.in_err-count.ensures.cause)
 
 pub returns-then-count-eq0-clause-ended : goal.returns-then-count-eq0-clause-ended
 returns-then-count-eq0-clause-ended g c =
@@ -25,9 +24,9 @@ returns-then-count-eq0-clause-ended g c =
     let less : c.args.decoder.now.fed < SESSION_MOST_BYTES = omega (arith, some, few) in
     elim c.match-end.branch [
       | in-Ok w ↦ subst (λ end. IsNextEnd end (g.S.Source.remaining c.args.source.now) (g.S.Source.remaining c.take.new.self) c.args.decoder.now c.args.decoder.now (g.S.Source.counted c.args.source.now) (g.S.Source.counted c.take.new.self)) (sym w.result-is)
-          (input_end (g.S.Source.remaining c.args.source.now) (g.S.Source.remaining c.take.new.self) c.args.decoder.now c.args.decoder.now (g.S.Source.counted c.args.source.now) (g.S.Source.counted c.take.new.self) (idle_now c.args.decoder.now c.requires.stream c.requires.good) _ c.in_ok-count.count less c.in_ok-count.ensures.bytes c.if-count-eq0.true c.in_ok-count.ensures.steady w.fed.result w.fed.ensures w.in-Ok.ensures)
+          (input_end (g.S.Source.remaining c.args.source.now) (g.S.Source.remaining c.take.new.self) c.args.decoder.now c.args.decoder.now (g.S.Source.counted c.args.source.now) (g.S.Source.counted c.take.new.self) (idle_now c.args.decoder.now c.requires.good) _ c.in_ok-count.count less c.in_ok-count.ensures.bytes c.if-count-eq0.true c.in_ok-count.ensures.steady w.fed.result w.fed.ensures w.in-Ok.ensures)
       | in-Err w ↦ subst (λ end. IsNextEnd end (g.S.Source.remaining c.args.source.now) (g.S.Source.remaining c.take.new.self) c.args.decoder.now c.args.decoder.now (g.S.Source.counted c.args.source.now) (g.S.Source.counted c.take.new.self)) (sym w.result-is)
-          (truncated_end (g.S.Source.remaining c.args.source.now) (g.S.Source.remaining c.take.new.self) c.args.decoder.now c.args.decoder.now (g.S.Source.counted c.args.source.now) (g.S.Source.counted c.take.new.self) (idle_now c.args.decoder.now c.requires.stream c.requires.good) _ c.in_ok-count.count less c.in_ok-count.ensures.bytes c.if-count-eq0.true c.in_ok-count.ensures.steady _ w.in-Err.ensures)
+          (truncated_end (g.S.Source.remaining c.args.source.now) (g.S.Source.remaining c.take.new.self) c.args.decoder.now c.args.decoder.now (g.S.Source.counted c.args.source.now) (g.S.Source.counted c.take.new.self) (idle_now c.args.decoder.now c.requires.good) _ c.in_ok-count.count less c.in_ok-count.ensures.bytes c.if-count-eq0.true c.in_ok-count.ensures.steady _ w.in-Err.ensures)
     ]
 
 pub returns-in_err-feed-clause-ended : goal.returns-in_err-feed-clause-ended
@@ -48,7 +47,7 @@ returns-clause-read g c =
     let some = c.if-count-eq0.false in
     let within = c.in_ok-count.ensures.bytes.within in
     let long = length-take c.in_ok-count.count c.take.new.into in
-    next_read (g.S.Source.remaining c.args.source.now) (g.S.Source.remaining c.take.new.self) c.args.decoder.now c.args.decoder.now (g.S.Source.counted c.args.source.now) (g.S.Source.counted c.take.new.self) (idle_now c.args.decoder.now c.requires.stream c.requires.good) c.feed.new.self (take c.in_ok-count.count c.take.new.into) (map frame_of c.in_ok-feed.field-0.items) c.in_ok-count.ensures.bytes.front (omega (arith, some, within, long)) c.in_ok-feed.ensures.ok c.in_ok-count.ensures.steady
+    next_read (g.S.Source.remaining c.args.source.now) (g.S.Source.remaining c.take.new.self) c.args.decoder.now c.args.decoder.now (g.S.Source.counted c.args.source.now) (g.S.Source.counted c.take.new.self) (idle_now c.args.decoder.now c.requires.good) c.requires.stream c.feed.new.self (take c.in_ok-count.count c.take.new.into) (map frame_of c.in_ok-feed.field-0.items) c.in_ok-count.ensures.bytes.front (omega (arith, some, within, long)) c.in_ok-feed.ensures.ok c.in_ok-count.ensures.steady
 
 pub returns-clause-few : goal.returns-clause-few
 returns-clause-few g c =
