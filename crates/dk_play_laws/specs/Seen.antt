@@ -25,4 +25,3 @@ ArePaired R [] [] = Unit {0}
 ArePaired R (p ∷ before) (q ∷ after) = R p q × ArePaired R before after
 ArePaired R [] (q ∷ after) = ⊥
 ArePaired R (p ∷ before) [] = ⊥
-

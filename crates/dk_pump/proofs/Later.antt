@@ -29,18 +29,18 @@ pub risen_on : (a b c : ℕ) → HasRisen a b → b ≤ c → HasRisen a c
 risen_on a b c h le = elim h [
   | inl less ↦ inl (omega (arith, less, le))
   | inr full ↦ elim (less_or_same b c le) [
-      | inl more ↦ inl (let is = full.0 in let at = full.1 in omega (arith, is, at, more))
-      | inr same ↦ inr (full.0, sym same ∙ full.1)
-    ]
+    | inl more ↦ inl (let is = full.0 in let at = full.1 in omega (arith, is, at, more))
+    | inr same ↦ inr (full.0, sym same ∙ full.1)
+  ]
 ]
 
 pub risen_since : (a b c : ℕ) → a ≤ b → HasRisen b c → HasRisen a c
 risen_since a b c le h = elim h [
   | inl less ↦ inl (omega (arith, less, le))
   | inr full ↦ elim (less_or_same a b le) [
-      | inl more ↦ inl (let is = full.0 in let at = full.1 in omega (arith, is, at, more))
-      | inr same ↦ inr (same ∙ full.0, full.1)
-    ]
+    | inl more ↦ inl (let is = full.0 in let at = full.1 in omega (arith, is, at, more))
+    | inr same ↦ inr (same ∙ full.0, full.1)
+  ]
 ]
 
 pub risen_most : (a b : ℕ) → HasRisen a b → a ≤ b

@@ -142,7 +142,7 @@ module _ (o : Opened) (keeps : Bool) (pass : ℕ) (conn : ConnNo) (a b : Option 
         last = λ is. (
           record { hands = hands; before = writes; most = most; outs = outs; last = ap (λ g. writes ++ event.Hand pass conn most outs g ∷ []) is },
           λ alone. handed_by_hands conn all ∙ ap (λ es. handed es conn) (sym alone) ∙ sym (handed_by_hands conn front')
-            ∙ all_handed o pass conn most outs front front' (subst (λ g. Entered o pass (event.Hand pass conn most outs g ∷ []) front front') is e),
+              ∙ all_handed o pass conn most outs front front' (subst (λ g. Entered o pass (event.Hand pass conn most outs g ∷ []) front front') is e),
           ended is,
         );
       }

@@ -16,8 +16,11 @@ use std::thread::Threads;
 use sword_world::SwordWorld;
 
 const HEAD: &str = "phase 0\nclaim 0 at 0 initialize\ncommit 1 run 0 ok\n";
+
 const LOOK: &str = "login alice\nsend alice look\n";
-const LOOKED: &str = "phase 1\nopen 1 alice\nclaim 2 at 0 login alice\ncommit 2 run 2 ok\nclaim 3 at 0 message alice\ncommit 3 run 3 ok\nto 1 alice accepted\nto 1 alice message You are in a plain room.\\x0aOn the floor: a shiny sword.\\x0a\ndone commits 3 tasks 0\n";
+
+const LOOKED: &str =
+    "phase 1\nopen 1 alice\nclaim 2 at 0 login alice\ncommit 2 run 2 ok\nclaim 3 at 0 message alice\ncommit 3 run 3 ok\nto 1 alice accepted\nto 1 alice message You are in a plain room.\\x0aOn the floor: a shiny sword.\\x0a\ndone commits 3 tasks 0\n";
 
 // A script on a fresh store in memory.
 fn played<R: Threads + Wait + Sync>(
@@ -75,7 +78,10 @@ fn a_client_looks_by_any_number_of_workers(rt: HostRuntime) -> Result<(), Fail> 
 fn a_budget_is_spent(rt: HostRuntime) -> Result<(), Fail> {
     for workers in [1, 3] {
         let played = played(&rt, rt.alloc(), LOOK, workers, 2, false)?;
-        assert!(rt; matches!(played, Err(PlayFault::Budget { granted: 2 })), "{workers}");
+        assert!(rt;
+            matches!(played, Err(PlayFault::Budget { granted: 2 })),
+            "{workers}"
+        );
     }
     Ok(())
 }
