@@ -18,8 +18,6 @@ mod logins;
 mod phases;
 mod saving;
 mod staging;
-#[cfg(test)]
-mod tests;
 mod text;
 
 use dk_disk::Home;
