@@ -1,12 +1,12 @@
 -- What holds of a session in its midst.
-use Rattle.std.proofs.Common.{◌≡◌, ℕ, ◌<◌, ◌≤◌, length, map, is_some, slice_index_or, arith, Bool, true, false, List, [], ◌∷◌, ◌++◌, Option, Some, None, IsSome, refl, sym, ap, subst, ◌∙◌}
+use Rattle.std.proofs.Common.{◌≡◌, ℕ, ◌<◌, ◌≤◌, length, map, is_some, slice_index_or, arith, Bool, false, List, [], ◌∷◌, ◌++◌, Option, Some, None, IsSome, refl, sym, subst, ◌∙◌}
 use Rattle.std.proofs.Math.Logic.{∥∥₁_map, ∥∥₁_elim}
 use Rattle.std.specs.Coded.{le_prop}
 use denote.Struct.Props.{props}
 use mathlib.Core.Bool.{Bool-set}
 use Rattle.dk_types.specs.declared.number.ConnNo.{ConnNo}
 use Rattle.dk_types.specs.declared.event.Event.{Event}
-use Rattle.dk_model.specs.Frames.{Frame, Stage, AtLogin, InSession, LoggedOut, AreInTurn, IsFrame, Login, Message, Channel, Logout, MayCome, opcode_of, stage_after, stage_behind}
+use Rattle.dk_model.specs.Frames.{Frame, Stage, AtLogin, InSession, LoggedOut, AreInTurn, IsFrame, Login, Message, Channel, Logout, MayCome, opcode_of, stage_behind}
 use Rattle.dk_model.specs.Legal.{Opened}
 use Rattle.dk_frame.specs.declared.frame.ClientFrame.{ClientFrame}
 use Rattle.dk_frame.specs.declared.frame.ClientFrame.TheVariants as client
@@ -67,9 +67,9 @@ module _ (o : Opened) (keeps : Bool) (count : ℕ) where
   pending_in_turn pass link c pending conn is none m = ∥∥₁_elim m (turn_is_prop InSession pending) (λ x.
       while_reading (λ y. IsSession o keeps count x.0 x.1 pass link y pending → AreInTurn InSession pending) c (Some conn) is none
       (λ y s.
-          let h = s.read.entered in
-          let all : AreInTurn InSession (h.done ++ pending) = (subst (AreInTurn AtLogin) h.parts s.read.stands.is.in_turn).2 in
-          subst (λ stage. AreInTurn stage pending) h.stage (turn_behind InSession h.done pending all)) x.2)
+      let h = s.read.entered in
+      let all : AreInTurn InSession (h.done ++ pending) = (subst (AreInTurn AtLogin) h.parts s.read.stands.is.in_turn).2 in
+      subst (λ stage. AreInTurn stage pending) h.stage (turn_behind InSession h.done pending all)) x.2)
 
   -- before there is a connection, the first frame may come first
   pub first_in_turn : (pass : Known Event) (link : Shown) (c : Course) (pending : List Frame) → c.conn ≡ None → c.end ≡ None → IsMidst o keeps count pass link c pending → AreInTurn AtLogin pending
@@ -122,15 +122,15 @@ module _ (o : Opened) (keeps : Bool) (count : ℕ) where
   session_first pass link c stands conn none outgoing failed gone write =
       while_reading (λ x. HasDecoded x.decoder [] [] → x.outgoing ≡ [] → x.failed ≡ false → x.gone ≡ false → x.write ≡ None → IsSession o keeps count pass link pass link x []) c None conn none
       (λ x stands outgoing failed gone write. record {
-          number = refl;
-          reads = [];
-          writes = [];
-          events = [];
-          read = record { bytes = []; lost = []; frames = []; consumed = consumes_none link.left; stands = stands; few = (let is = stands.fed in omega (arith, is)); stops = (refl, refl); entered = (refl, refl) };
-          written = record { going = λ is. (write, outgoing, failed, gone); over = λ some. absurd (cc some); none = refl; put = appends_none link.contents; counts = refl };
-          both = (refl, refl);
-          enters = enters_none o count pass.number pass.front;
-        }) stands outgoing failed gone write
+        number = refl;
+        reads = [];
+        writes = [];
+        events = [];
+        read = record { bytes = []; lost = []; frames = []; consumed = consumes_none link.left; stands = stands; few = (let is = stands.fed in omega (arith, is)); stops = (refl, refl); entered = (refl, refl) };
+        written = record { going = λ is. (write, outgoing, failed, gone); over = λ some. absurd (cc some); none = refl; put = appends_none link.contents; counts = refl };
+        both = (refl, refl);
+        enters = enters_none o count pass.number pass.front;
+      }) stands outgoing failed gone write
 
   module _ (began : Known Event) (given : Shown) (pass : Known Event) (link : Shown) (c : Course) (m : ∥ IsSession o keeps count began given pass link c [] ∥₁) where
     pub midst_of : IsMidst o keeps count pass link c []

@@ -1,5 +1,5 @@
 -- The steps of a polled session: whatever it began with, what it did goes on.
-use Rattle.std.proofs.Common.{◌≡◌, ◌||◌, ℕ, ◌<◌, ◌≤◌, Bool, true, false, cond, List, [], ◌∷◌, ◌++◌, Option, Some, None, Result, Ok, Err, IsSome, unwrap_or, if◌then◌else◌, refl, sym, ap, subst, ◌∙◌, append_assoc}
+use Rattle.std.proofs.Common.{◌≡◌, ℕ, ◌<◌, ◌≤◌, Bool, true, false, cond, List, [], ◌∷◌, ◌++◌, Option, Some, None, Ok, Err, IsSome, unwrap_or, if◌then◌else◌, refl, sym, subst, ◌∙◌}
 use Rattle.std.proofs.lemmas.List.{append-nil}
 use Rattle.std.proofs.lemmas.List.Folds.{list_any-append}
 use Rattle.std.specs.List.{All, list_any}
@@ -24,15 +24,14 @@ use Rattle.dk_turn.proofs.Beginnings.{prefix_self}
 use Rattle.dk_pump.specs.declared.limits.TheConstants.{SESSION_MOST_BYTES}
 use Rattle.dk_pump.specs.declared.ends.SessionEnd.{SessionEnd}
 use Rattle.dk_pump.specs.declared.ends.SessionEnd.TheVariants as ends
-use Rattle.dk_pump.specs.declared.ends.WriteEnd.{WriteEnd}
 use Rattle.dk_pump.specs.declared.ends.WriteEnd.TheVariants as written
 use Rattle.dk_pump.specs.declared.course.Course.{Course}
 use Rattle.dk_pump.specs.declared.posting.Progress.TheVariants as progress
 use Rattle.dk_pump.specs.Ends.{end_of_connect, end_of_post}
 use Rattle.dk_pump.specs.Passes.{Enters}
-use Rattle.dk_pump.specs.Reading.{inputs_of, taken, PostsFrames, IsOfRead, IsNextEnd, IsPosted, IsClosed, Closes, Disconnects}
-use Rattle.dk_pump.specs.Writing.{frames_of, tells_end}
-use Rattle.dk_pump.specs.Sessions.{Shown, KeepsPut, KeepsTake, IsPolledRead, AreReads, HasRead, IsPutting, IsWritten, HasWritten, IsSession, GoesOn, EndsReading, with_handed}
+use Rattle.dk_pump.specs.Reading.{inputs_of, taken, PostsFrames, IsOfRead, IsNextEnd, IsPosted, IsClosed, Disconnects}
+use Rattle.dk_pump.specs.Writing.{tells_end}
+use Rattle.dk_pump.specs.Sessions.{Shown, KeepsPut, KeepsTake, IsPolledRead, HasRead, IsPutting, IsWritten, HasWritten, IsSession, GoesOn, EndsReading, with_handed}
 use Rattle.dk_pump.proofs.Entering.{enters_none, enters_one, enters_then}
 use Rattle.dk_pump.proofs.InOrder.{reads_behind, writes_behind}
 use Rattle.dk_pump.proofs.Later.{prefix_then, entered_begins}
@@ -103,12 +102,12 @@ module _ (o : Opened) (keeps : Bool) (count : ℕ) where
   takes_piece pass link link' c d frames none few n kept =
       while_reading (λ x. IsPolledRead frames link.left link'.left x.decoder d link.take_counted link'.take_counted → GoesOn o keeps count pass link x [] pass link' (record x { decoder = d }) frames) c c.conn refl none
       (λ x n began given s.
-          let x' = record x { conn = c.conn; end = None } in
-          by_reading began given pass link x' [] s pass link' (record x' { decoder = d }) frames [] refl (enters_none o count pass.number pass.front)
-          (as_before began given pass link x' [] s x'.conn None d link'.left link'.take_counted frames
-          (read_piece o keeps began.number x'.conn x'.decoder given.left link.left given.take_counted link.take_counted pass.front pass.front [] s.writes s.reads s.read d link'.left link'.take_counted few frames n
-          (pending_more o keeps began.number x'.conn pass.front s.read.frames frames s.writes s.reads s.read.entered)))
-          (still_written o keeps began.number x'.conn x' d given.contents link.contents link'.contents given.put_counted link.put_counted link'.put_counted pass.front pass.front s.writes (prefix_self pass.front) refl kept.contents kept.counted s.written)) n
+      let x' = record x { conn = c.conn; end = None } in
+      by_reading began given pass link x' [] s pass link' (record x' { decoder = d }) frames [] refl (enters_none o count pass.number pass.front)
+      (as_before began given pass link x' [] s x'.conn None d link'.left link'.take_counted frames
+      (read_piece o keeps began.number x'.conn x'.decoder given.left link.left given.take_counted link.take_counted pass.front pass.front [] s.writes s.reads s.read d link'.left link'.take_counted few frames n
+      (pending_more o keeps began.number x'.conn pass.front s.read.frames frames s.writes s.reads s.read.entered)))
+      (still_written o keeps began.number x'.conn x' d given.contents link.contents link'.contents given.put_counted link.put_counted link'.put_counted pass.front pass.front s.writes (prefix_self pass.front) refl kept.contents kept.counted s.written)) n
 
   -- all was posted, and nothing was pending
   whole_behind : (n : ℕ) (conn : ConnNo) (done : List Frame) → stage_after InSession done ≡ InSession → (end : SessionEnd) → IsOfRead end → IsPosted n conn (done ++ []) end (taken n conn (inputs_of done) ++ [])
@@ -156,14 +155,14 @@ module _ (o : Opened) (keeps : Bool) (count : ℕ) where
       → GoesOn o keeps count pass link c (Login name ∷ rest) pass' link (record c { conn = Some conn }) rest
   connects pass pass' link c conn name rest is none same e named = while_reading (λ x. GoesOn o keeps count pass link x (Login name ∷ rest) pass' link (record x { conn = Some conn }) rest) c None is none
       (λ y began given s.
-          let x = record y { conn = None; end = None } in
-          let n = began.number in
-          let now = subst (λ m. Entered o m (connect_events m name (Ok conn)) pass.front pass'.front) s.number e in
-          by_reading began given pass link x (Login name ∷ rest) s pass' link (record x { conn = Some conn }) rest (event.Connect n name (connected.Number conn) ∷ []) same
-          (subst (λ m. Enters o count m (event.Connect n name (connected.Number conn) ∷ []) pass.front pass'.front) (sym s.number) (enters_one o count n _ pass.front pass'.front now named))
-          (read_as o keeps n None x.decoder given.left link.left given.take_counted link.take_counted pass.front pass'.front (Login name ∷ rest) s.writes s.reads s.read (Some conn) rest (s.reads ++ event.Connect n name (connected.Number conn) ∷ [])
-          (logs_in n conn s.read.frames name rest s.writes s.reads s.read.entered))
-          (begins_writing o keeps n conn x given.contents link.contents given.put_counted link.put_counted pass'.front s.writes refl s.written))
+      let x = record y { conn = None; end = None } in
+      let n = began.number in
+      let now = subst (λ m. Entered o m (connect_events m name (Ok conn)) pass.front pass'.front) s.number e in
+      by_reading began given pass link x (Login name ∷ rest) s pass' link (record x { conn = Some conn }) rest (event.Connect n name (connected.Number conn) ∷ []) same
+      (subst (λ m. Enters o count m (event.Connect n name (connected.Number conn) ∷ []) pass.front pass'.front) (sym s.number) (enters_one o count n _ pass.front pass'.front now named))
+      (read_as o keeps n None x.decoder given.left link.left given.take_counted link.take_counted pass.front pass'.front (Login name ∷ rest) s.writes s.reads s.read (Some conn) rest (s.reads ++ event.Connect n name (connected.Number conn) ∷ [])
+      (logs_in n conn s.read.frames name rest s.writes s.reads s.read.entered))
+      (begins_writing o keeps n conn x given.contents link.contents given.put_counted link.put_counted pass'.front s.writes refl s.written))
 
   -- a Connect was refused
   pub refuses : (pass mid pass' : Known Event) (link : Shown) (c c' : Course) (r : ConnectRefused) (name : List ℕ) (rest : List Frame) → c.conn ≡ None → c.end ≡ None → mid.number ≡ pass.number
@@ -172,19 +171,19 @@ module _ (o : Opened) (keeps : Bool) (count : ℕ) where
   refuses pass mid pass' link c c' r name rest is none same entered named ends =
       while_reading (λ x. EndsReading o keeps count None (end_of_connect r) mid x pass' c' → GoesOn o keeps count pass link x (Login name ∷ rest) pass' link c' []) c None is none
       (λ y ends began given s.
-          let x = record y { conn = None; end = None } in
-          let end = end_of_connect r in
-          let x' = record x { end = Some end; write = Some written.Done } in
-          let n = began.number in
-          let events = connect_events n name (Err r) in
-          let now = subst (λ m. Entered o m (connect_events m name (Err r)) pass.front mid.front) s.number entered in
-          subst (λ p. IsSession o keeps count began given p link c' []) (sym ends.0)
-          (subst (λ z. IsSession o keeps count began given mid link z []) (sym ends.1)
-          (by_reading began given pass link x (Login name ∷ rest) s mid link x' [] events same
-          (subst (λ m. Enters o count m events pass.front mid.front) (sym s.number) (enters_one o count n events pass.front mid.front now named))
-          (read_to_call o keeps n None x.decoder given.left link.left given.take_counted link.take_counted pass.front mid.front (Login name ∷ rest) s.writes s.reads s.read end (refused_by_call r) None (s.reads ++ events)
-          (logs_in_not n s.read.frames name rest s.writes s.reads s.read.entered r))
-          (unwritten_over x x.decoder end given.contents link.contents link.contents given.put_counted link.put_counted link.put_counted s.writes refl refl s.written)))) ends
+      let x = record y { conn = None; end = None } in
+      let end = end_of_connect r in
+      let x' = record x { end = Some end; write = Some written.Done } in
+      let n = began.number in
+      let events = connect_events n name (Err r) in
+      let now = subst (λ m. Entered o m (connect_events m name (Err r)) pass.front mid.front) s.number entered in
+      subst (λ p. IsSession o keeps count began given p link c' []) (sym ends.0)
+      (subst (λ z. IsSession o keeps count began given mid link z []) (sym ends.1)
+      (by_reading began given pass link x (Login name ∷ rest) s mid link x' [] events same
+      (subst (λ m. Enters o count m events pass.front mid.front) (sym s.number) (enters_one o count n events pass.front mid.front now named))
+      (read_to_call o keeps n None x.decoder given.left link.left given.take_counted link.take_counted pass.front mid.front (Login name ∷ rest) s.writes s.reads s.read end (refused_by_call r) None (s.reads ++ events)
+      (logs_in_not n s.read.frames name rest s.writes s.reads s.read.entered r))
+      (unwritten_over x x.decoder end given.contents link.contents link.contents given.put_counted link.put_counted link.put_counted s.writes refl refl s.written)))) ends
 
   -- ---- posting
 
@@ -193,12 +192,12 @@ module _ (o : Opened) (keeps : Bool) (count : ℕ) where
       → PostsFrames o count pass.number conn frames (Ok progress.All) pass.front pass'.front → GoesOn o keeps count pass link c frames pass' link c []
   posts_pending pass pass' link c conn frames is none same p = while_reading (λ x. GoesOn o keeps count pass link x frames pass' link x []) c (Some conn) is none
       (λ y began given s.
-          let x = record y { conn = Some conn; end = None } in
-          let n = began.number in
-          let q = subst (λ m. PostsFrames o count m conn frames (Ok progress.All) pass.front pass'.front) s.number p in
-          by_reading began given pass link x frames s pass' link x [] q.events same (subst (λ m. Enters o count m q.events pass.front pass'.front) (sym s.number) q.enters)
-          (read_as o keeps n (Some conn) x.decoder given.left link.left given.take_counted link.take_counted pass.front pass'.front frames s.writes s.reads s.read (Some conn) [] (s.reads ++ q.events) (posts_all n conn s.read.frames frames s.reads s.read.entered q.events q.posts))
-          (written_meanwhile o keeps n conn x x.decoder None given.contents link.contents link.contents given.put_counted link.put_counted link.put_counted pass.front pass'.front s.writes q.enters.begins refl refl refl s.written))
+      let x = record y { conn = Some conn; end = None } in
+      let n = began.number in
+      let q = subst (λ m. PostsFrames o count m conn frames (Ok progress.All) pass.front pass'.front) s.number p in
+      by_reading began given pass link x frames s pass' link x [] q.events same (subst (λ m. Enters o count m q.events pass.front pass'.front) (sym s.number) q.enters)
+      (read_as o keeps n (Some conn) x.decoder given.left link.left given.take_counted link.take_counted pass.front pass'.front frames s.writes s.reads s.read (Some conn) [] (s.reads ++ q.events) (posts_all n conn s.read.frames frames s.reads s.read.entered q.events q.posts))
+      (written_meanwhile o keeps n conn x x.decoder None given.contents link.contents link.contents given.put_counted link.put_counted link.put_counted pass.front pass'.front s.writes q.enters.begins refl refl refl s.written))
 
   -- the posts came to an end, and reading ended with its Disconnect
   ends_by_posts : (pass mid pass' : Known Event) (link : Shown) (c c' : Course) (conn : ConnNo) (frames : List Frame) (end : SessionEnd) → IsOfCall end → c.conn ≡ Some conn → c.end ≡ None → mid.number ≡ pass.number
@@ -207,18 +206,18 @@ module _ (o : Opened) (keeps : Bool) (count : ℕ) where
   ends_by_posts pass mid pass' link c c' conn frames end call is none same posts ends =
       while_reading (λ x. EndsReading o keeps count (Some conn) end mid x pass' c' → GoesOn o keeps count pass link x frames pass' link c' []) c (Some conn) is none
       (λ y ends began given s.
-          let x = record y { conn = Some conn; end = None } in
-          let x' = record x { end = Some end } in
-          let n = began.number in
-          let p = posts n s.number in
-          let closed : IsClosed o keeps count n conn end mid.front pass'.front = subst (λ m. IsClosed o keeps count m conn end mid.front pass'.front) (same ∙ s.number) ends.2 in
-          let more = p.0 ++ closed.events in
-          subst (λ z. IsSession o keeps count began given pass' link z []) (sym ends.0)
-          (by_reading began given pass link x frames s pass' link x' [] more (ends.1 ∙ same)
-          (subst (λ m. Enters o count m more pass.front pass'.front) (sym s.number) (enters_then o count n p.0 closed.events pass.front mid.front pass'.front p.1 closed.enters))
-          (read_to_call o keeps n (Some conn) x.decoder given.left link.left given.take_counted link.take_counted pass.front pass'.front frames s.writes s.reads s.read end call (Some conn) (s.reads ++ more)
-          (reads_out n conn s.read.frames frames s.reads s.read.entered o keeps end pass'.front s.writes p.0 closed.events (p.2 s.read.entered.done) closed.closes))
-          (written_meanwhile o keeps n conn x x.decoder (Some end) given.contents link.contents link.contents given.put_counted link.put_counted link.put_counted pass.front pass'.front s.writes (prefix_then pass.front mid.front pass'.front p.1.begins closed.enters.begins) refl refl refl s.written))) ends
+      let x = record y { conn = Some conn; end = None } in
+      let x' = record x { end = Some end } in
+      let n = began.number in
+      let p = posts n s.number in
+      let closed : IsClosed o keeps count n conn end mid.front pass'.front = subst (λ m. IsClosed o keeps count m conn end mid.front pass'.front) (same ∙ s.number) ends.2 in
+      let more = p.0 ++ closed.events in
+      subst (λ z. IsSession o keeps count began given pass' link z []) (sym ends.0)
+      (by_reading began given pass link x frames s pass' link x' [] more (ends.1 ∙ same)
+      (subst (λ m. Enters o count m more pass.front pass'.front) (sym s.number) (enters_then o count n p.0 closed.events pass.front mid.front pass'.front p.1 closed.enters))
+      (read_to_call o keeps n (Some conn) x.decoder given.left link.left given.take_counted link.take_counted pass.front pass'.front frames s.writes s.reads s.read end call (Some conn) (s.reads ++ more)
+      (reads_out n conn s.read.frames frames s.reads s.read.entered o keeps end pass'.front s.writes p.0 closed.events (p.2 s.read.entered.done) closed.closes))
+      (written_meanwhile o keeps n conn x x.decoder (Some end) given.contents link.contents link.contents given.put_counted link.put_counted link.put_counted pass.front pass'.front s.writes (prefix_then pass.front mid.front pass'.front p.1.begins closed.enters.begins) refl refl refl s.written))) ends
 
   pub posts_to_logout : (pass mid pass' : Known Event) (link : Shown) (c c' : Course) (conn : ConnNo) (frames : List Frame) → c.conn ≡ Some conn → c.end ≡ None → mid.number ≡ pass.number
       → PostsFrames o count pass.number conn frames (Ok progress.ToLogout) pass.front mid.front → EndsReading o keeps count (Some conn) ends.Logout mid c pass' c' → GoesOn o keeps count pass link c frames pass' link c' []
@@ -248,12 +247,12 @@ module _ (o : Opened) (keeps : Bool) (count : ℕ) where
   puts pass link link' c conn bytes unput is none not parts appended still kept =
       while_writing (λ x. x.outgoing ≡ bytes ++ unput → GoesOn o keeps count pass link x [] pass link' (record x { outgoing = unput }) []) c conn false is none not
       (λ y parts began given s.
-          let x = record y { conn = Some conn; write = None; failed = false } in
-          let n = began.number in
-          by_writing began given pass link x [] s pass link' (record x { outgoing = unput }) [] [] refl (enters_none o count pass.number pass.front)
-          (read_meanwhile o keeps n (Some conn) x.end x.decoder given.left link.left given.take_counted link.take_counted pass.front [] s.writes s.reads s.read link'.left link'.take_counted pass.front [] (prefix_self pass.front) kept.left kept.counted)
-          (subst (λ ws. HasWritten o keeps n (Some conn) (record x { outgoing = unput }) given.contents link'.contents given.put_counted link'.put_counted pass.front ws) (sym (append-nil s.writes))
-          (puts_on o keeps n conn given.contents link.contents given.put_counted link.put_counted x.gone x.outgoing x.end pass.front s.writes s.written bytes unput link'.contents link'.put_counted parts appended still))) parts
+      let x = record y { conn = Some conn; write = None; failed = false } in
+      let n = began.number in
+      by_writing began given pass link x [] s pass link' (record x { outgoing = unput }) [] [] refl (enters_none o count pass.number pass.front)
+      (read_meanwhile o keeps n (Some conn) x.end x.decoder given.left link.left given.take_counted link.take_counted pass.front [] s.writes s.reads s.read link'.left link'.take_counted pass.front [] (prefix_self pass.front) kept.left kept.counted)
+      (subst (λ ws. HasWritten o keeps n (Some conn) (record x { outgoing = unput }) given.contents link'.contents given.put_counted link'.put_counted pass.front ws) (sym (append-nil s.writes))
+      (puts_on o keeps n conn given.contents link.contents given.put_counted link.put_counted x.gone x.outgoing x.end pass.front s.writes s.written bytes unput link'.contents link'.put_counted parts appended still))) parts
 
   -- the link failed, and a Disconnect was posted
   pub fails : (pass pass' : Known Event) (link link' : Shown) (c : Course) (conn : ConnNo) → c.conn ≡ Some conn → c.write ≡ None → c.failed ≡ false → pass'.number ≡ pass.number → AppendsPrefix link.contents link'.contents c.outgoing
@@ -261,12 +260,12 @@ module _ (o : Opened) (keeps : Bool) (count : ℕ) where
   fails pass pass' link link' c conn is none not same part risen kept d =
       while_writing (λ x. AppendsPrefix link.contents link'.contents x.outgoing → GoesOn o keeps count pass link x [] pass' link' (record x { outgoing = []; failed = true }) []) c conn false is none not
       (λ y part began given s.
-          let x = record y { conn = Some conn; write = None; failed = false } in
-          let n = began.number in
-          let e = subst (λ m. Disconnects o keeps count m conn false pass.front pass'.front) s.number d in
-          by_writing began given pass link x [] s pass' link' (record x { outgoing = []; failed = true }) [] e.events same (subst (λ m. Enters o count m e.events pass.front pass'.front) (sym s.number) e.enters)
-          (read_meanwhile o keeps n (Some conn) x.end x.decoder given.left link.left given.take_counted link.take_counted pass.front [] s.writes s.reads s.read link'.left link'.take_counted pass'.front e.events e.enters.begins kept.left kept.counted)
-          (goes_without o keeps n conn given.contents link.contents given.put_counted link.put_counted x.gone x.outgoing x.end pass.front s.writes s.written pass'.front e.events e.ends x.gone x.end link'.contents link'.put_counted refl refl part risen)) part
+      let x = record y { conn = Some conn; write = None; failed = false } in
+      let n = began.number in
+      let e = subst (λ m. Disconnects o keeps count m conn false pass.front pass'.front) s.number d in
+      by_writing began given pass link x [] s pass' link' (record x { outgoing = []; failed = true }) [] e.events same (subst (λ m. Enters o count m e.events pass.front pass'.front) (sym s.number) e.enters)
+      (read_meanwhile o keeps n (Some conn) x.end x.decoder given.left link.left given.take_counted link.take_counted pass.front [] s.writes s.reads s.read link'.left link'.take_counted pass'.front e.events e.enters.begins kept.left kept.counted)
+      (goes_without o keeps n conn given.contents link.contents given.put_counted link.put_counted x.gone x.outgoing x.end pass.front s.writes s.written pass'.front e.events e.ends x.gone x.end link'.contents link'.put_counted refl refl part risen)) part
 
   -- there was no memory, and a Disconnect was posted
   pub gives_all_up : (pass pass' : Known Event) (link : Shown) (c : Course) (conn : ConnNo) → c.conn ≡ Some conn → c.write ≡ None → c.failed ≡ false → IsSome c.end → pass'.number ≡ pass.number
@@ -274,24 +273,24 @@ module _ (o : Opened) (keeps : Bool) (count : ℕ) where
   gives_all_up pass pass' link c conn is none not ended same d =
       while_writing (λ x. IsSome x.end → GoesOn o keeps count pass link x [] pass' link (record x { write = Some written.NoMemory }) []) c conn false is none not
       (λ y ended began given s.
-          let x = record y { conn = Some conn; write = None; failed = false } in
-          let n = began.number in
-          let e = subst (λ m. Disconnects o keeps count m conn false pass.front pass'.front) s.number d in
-          by_writing began given pass link x [] s pass' link (record x { write = Some written.NoMemory }) [] e.events same (subst (λ m. Enters o count m e.events pass.front pass'.front) (sym s.number) e.enters)
-          (read_meanwhile o keeps n (Some conn) x.end x.decoder given.left link.left given.take_counted link.take_counted pass.front [] s.writes s.reads s.read link.left link.take_counted pass'.front e.events e.enters.begins refl refl)
-          (gives_up o keeps n conn given.contents link.contents given.put_counted link.put_counted x.gone x.outgoing x.end pass.front s.writes s.written pass'.front e.events e.ends x.end ended)) ended
+      let x = record y { conn = Some conn; write = None; failed = false } in
+      let n = began.number in
+      let e = subst (λ m. Disconnects o keeps count m conn false pass.front pass'.front) s.number d in
+      by_writing began given pass link x [] s pass' link (record x { write = Some written.NoMemory }) [] e.events same (subst (λ m. Enters o count m e.events pass.front pass'.front) (sym s.number) e.enters)
+      (read_meanwhile o keeps n (Some conn) x.end x.decoder given.left link.left given.take_counted link.take_counted pass.front [] s.writes s.reads s.read link.left link.take_counted pass'.front e.events e.enters.begins refl refl)
+      (gives_up o keeps n conn given.contents link.contents given.put_counted link.put_counted x.gone x.outgoing x.end pass.front s.writes s.written pass'.front e.events e.ends x.end ended)) ended
 
   -- there was no memory behind a failure of the link
   pub gives_rest_up : (pass : Known Event) (link : Shown) (c : Course) (conn : ConnNo) → c.conn ≡ Some conn → c.write ≡ None → c.failed ≡ true → IsSome c.end → GoesOn o keeps count pass link c [] pass link (record c { write = Some written.NoMemory }) []
   gives_rest_up pass link c conn is none fails ended =
       while_writing (λ x. IsSome x.end → GoesOn o keeps count pass link x [] pass link (record x { write = Some written.NoMemory }) []) c conn true is none fails
       (λ y ended began given s.
-          let x = record y { conn = Some conn; write = None; failed = true } in
-          let n = began.number in
-          by_writing began given pass link x [] s pass link (record x { write = Some written.NoMemory }) [] [] refl (enters_none o count pass.number pass.front)
-          (read_meanwhile o keeps n (Some conn) x.end x.decoder given.left link.left given.take_counted link.take_counted pass.front [] s.writes s.reads s.read link.left link.take_counted pass.front [] (prefix_self pass.front) refl refl)
-          (subst (λ ws. HasWritten o keeps n (Some conn) (record x { write = Some written.NoMemory }) given.contents link.contents given.put_counted link.put_counted pass.front ws) (sym (append-nil s.writes))
-          (gives_up_without o keeps n conn given.contents link.contents given.put_counted link.put_counted x.gone x.end pass.front s.writes s.written x.end ended))) ended
+      let x = record y { conn = Some conn; write = None; failed = true } in
+      let n = began.number in
+      by_writing began given pass link x [] s pass link (record x { write = Some written.NoMemory }) [] [] refl (enters_none o count pass.number pass.front)
+      (read_meanwhile o keeps n (Some conn) x.end x.decoder given.left link.left given.take_counted link.take_counted pass.front [] s.writes s.reads s.read link.left link.take_counted pass.front [] (prefix_self pass.front) refl refl)
+      (subst (λ ws. HasWritten o keeps n (Some conn) (record x { write = Some written.NoMemory }) given.contents link.contents given.put_counted link.put_counted pass.front ws) (sym (append-nil s.writes))
+      (gives_up_without o keeps n conn given.contents link.contents given.put_counted link.put_counted x.gone x.end pass.front s.writes s.written x.end ended))) ended
 
   -- ---- handing
 
@@ -315,24 +314,24 @@ module _ (o : Opened) (keeps : Bool) (count : ℕ) where
       elim c.failed as (λ f. c.failed ≡ f → GoesOn o keeps count pass link c [] pass' link (with_handed c outs gone) []) [
         | false ↦ λ f. while_writing (λ x. x.gone ≡ false → x.outgoing ≡ [] → GoesOn o keeps count pass link x [] pass' link (with_handed x outs gone) []) c conn false is none f
             (λ y there empty began given s.
-                let x = record y { conn = Some conn; write = None; failed = false } in
-                let n = began.number in
-                let more = event.Hand n conn most outs gone ∷ [] in
-                let now = subst (λ m. Entered o m (event.Hand m conn most outs gone ∷ []) pass.front pass'.front) s.number e in
-                by_writing began given pass link x [] s pass' link (with_handed x outs gone) [] more same (subst (λ m. Enters o count m more pass.front pass'.front) (sym s.number) (enters_one o count n more pass.front pass'.front now named))
-                (read_on_hand n conn x.end x.decoder given.left link.left given.take_counted link.take_counted pass.front pass'.front s.writes s.reads more gone (λ g. list_any-append (tells_end conn) s.writes more ∙ or_right (list_any (tells_end conn) s.writes) _ (told_one n conn most outs gone ∙ g)) (entered_begins o n more pass.front pass'.front now) s.read)
-                (hands_more o keeps n conn given.contents link.contents given.put_counted link.put_counted x.end (with_handed x outs gone).end pass.front pass'.front s.writes most outs gone
-                (subst (λ g. IsPutting o n conn g [] x.end given.contents link.contents given.put_counted link.put_counted pass.front s.writes) there
-                (subst (λ bs. IsPutting o n conn x.gone bs x.end given.contents link.contents given.put_counted link.put_counted pass.front s.writes) empty s.written)) now (ended_where_gone gone x.end))) there (empty f)
+            let x = record y { conn = Some conn; write = None; failed = false } in
+            let n = began.number in
+            let more = event.Hand n conn most outs gone ∷ [] in
+            let now = subst (λ m. Entered o m (event.Hand m conn most outs gone ∷ []) pass.front pass'.front) s.number e in
+            by_writing began given pass link x [] s pass' link (with_handed x outs gone) [] more same (subst (λ m. Enters o count m more pass.front pass'.front) (sym s.number) (enters_one o count n more pass.front pass'.front now named))
+            (read_on_hand n conn x.end x.decoder given.left link.left given.take_counted link.take_counted pass.front pass'.front s.writes s.reads more gone (λ g. list_any-append (tells_end conn) s.writes more ∙ or_right (list_any (tells_end conn) s.writes) _ (told_one n conn most outs gone ∙ g)) (entered_begins o n more pass.front pass'.front now) s.read)
+            (hands_more o keeps n conn given.contents link.contents given.put_counted link.put_counted x.end (with_handed x outs gone).end pass.front pass'.front s.writes most outs gone
+            (subst (λ g. IsPutting o n conn g [] x.end given.contents link.contents given.put_counted link.put_counted pass.front s.writes) there
+            (subst (λ bs. IsPutting o n conn x.gone bs x.end given.contents link.contents given.put_counted link.put_counted pass.front s.writes) empty s.written)) now (ended_where_gone gone x.end))) there (empty f)
         | true ↦ λ f. while_writing (λ x. GoesOn o keeps count pass link x [] pass' link (with_handed x outs gone) []) c conn true is none f
             (λ y began given s.
-                let x = record y { conn = Some conn; write = None; failed = true } in
-                let n = began.number in
-                let more = event.Hand n conn most outs gone ∷ [] in
-                let now = subst (λ m. Entered o m (event.Hand m conn most outs gone ∷ []) pass.front pass'.front) s.number e in
-                by_writing began given pass link x [] s pass' link (with_handed x outs gone) [] more same (subst (λ m. Enters o count m more pass.front pass'.front) (sym s.number) (enters_one o count n more pass.front pass'.front now named))
-                (read_on_hand n conn x.end x.decoder given.left link.left given.take_counted link.take_counted pass.front pass'.front s.writes s.reads more gone (λ g. list_any-append (tells_end conn) s.writes more ∙ or_right (list_any (tells_end conn) s.writes) _ (told_one n conn most outs gone ∙ g)) (entered_begins o n more pass.front pass'.front now) s.read)
-                (hands_without o keeps n conn given.contents link.contents given.put_counted link.put_counted x.gone x.end pass.front s.writes s.written (with_handed x outs gone).end pass'.front most outs gone (entered_begins o n more pass.front pass'.front now) (ended_where_gone gone x.end)))
+            let x = record y { conn = Some conn; write = None; failed = true } in
+            let n = began.number in
+            let more = event.Hand n conn most outs gone ∷ [] in
+            let now = subst (λ m. Entered o m (event.Hand m conn most outs gone ∷ []) pass.front pass'.front) s.number e in
+            by_writing began given pass link x [] s pass' link (with_handed x outs gone) [] more same (subst (λ m. Enters o count m more pass.front pass'.front) (sym s.number) (enters_one o count n more pass.front pass'.front now named))
+            (read_on_hand n conn x.end x.decoder given.left link.left given.take_counted link.take_counted pass.front pass'.front s.writes s.reads more gone (λ g. list_any-append (tells_end conn) s.writes more ∙ or_right (list_any (tells_end conn) s.writes) _ (told_one n conn most outs gone ∙ g)) (entered_begins o n more pass.front pass'.front now) s.read)
+            (hands_without o keeps n conn given.contents link.contents given.put_counted link.put_counted x.gone x.end pass.front s.writes s.written (with_handed x outs gone).end pass'.front most outs gone (entered_begins o n more pass.front pass'.front now) (ended_where_gone gone x.end)))
       ] refl
 
   written_at : (o' : Opened) (keeps' : Bool) (n : ℕ) (conn : ConnNo) (failed : Bool) (c : Course) (a b : Option (List ℕ)) (k l : ℕ) (front front' writes : List Event) → IsPrefix front front' → c.gone ≡ false → IsWritten o' keeps' n conn None failed c a b k l front writes → IsWritten o' keeps' n conn None failed c a b k l front' writes
@@ -344,12 +343,12 @@ module _ (o : Opened) (keeps : Bool) (count : ℕ) where
       → GoesOn o keeps count pass link c [] pass' link c []
   sees pass pass' link c conn is none there same e named = while_writing (λ x. x.gone ≡ false → GoesOn o keeps count pass link x [] pass' link x []) c conn c.failed is none refl
       (λ y there began given s.
-          let x = record y { conn = Some conn; write = None; failed = c.failed } in
-          let n = began.number in
-          by_writing began given pass link x [] s pass' link x [] [] same (enters_one o count pass.number [] pass.front pass'.front e named)
-          (read_meanwhile o keeps n (Some conn) x.end x.decoder given.left link.left given.take_counted link.take_counted pass.front [] s.writes s.reads s.read link.left link.take_counted pass'.front [] (entered_begins o pass.number [] pass.front pass'.front e) refl refl)
-          (subst (λ ws. HasWritten o keeps n (Some conn) x given.contents link.contents given.put_counted link.put_counted pass'.front ws) (sym (append-nil s.writes))
-          (written_at o keeps n conn c.failed x given.contents link.contents given.put_counted link.put_counted pass.front pass'.front s.writes (entered_begins o pass.number [] pass.front pass'.front e) there s.written))) there
+      let x = record y { conn = Some conn; write = None; failed = c.failed } in
+      let n = began.number in
+      by_writing began given pass link x [] s pass' link x [] [] same (enters_one o count pass.number [] pass.front pass'.front e named)
+      (read_meanwhile o keeps n (Some conn) x.end x.decoder given.left link.left given.take_counted link.take_counted pass.front [] s.writes s.reads s.read link.left link.take_counted pass'.front [] (entered_begins o pass.number [] pass.front pass'.front e) refl refl)
+      (subst (λ ws. HasWritten o keeps n (Some conn) x given.contents link.contents given.put_counted link.put_counted pass'.front ws) (sym (append-nil s.writes))
+      (written_at o keeps n conn c.failed x given.contents link.contents given.put_counted link.put_counted pass.front pass'.front s.writes (entered_begins o pass.number [] pass.front pass'.front e) there s.written))) there
 
   -- the connection is gone, and all was put that could be
   pub ends_writing : (pass : Known Event) (link : Shown) (c : Course) (conn : ConnNo) → c.conn ≡ Some conn → c.write ≡ None → c.gone ≡ true → (c.failed ≡ false → c.outgoing ≡ [])
@@ -358,20 +357,20 @@ module _ (o : Opened) (keeps : Bool) (count : ℕ) where
       elim c.failed as (λ f. c.failed ≡ f → GoesOn o keeps count pass link c [] pass link (record c { write = Some (if c.failed then written.WriteFault else written.Done) }) []) [
         | false ↦ λ f. while_writing (λ x. x.gone ≡ true → x.outgoing ≡ [] → GoesOn o keeps count pass link x [] pass link (record x { write = Some (if x.failed then written.WriteFault else written.Done) }) []) c conn false is none f
             (λ y gone empty began given s.
-                let x = record y { conn = Some conn; write = None; failed = false } in
-                let n = began.number in
-                by_writing began given pass link x [] s pass link (record x { write = Some written.Done }) [] [] refl (enters_none o count pass.number pass.front)
-                (read_meanwhile o keeps n (Some conn) x.end x.decoder given.left link.left given.take_counted link.take_counted pass.front [] s.writes s.reads s.read link.left link.take_counted pass.front [] (prefix_self pass.front) refl refl)
-                (subst (λ ws. HasWritten o keeps n (Some conn) (record x { write = Some written.Done }) given.contents link.contents given.put_counted link.put_counted pass.front ws) (sym (append-nil s.writes))
-                (puts_all o keeps n conn given.contents link.contents given.put_counted link.put_counted x.end pass.front s.writes
-                (subst (λ g. IsPutting o n conn g [] x.end given.contents link.contents given.put_counted link.put_counted pass.front s.writes) gone
-                (subst (λ bs. IsPutting o n conn x.gone bs x.end given.contents link.contents given.put_counted link.put_counted pass.front s.writes) empty s.written))))) gone (empty f)
+            let x = record y { conn = Some conn; write = None; failed = false } in
+            let n = began.number in
+            by_writing began given pass link x [] s pass link (record x { write = Some written.Done }) [] [] refl (enters_none o count pass.number pass.front)
+            (read_meanwhile o keeps n (Some conn) x.end x.decoder given.left link.left given.take_counted link.take_counted pass.front [] s.writes s.reads s.read link.left link.take_counted pass.front [] (prefix_self pass.front) refl refl)
+            (subst (λ ws. HasWritten o keeps n (Some conn) (record x { write = Some written.Done }) given.contents link.contents given.put_counted link.put_counted pass.front ws) (sym (append-nil s.writes))
+            (puts_all o keeps n conn given.contents link.contents given.put_counted link.put_counted x.end pass.front s.writes
+            (subst (λ g. IsPutting o n conn g [] x.end given.contents link.contents given.put_counted link.put_counted pass.front s.writes) gone
+            (subst (λ bs. IsPutting o n conn x.gone bs x.end given.contents link.contents given.put_counted link.put_counted pass.front s.writes) empty s.written))))) gone (empty f)
         | true ↦ λ f. while_writing (λ x. x.gone ≡ true → GoesOn o keeps count pass link x [] pass link (record x { write = Some (if x.failed then written.WriteFault else written.Done) }) []) c conn true is none f
             (λ y gone began given s.
-                let x = record y { conn = Some conn; write = None; failed = true } in
-                let n = began.number in
-                by_writing began given pass link x [] s pass link (record x { write = Some written.WriteFault }) [] [] refl (enters_none o count pass.number pass.front)
-                (read_meanwhile o keeps n (Some conn) x.end x.decoder given.left link.left given.take_counted link.take_counted pass.front [] s.writes s.reads s.read link.left link.take_counted pass.front [] (prefix_self pass.front) refl refl)
-                (subst (λ ws. HasWritten o keeps n (Some conn) (record x { write = Some written.WriteFault }) given.contents link.contents given.put_counted link.put_counted pass.front ws) (sym (append-nil s.writes))
-                (went_without o keeps n conn given.contents link.contents given.put_counted link.put_counted x.gone x.end pass.front s.writes s.written gone))) gone
+            let x = record y { conn = Some conn; write = None; failed = true } in
+            let n = began.number in
+            by_writing began given pass link x [] s pass link (record x { write = Some written.WriteFault }) [] [] refl (enters_none o count pass.number pass.front)
+            (read_meanwhile o keeps n (Some conn) x.end x.decoder given.left link.left given.take_counted link.take_counted pass.front [] s.writes s.reads s.read link.left link.take_counted pass.front [] (prefix_self pass.front) refl refl)
+            (subst (λ ws. HasWritten o keeps n (Some conn) (record x { write = Some written.WriteFault }) given.contents link.contents given.put_counted link.put_counted pass.front ws) (sym (append-nil s.writes))
+            (went_without o keeps n conn given.contents link.contents given.put_counted link.put_counted x.gone x.end pass.front s.writes s.written gone))) gone
       ] refl

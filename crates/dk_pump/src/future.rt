@@ -81,8 +81,7 @@ impl<'h, W: Hosting, J: Naming, M: Home, R: Wait, K: Link + Drop> SessionFuture<
 }
 
 impl<W: Hosting, J: Naming, M: Home, R: Wait, K: Link + Drop> Future
-    for SessionFuture<'_, W, J, M, R, K>
-{
+    for SessionFuture<'_, W, J, M, R, K> {
     type Output = SessionDone<W, J, K>;
 
     ghost can_poll = { λ f. IsSome f.underway };

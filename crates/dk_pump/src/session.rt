@@ -131,12 +131,7 @@ impl<W: Hosting, J: Naming, K: Link + Drop> Session<W, J, K> {
     }
 
     // Posts the frames that came, or logs in.
-    fn take_in<M: Home, R: Wait>(
-        &mut self,
-        rt: &R,
-        host: &Host<W, J, M>,
-        frames: Vec<ClientFrame>,
-    )
+    fn take_in<M: Home, R: Wait>(&mut self, rt: &R, host: &Host<W, J, M>, frames: Vec<ClientFrame>)
         requires reads { self.old.course.end ≡ None }
         requires midst { IsMidst W.opened W.keeps J.name.passes self.old.pass self.old.link self.old.course (map frame_of frames.items) }
         ensures goes { GoesOn W.opened W.keeps J.name.passes self.old.pass self.old.link self.old.course (map frame_of frames.items) self.new.pass self.new.link self.new.course [] }
