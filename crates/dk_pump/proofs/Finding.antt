@@ -1,5 +1,5 @@
 -- What a Hand that hands nothing found: a connection with an empty outbox.
-use Rattle.std.proofs.Common.{◌≡◌, ℕ, zero, suc, ◌+◌, ◌≤◌, Bool, true, false, List, [], ◌∷◌, ◌++◌, take, Option, Some, None, is_none, refl, sym, ap, subst, ◌∙◌, arith}
+use Rattle.std.proofs.Common.{◌≡◌, ℕ, zero, suc, ◌≤◌, Bool, false, List, [], ◌∷◌, ◌++◌, take, Option, Some, None, is_none, refl, sym, ap, subst, ◌∙◌, arith}
 use Rattle.std.proofs.lemmas.List.{append-nil, append_cancel_left}
 use Rattle.std.specs.FinMap.{get}
 use Rattle.dk_types.specs.declared.number.ConnNo.{ConnNo}
@@ -9,13 +9,13 @@ use Rattle.dk_types.specs.declared.event.Event.TheVariants as event
 use Rattle.dk_model.specs.Worlds.{World, Connection}
 use Rattle.dk_model.specs.Events.{Meaning, outbox, outbox_at}
 use Rattle.dk_model.specs.Histories.{Leads}
-use Rattle.dk_model.specs.Legal.{Opened, opening_of, world_after}
+use Rattle.dk_model.specs.Legal.{Opened, opening_of}
 use Rattle.dk_model.specs.Messages.{messages, appended_by, handed}
 use Rattle.dk_model.specs.Successors.{after_event}
 use Rattle.dk_laws.proofs.Handed.{messages_handed}
 use Rattle.dk_laws.proofs.OneWorld.{parted, events_lead}
 use Rattle.dk_host.specs.Calls.{Entered}
-use Rattle.dk_pump.specs.Waiting.{HasEmptyOutbox, FindsNothing}
+use Rattle.dk_pump.specs.Waiting.{FindsNothing}
 use Rattle.dk_pump.proofs.WrittenOn.{handed-append, handed_one}
 
 -- a Hand sends nothing

@@ -1,5 +1,5 @@
 -- Two orders in one: more of either goes behind.
-use Rattle.std.proofs.Common.{◌≡◌, List, [], ◌∷◌, ◌++◌, inl, inr, refl, sym, ap, subst}
+use Rattle.std.proofs.Common.{List, [], ◌∷◌, ◌++◌, inl, inr, refl, sym, ap, subst}
 use Rattle.dk_types.specs.declared.event.Event.{Event}
 use Rattle.dk_pump.specs.Sessions.{AreOfBoth}
 

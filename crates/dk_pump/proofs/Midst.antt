@@ -1,12 +1,12 @@
 -- What holds of a session in its midst.
-use Rattle.std.proofs.Common.{◌≡◌, ℕ, ◌<◌, ◌≤◌, length, map, is_some, slice_index_or, arith, Bool, true, false, List, [], ◌∷◌, ◌++◌, Option, Some, None, IsSome, refl, sym, ap, subst, ◌∙◌}
+use Rattle.std.proofs.Common.{◌≡◌, ℕ, ◌<◌, ◌≤◌, length, map, is_some, slice_index_or, arith, Bool, false, List, [], ◌∷◌, ◌++◌, Option, Some, None, IsSome, refl, sym, subst, ◌∙◌}
 use Rattle.std.proofs.Math.Logic.{∥∥₁_map, ∥∥₁_elim}
 use Rattle.std.specs.Coded.{le_prop}
 use denote.Struct.Props.{props}
 use mathlib.Core.Bool.{Bool-set}
 use Rattle.dk_types.specs.declared.number.ConnNo.{ConnNo}
 use Rattle.dk_types.specs.declared.event.Event.{Event}
-use Rattle.dk_model.specs.Frames.{Frame, Stage, AtLogin, InSession, LoggedOut, AreInTurn, IsFrame, Login, Message, Channel, Logout, MayCome, opcode_of, stage_after, stage_behind}
+use Rattle.dk_model.specs.Frames.{Frame, Stage, AtLogin, InSession, LoggedOut, AreInTurn, IsFrame, Login, Message, Channel, Logout, MayCome, opcode_of, stage_behind}
 use Rattle.dk_model.specs.Legal.{Opened}
 use Rattle.dk_frame.specs.declared.frame.ClientFrame.{ClientFrame}
 use Rattle.dk_frame.specs.declared.frame.ClientFrame.TheVariants as client

@@ -1,5 +1,5 @@
 -- One poll of a direction.
-use Rattle.std.proofs.Common.{◌≡◌, ℕ, ◌+◌, ◌-◌, ◌≤◌, length, arith, List, [], ◌++◌, map, take, drop, Vec, Global, Option, Result, Ok, Err, MatchResult, refl, sym, ap, subst, subst₂, ◌∙◌, append_assoc}
+use Rattle.std.proofs.Common.{◌≡◌, ℕ, ◌+◌, ◌-◌, length, arith, List, [], ◌++◌, map, take, drop, Vec, Global, Option, Result, Ok, Err, MatchResult, sym, ap, subst, subst₂, ◌∙◌, append_assoc}
 use Rattle.std.proofs.lemmas.List.{append-nil, length-drop, take_all, take-append-drop}
 use Rattle.std.proofs.Math.Seq.{drop-drop}
 use Rattle.std.specs.Io.KnownBytes.{Keeps}

@@ -4,7 +4,6 @@ use Rattle.std.proofs.lemmas.List.{append-nil}
 use Rattle.std.specs.Io.KnownBytes.{Consumes}
 use Rattle.dk_types.specs.declared.number.ConnNo.{ConnNo}
 use Rattle.dk_types.specs.declared.event.Event.{Event}
-use Rattle.dk_types.specs.declared.event.Event.TheVariants as event
 use Rattle.dk_model.specs.Frames.{Frame, Stage, Login, InSession, AreInTurn, stage_after}
 use Rattle.dk_model.specs.Legal.{Opened}
 use Rattle.dk_connections.specs.declared.answers.PostRefused.{PostRefused}
@@ -16,7 +15,7 @@ use Rattle.dk_pump.specs.declared.ends.SessionEnd.TheVariants as ends
 use Rattle.dk_pump.specs.declared.posting.Progress.TheVariants as progress
 use Rattle.dk_pump.specs.Ends.{end_of_post}
 use Rattle.dk_pump.specs.Passes.{Enters}
-use Rattle.dk_pump.specs.Reading.{inputs_of, taken, StopsAt, PostsFrames, IsRead, IsCause, IsOfRead, Counts, Loses, HasStream, IsNextRead, IsNextEnd, IsGreeted, IsPosted, ReadsTo, IsClosed, ReadsSession}
+use Rattle.dk_pump.specs.Reading.{inputs_of, taken, PostsFrames, IsRead, IsCause, Counts, Loses, HasStream, IsNextRead, IsNextEnd, IsGreeted, IsPosted, ReadsTo, IsClosed, ReadsSession}
 use Rattle.dk_pump.proofs.Entering.{enters_none, enters_then, enters_as}
 use Rattle.dk_pump.proofs.PostedFrames.{inputs-append, taken-append}
 use Rattle.dk_pump.proofs.PostedBehind.{posted_whole, posted_to_end, refused_behind}

@@ -1,5 +1,5 @@
 -- The reading of a polled session goes on, and comes to its end.
-use Rattle.std.proofs.Common.{◌≡◌, ◌||◌, ℕ, ◌≤◌, Bool, true, false, List, [], ◌∷◌, ◌++◌, Option, Some, None, Result, Ok, Err, inl, inr, refl, sym, ap, subst, ◌∙◌, append_assoc}
+use Rattle.std.proofs.Common.{◌≡◌, ◌||◌, ℕ, ◌≤◌, Bool, true, false, List, [], ◌∷◌, ◌++◌, Option, Some, None, Ok, Err, inl, inr, refl, sym, ap, subst, ◌∙◌, append_assoc}
 use Rattle.std.proofs.lemmas.List.{append-nil}
 use Rattle.std.proofs.lemmas.List.Folds.{list_any-append}
 use Rattle.std.specs.List.{list_any}
@@ -21,8 +21,8 @@ use Rattle.dk_pump.specs.declared.ends.SessionEnd.{SessionEnd}
 use Rattle.dk_pump.specs.declared.ends.SessionEnd.TheVariants as ends
 use Rattle.dk_pump.specs.declared.posting.Progress.TheVariants as progress
 use Rattle.dk_pump.specs.Ends.{end_of_connect}
-use Rattle.dk_pump.specs.Reading.{inputs_of, taken, Posts, IsCause, Counts, Loses, IsOfRead, IsNextEnd, ConnectsBy, IsPosted, Closes}
-use Rattle.dk_pump.specs.Sessions.{IsPolledRead, IsInSession, EndsAsRead, IsCutOff, IsReadOut, AreReads, StopsBy, HasRead}
+use Rattle.dk_pump.specs.Reading.{inputs_of, taken, Posts, Counts, IsOfRead, IsNextEnd, ConnectsBy, IsPosted, Closes}
+use Rattle.dk_pump.specs.Sessions.{IsPolledRead, IsInSession, IsReadOut, AreReads, StopsBy, HasRead}
 use Rattle.dk_pump.specs.Writing.{tells_end}
 use Rattle.dk_pump.proofs.Connected.{connects_none}
 use Rattle.dk_turn.proofs.Beginnings.{prefix_self}

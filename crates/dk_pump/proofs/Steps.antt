@@ -1,5 +1,5 @@
 -- The steps of a polled session: whatever it began with, what it did goes on.
-use Rattle.std.proofs.Common.{◌≡◌, ◌||◌, ℕ, ◌<◌, ◌≤◌, Bool, true, false, cond, List, [], ◌∷◌, ◌++◌, Option, Some, None, Result, Ok, Err, IsSome, unwrap_or, if◌then◌else◌, refl, sym, ap, subst, ◌∙◌, append_assoc}
+use Rattle.std.proofs.Common.{◌≡◌, ℕ, ◌<◌, ◌≤◌, Bool, true, false, cond, List, [], ◌∷◌, ◌++◌, Option, Some, None, Ok, Err, IsSome, unwrap_or, if◌then◌else◌, refl, sym, subst, ◌∙◌}
 use Rattle.std.proofs.lemmas.List.{append-nil}
 use Rattle.std.proofs.lemmas.List.Folds.{list_any-append}
 use Rattle.std.specs.List.{All, list_any}
@@ -24,15 +24,14 @@ use Rattle.dk_turn.proofs.Beginnings.{prefix_self}
 use Rattle.dk_pump.specs.declared.limits.TheConstants.{SESSION_MOST_BYTES}
 use Rattle.dk_pump.specs.declared.ends.SessionEnd.{SessionEnd}
 use Rattle.dk_pump.specs.declared.ends.SessionEnd.TheVariants as ends
-use Rattle.dk_pump.specs.declared.ends.WriteEnd.{WriteEnd}
 use Rattle.dk_pump.specs.declared.ends.WriteEnd.TheVariants as written
 use Rattle.dk_pump.specs.declared.course.Course.{Course}
 use Rattle.dk_pump.specs.declared.posting.Progress.TheVariants as progress
 use Rattle.dk_pump.specs.Ends.{end_of_connect, end_of_post}
 use Rattle.dk_pump.specs.Passes.{Enters}
-use Rattle.dk_pump.specs.Reading.{inputs_of, taken, PostsFrames, IsOfRead, IsNextEnd, IsPosted, IsClosed, Closes, Disconnects}
-use Rattle.dk_pump.specs.Writing.{frames_of, tells_end}
-use Rattle.dk_pump.specs.Sessions.{Shown, KeepsPut, KeepsTake, IsPolledRead, AreReads, HasRead, IsPutting, IsWritten, HasWritten, IsSession, GoesOn, EndsReading, with_handed}
+use Rattle.dk_pump.specs.Reading.{inputs_of, taken, PostsFrames, IsOfRead, IsNextEnd, IsPosted, IsClosed, Disconnects}
+use Rattle.dk_pump.specs.Writing.{tells_end}
+use Rattle.dk_pump.specs.Sessions.{Shown, KeepsPut, KeepsTake, IsPolledRead, HasRead, IsPutting, IsWritten, HasWritten, IsSession, GoesOn, EndsReading, with_handed}
 use Rattle.dk_pump.proofs.Entering.{enters_none, enters_one, enters_then}
 use Rattle.dk_pump.proofs.InOrder.{reads_behind, writes_behind}
 use Rattle.dk_pump.proofs.Later.{prefix_then, entered_begins}

@@ -20,9 +20,9 @@ use Rattle.dk_pump.specs.declared.ends.WriteEnd.TheVariants as ends
 use Rattle.dk_pump.specs.declared.course.Course.{Course}
 use Rattle.dk_frame.specs.Decoding.{Decoding}
 use Rattle.dk_pump.specs.Reading.{EndsSession}
-use Rattle.dk_pump.specs.Writing.{frames_of, AreHands, tells_end, hands_to, IsHandedOut, IsGivenUp, IsAll}
-use Rattle.dk_pump.specs.Sessions.{IsPutting, IsGoingWithout, IsWrittenOut, IsUnwritten, IsWritten, HasWritten}
-use Rattle.dk_pump.proofs.Streams.{appends_none, appends_then}
+use Rattle.dk_pump.specs.Writing.{frames_of, AreHands, tells_end, IsHandedOut, IsGivenUp}
+use Rattle.dk_pump.specs.Sessions.{IsPutting, IsGoingWithout, IsWrittenOut, IsUnwritten, IsWritten}
+use Rattle.dk_pump.proofs.Streams.{appends_then}
 use Rattle.dk_pump.proofs.WrittenOn.{part_of_more, part_then, part_wider, frames_of-append, handed-append, handed_one, hand_one, told_one, hands-append, handed_by_hands, all_handed, or_right, ended_on}
 
 -- a value is there, and is not

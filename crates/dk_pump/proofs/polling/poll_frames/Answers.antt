@@ -2,11 +2,10 @@ use Rattle.std.proofs.Common.{◌≡◌, ◌+◌, ◌≤◌, [], map, refl, sym,
 use Rattle.std.proofs.Math.Logic.{∥∥₁_elim, ∥∥₁_map}
 use Rattle.std.specs.Coded.{le_prop}
 use Rattle.dk_frame.specs.Meanings.{frame_of}
-use Rattle.dk_pump.specs.declared.limits.TheConstants.{SESSION_MOST_BYTES}
 use Rattle.dk_pump.specs.declared.ends.SessionEnd.{SessionEnd}
 use Rattle.dk_pump.specs.Reading.{IsNextEnd}
 use Rattle.dk_pump.proofs.Connected.{empty_is}
-use Rattle.dk_pump.proofs.OnePiece.{IsIdle, idle_merely, idle_stream, fed_more, refused_fed, budget_end, piece_fits, refused_end}
+use Rattle.dk_pump.proofs.OnePiece.{idle_merely, idle_stream, fed_more, refused_fed, budget_end, piece_fits, refused_end}
 use Rattle.dk_pump.proofs.PutParts.{polled_from, waited_from}
 use Rattle.dk_pump.proofs.Streams.{consumes_none}
 use Rattle.dk_pump.proofs.polling.poll_frames.Goals as goal

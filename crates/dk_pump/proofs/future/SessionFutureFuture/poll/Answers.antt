@@ -1,4 +1,3 @@
-use Rattle.std.proofs.Common.{[]}
 use Rattle.dk_pump.proofs.Midst.{midst_of, session_ended, session_on}
 use Rattle.dk_pump.proofs.future.SessionFutureFuture.poll.Goals as goal
 

@@ -1,4 +1,4 @@
-use Rattle.std.proofs.Common.{◌≡◌, ◌-◌, Ok, take, drop, length, sym, subst, ap, ◌∙◌}
+use Rattle.std.proofs.Common.{◌≡◌, ◌-◌, take, drop, length, subst}
 use Rattle.dk_edge.specs.Links.{AppendsSome, PollPuts, Counts}
 use Rattle.futures.specs.declared.task.Poll.TheVariants.{Ready}
 use Rattle.dk_pump.proofs.PutParts.{put_more, rest_of}

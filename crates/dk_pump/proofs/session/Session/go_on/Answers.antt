@@ -1,6 +1,5 @@
-use Rattle.std.proofs.Common.{◌≡◌, [], None, IsSome, sym, subst, ◌∙◌}
+use Rattle.std.proofs.Common.{◌≡◌, [], IsSome, subst, ◌∙◌}
 use Rattle.futures.specs.declared.task.Poll.TheVariants.{Pending}
-use Rattle.dk_pump.specs.Sessions.{IsMidst}
 use Rattle.dk_pump.specs.Waiting.{IsStill}
 use Rattle.dk_pump.proofs.Later.{armed_of, later_then, may_wait}
 use Rattle.dk_pump.proofs.Midst.{midst_on, midst_over, midst_there}

@@ -1,4 +1,4 @@
-use Rattle.std.proofs.Common.{[], Ok, Err, Some, map, sym, subst}
+use Rattle.std.proofs.Common.{[], Ok, Some, map, sym, subst}
 use Rattle.dk_frame.specs.Meanings.{frame_of}
 use Rattle.dk_pump.specs.declared.ends.SessionEnd.{SessionEnd}
 use Rattle.dk_pump.specs.declared.ends.SessionEnd.TheVariants as ends

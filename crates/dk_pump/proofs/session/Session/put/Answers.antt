@@ -1,4 +1,4 @@
-use Rattle.std.proofs.Common.{◌≡◌, ℕ, List, [], true, Ok, Err, sym, subst}
+use Rattle.std.proofs.Common.{ℕ, List, [], true, Ok, Err, sym, subst}
 use Rattle.std.specs.Io.KnownBytes.{Appends}
 use Rattle.futures.specs.declared.task.Poll.TheVariants.{Ready}
 use Rattle.dk_pump.specs.declared.putting.PutRefused.TheVariants as refused
