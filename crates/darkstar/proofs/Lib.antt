@@ -1,17 +1,7 @@
-pub mod Alls
-pub mod Led
-pub mod Meant
-pub mod Opened
-pub mod Entered
-pub mod Handed
-pub mod Ran
-pub mod Phasing
 pub mod PlayOrder
 pub mod SinkPieces
 pub mod Fronts
 pub mod Told
-pub mod ReportEnds
-pub mod Askings
 pub mod Meanings
 pub mod Passing
 pub mod Rounds
@@ -21,3 +11,9 @@ pub mod Standing
 pub mod Playing
 pub mod Closing
 pub mod Closed
+pub mod ReportEnds
+pub mod Askings
+pub mod RunLaws
+pub mod PlayEnds
+pub mod OpenEnds
+pub mod PlayAfter

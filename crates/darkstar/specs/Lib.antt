@@ -2,8 +2,10 @@ pub mod Statuses
 pub mod Headline
 pub mod Reports
 pub mod Asked
+pub mod Games
+pub mod Runs
+pub mod Ends
 pub mod Reading
-pub mod Plays
 pub mod Logins
 pub mod Faults
 pub mod Lines

@@ -14,7 +14,7 @@ use Rattle.dk_model.specs.Orders.{AreInTurn, order_of}
 use Rattle.dk_model.specs.Transcripts.{IsTranscript}
 use Rattle.dk_core.specs.Listings.{world_of}
 use Rattle.dk_turn.specs.Fronts.{Known}
-use Rattle.dk_host.specs.Stores.{CountsOn, EndsAs}
+use Rattle.dk_host.specs.Stores.{EndsAs}
 use Rattle.dk_play_laws.specs.BudgetLaw.{IsBudgetSpent}
 use Rattle.dk_play_laws.specs.LineEvents.{Said}
 use Rattle.dk_play_laws.specs.Phased.{HavePlayed, IsBetween, IsSpentAt}
@@ -115,7 +115,6 @@ pub record IsPlayOn (o : Opened) (workers : ℕ) (asked : Bool) (script : List (
   pub epoch : ℕ
   pub legal : IsLegal o history
   pub ended : IsTrue tells → EndsAs o began past history faults epoch
-  pub counts : CountsOn before faults after
   pub text_of : IsTextOf o workers asked script history faults first epoch before after text
 
 -- or there was no memory to open the host, and the home is as it was

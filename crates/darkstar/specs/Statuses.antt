@@ -16,6 +16,17 @@ IsOkOrNoMemory status.Ok = ⊤
 IsOkOrNoMemory status.NoMemory = ⊤
 IsOkOrNoMemory other = ⊥
 
+-- done, or a fault that neither the words, the script nor the files decide
+abbrev pub IsOkOrLimit : Status → Type 0
+IsOkOrLimit status.Ok = ⊤
+IsOkOrLimit status.NoMemory = ⊤
+IsOkOrLimit status.DiskFault = ⊤
+IsOkOrLimit status.WriteFault = ⊤
+IsOkOrLimit (status.Budget granted) = ⊤
+IsOkOrLimit (status.JournalFull length) = ⊤
+IsOkOrLimit (status.Exhausted next) = ⊤
+IsOkOrLimit other = ⊥
+
 -- done, or a fault that neither the words nor the files decide
 abbrev pub IsOkOrOfDevice : Status → Type 0
 IsOkOrOfDevice status.Ok = ⊤

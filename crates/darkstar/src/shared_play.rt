@@ -18,6 +18,8 @@ mod logins;
 mod phases;
 mod saving;
 mod staging;
+#[cfg(test)]
+mod tests;
 mod text;
 
 use dk_disk::Home;
@@ -71,11 +73,9 @@ fn play_on_ledgers<
     requires first { store.journal.epoch ≡ W.first }
     requires opening { M.opening store.home ≡ W.opening }
     requires counted { M.counted store.home ≡ W.counted }
-    requires before { before ≡ W.counted }
     requires keeps { W.keeps ≡ true }
     requires stand { AllStand sets.empty script.now }
-    ensures play { IsUnopened store.home result.home result.text ⊎ IsPlayOn W.opened workers asked script.now M.tells W.began (M.past result.home) W.first before (M.counted result.home) result.text }
-    ensures opening { M.opening result.home ≡ W.opening }
+    ensures { IsUnopened store.home result.home result.text ⊎ IsPlayOn W.opened workers asked script.now M.tells W.began (M.past result.home) W.first before (M.counted result.home) result.text }
 {
     match Blank::new(alloc, workers + 1) {
         Ok(blank) => play_on_turn::<W, Brand, G, M, T, R>(
@@ -105,9 +105,7 @@ pub fn play_store<G: Game + Sync, M: Home + Send, T: Gate + Sync, R: Threads + W
 ) -> Played<M>
     requires workers { workers < PASSES_MOST_COUNT }
     requires stand { AllStand sets.empty script.now.phases }
-    requires counted { M.counted store.home ≡ before }
-    ensures play { IsUnopened store.home result.home result.text ⊎ IsPlayOn (opened_on (G.rules game.now) store.durable budget) workers checkpoint script.now.phases M.tells (M.past store.home) (M.past result.home) store.journal.epoch before (M.counted result.home) result.text }
-    ensures opening { M.opening result.home ≡ M.opening store.home }
+    ensures { IsUnopened store.home result.home result.text ⊎ IsPlayOn (opened_on (G.rules game.now) store.durable budget) workers checkpoint script.now.phases M.tells (M.past store.home) (M.past result.home) store.journal.epoch before (M.counted result.home) result.text }
 {
     let commits = ledger::Blank::new(1);
     let places = ledger::Blank::new(1);

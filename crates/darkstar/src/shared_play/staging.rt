@@ -103,11 +103,9 @@ pub(crate) fn play_on_turn<
     requires first { store.journal.epoch ≡ W.first }
     requires opening { M.opening store.home ≡ W.opening }
     requires counted { M.counted store.home ≡ W.counted }
-    requires before { before ≡ W.counted }
     requires keeps { W.keeps ≡ true }
     requires stand { AllStand sets.empty script.now }
-    ensures play { IsUnopened store.home result.home result.text ⊎ IsPlayOn W.opened workers asked script.now M.tells W.began (M.past result.home) W.first before (M.counted result.home) result.text }
-    ensures opening { M.opening result.home ≡ W.opening }
+    ensures { IsUnopened store.home result.home result.text ⊎ IsPlayOn W.opened workers asked script.now M.tells W.began (M.past result.home) W.first before (M.counted result.home) result.text }
 {
     let opened = Host::<W, J, M>::open(alloc, blank, commits, places, store, Some(budget), true);
     let (host, mut passes) = match opened {
