@@ -1,10 +1,10 @@
 //! The program over streams in memory, as rows of data. The transcripts are worked by hand.
 
-use crate::program::{Ran, run};
+use crate::program::run;
 use dk_disk::MemoryHome;
 use dk_edge::{MemorySink, MemorySource};
 use dk_status::Status;
-use dk_types::{NoMemory, Side, Words};
+use dk_types::{NoMemory, Words};
 use std::alloc::{AllocError, Global};
 use std::test::Fail;
 
@@ -185,60 +185,6 @@ done commits 3 tasks 0
     ),
 ];
 
-/// The store after the first run, in hexadecimal: its header, the record of that run, and the closed gate behind it.
-const STORE: &str = "01 4441524b53544152 0002 0000000000000000 0b 73776f72642d776f726c64
- 000000000000000000000000000000000000000000000000000000000000000000
- 01 00000087 00000001 0000000000000001 0000000000000000
- 00000002 0000000000000000 00000000 0002 0000000e 0d61207368696e792073776f7264
- 0000000000000000 00000001 0001 00000014 0000000000000001000000000000000000000000
- 00000000 00000001 04 526f6f6d 0000000000000000 00000001 00000000 00000000 00000000 00000000 00";
-
-/// The same with another run's number, which does not fit behind no run.
-const DAMAGED: &str = "01 4441524b53544152 0002 0000000000000000 0b 73776f72642d776f726c64
- 000000000000000000000000000000000000000000000000000000000000000000
- 01 00000030 00000001 0000000000000002 0000000000000000
- 00000000 00000000 00000000 00000000 00000000 00000000 00000000 00";
-
-/// Sixty-six bytes `A`.
-const LETTERS: &str = "414141414141414141414141414141414141414141414141414141414141414141
- 414141414141414141414141414141414141414141414141414141414141414141";
-
-const WORLD: &str =
-    "{\"commits\":1,\"game\":\"sword-world\",\"last_run\":0,\"names\":[[\"Room\",\"0.1\"]],\"objects\":[[\"0.0\",2,\"0d61207368696e792073776f7264\"],[\"0.1\",1,\"0000000000000001000000000000000000000000\"]],\"tasks\":[]}\n";
-
-const NO_WORLD: &str =
-    "{\"commits\":0,\"game\":\"timer\",\"last_run\":null,\"names\":[],\"objects\":[],\"tasks\":[]}\n";
-
-/// Words, what the first file of the home has, the number of the first call that fails and after which all is well, how the
-/// command ends, and what it writes. Call 0 is the opening.
-const REPORTS: [(&str, &str, Option<u64>, u8, &str); 20] = [
-    ("check D", "", None, 0, "empty\n"),
-    ("check D", "01", None, 0, "empty\n"),
-    ("check D", STORE, None, 0, "ok 1 commits 205 bytes\n"),
-    (
-        "check D --game sword-world",
-        STORE,
-        None,
-        0,
-        "ok 1 commits 205 bytes\n",
-    ),
-    ("inspect D", STORE, None, 0, WORLD),
-    ("inspect D --game timer", "", None, 0, NO_WORLD),
-    ("check D --game channels", STORE, None, 9, ""),
-    ("inspect D --game timer", STORE, None, 9, ""),
-    ("check D", LETTERS, None, 7, ""),
-    ("check D", DAMAGED, None, 8, ""),
-    ("inspect D", DAMAGED, None, 8, ""),
-    ("check D", STORE, Some(0), 3, ""),
-    ("check D", STORE, Some(1), 3, ""),
-    ("inspect D", STORE, Some(4), 3, ""),
-    ("", "", None, 2, ""),
-    ("dance D", STORE, None, 2, ""),
-    ("check", STORE, None, 2, ""),
-    ("check D E", STORE, None, 2, ""),
-    ("check D --game chess", STORE, None, 2, ""),
-    ("inspect D --budget 1", STORE, None, 2, ""),
-];
 // The words, parted by spaces.
 fn words_of(alloc: Global, text: &str) -> Result<Words, NoMemory> {
     let mut words = Words::new(alloc);
@@ -246,25 +192,6 @@ fn words_of(alloc: Global, text: &str) -> Result<Words, NoMemory> {
         words.push(word)?;
     }
     Ok(words)
-}
-
-// The bytes that the hexadecimal digits spell. Spaces and ends of lines are passed over.
-fn bytes_of(alloc: Global, digits: &str) -> Result<Vec<u8>, AllocError> {
-    let mut bytes = Vec::new(alloc);
-    let mut high = None;
-    for letter in digits.chars() {
-        let Some(digit) = letter.to_digit(16) else {
-            continue;
-        };
-        high = match high {
-            None => Some(digit),
-            Some(first) => {
-                bytes.push((first * 16 + digit) as u8)?;
-                None
-            }
-        };
-    }
-    Ok(bytes)
 }
 
 // What `play` answers of these bytes, given in pieces of ten, and the sink. The call of this number fails on either stream,
@@ -320,46 +247,5 @@ fn each_failing_call_of_a_stream_stops_it(rt: HostRuntime) -> Result<(), Fail> {
     let (status, _, out) = played(alloc, script, 0, 1)?;
     assert_eq!(rt; status, Status::WriteFault);
     assert_eq!(rt; out.contents(), &HEAD.as_bytes()[..5]);
-    Ok(())
-}
-
-// The command over a home whose first file has these bytes, a source that fails, and this sink.
-fn reported(
-    alloc: Global,
-    words: &str,
-    zero: &str,
-    failing: Option<u64>,
-    out: &mut MemorySink,
-) -> Result<Ran<MemoryHome>, AllocError> {
-    let mut input = MemorySource::in_pieces(Vec::new(alloc), [1].to_vec(alloc)?, 1);
-    let words = words_of(alloc, words).map_err(|_| AllocError)?;
-    let calls = [failing.unwrap_or(0)].to_vec(alloc)?;
-    let zero = bytes_of(alloc, zero)?;
-    let home = MemoryHome::new(alloc, zero, Vec::new(alloc), calls, failing == Some(0));
-    Ok(run(alloc, &words, &mut input, out, home))
-}
-
-#[test]
-fn reports_are_written_as_worked(rt: HostRuntime) -> Result<(), Fail> {
-    let alloc = rt.alloc();
-    for (words, zero, failing, code, text) in REPORTS {
-        let mut out = MemorySink::tearing(alloc, [0].to_vec(alloc)?, 0);
-        let ran = reported(alloc, words, zero, failing, &mut out)?;
-        assert_eq!(rt; ran.status.code(), code, "{words:?}");
-        assert_eq!(rt; out.contents(), text.as_bytes(), "{words:?}");
-        let kept = bytes_of(alloc, zero)?;
-        assert_eq!(rt; ran.home.contents(Side::Zero), kept.as_slice(), "{words:?}");
-        assert!(rt; ran.home.contents(Side::One).is_empty(), "{words:?}");
-    }
-    Ok(())
-}
-
-#[test]
-fn a_failing_sink_is_told(rt: HostRuntime) -> Result<(), Fail> {
-    let alloc = rt.alloc();
-    let mut out = MemorySink::tearing(alloc, [1].to_vec(alloc)?, 4);
-    let ran = reported(alloc, "check D", STORE, None, &mut out)?;
-    assert_eq!(rt; ran.status, Status::WriteFault);
-    assert_eq!(rt; out.contents(), "ok 1".as_bytes());
     Ok(())
 }
