@@ -1,3 +1,9 @@
 pub mod Turns
 pub mod Greeting
 pub mod Names
+pub mod CountersLeft
+pub mod SmallWorlds
+pub mod CountersBegin
+pub mod CountersRaise
+pub mod CountersCounting
+pub mod CountersHistory

@@ -4,6 +4,7 @@ pub mod Raising
 pub mod RaisingLawful
 pub mod CountersRules
 pub mod CountersLawful
+pub mod CountersTotals
 pub mod TimerRules
 pub mod TimerLawful
 pub mod Commands

@@ -35,7 +35,7 @@ impl Counters {
 }
 
 /// The name of a counter: `c.` and its number in two digits.
-pub(crate) fn counter_name(alloc: Global, number: u8) -> Result<Name, NoMemory>
+pub fn counter_name(alloc: Global, number: u8) -> Result<Name, NoMemory>
     requires { number < 16 }
     ensures { IfOk result (λ name. name ≡ rules.counter_name number) }
 {

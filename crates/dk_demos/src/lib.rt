@@ -8,10 +8,11 @@
 pub use channels::Channels;
 pub use commands::Command;
 pub use counter::Counter;
-pub use counters::{Counters, make_all, raise};
+pub use counters::{Counters, counter_name, make_all, raise};
 pub use greeter::Greeter;
 pub use guest::Guest;
 pub use timer::Timer;
+pub use totals::counters_come_to_totals;
 
 pub mod channels;
 pub mod commands;
@@ -20,3 +21,4 @@ pub mod counters;
 pub mod greeter;
 pub mod guest;
 pub mod timer;
+pub mod totals;
