@@ -1,15 +1,13 @@
 -- What words ask for.
-use Rattle.std.proofs.Common.{◌≡◌, ◌∙◌, ⊎_elim, Bool, true, false, IsTrue, ℕ, List, Result, Err, sum, sym, ap, subst, arith, Some}
+use Rattle.std.proofs.Common.{◌≡◌, ◌∙◌, ⊎_elim, ℕ, List, Result, Ok, Err, sym, ap, subst}
 use Rattle.dk_command.specs.declared.command.Command.{Command}
 use Rattle.dk_command.specs.declared.parse.CommandRefused.{CommandRefused}
 use Rattle.dk_command.specs.declared.parse.CommandRefused.TheVariants.{Usage, NoMemory}
-use Rattle.dk_command.specs.declared.command.Command.TheVariants as command
-use Rattle.clap.specs.Words.{App}
-use Rattle.dk_command.specs.Grammar.{app_named, check_app, inspect_app, play_app}
 use Rattle.dk_command.specs.Commands.{IsCommandLine, IsCommandOf}
-use Rattle.dk_command.specs.Requests.{Asks, Report, Reports, Request, request_of}
-use Rattle.darkstar.specs.Headline.{play_words, IsAsked}
+use Rattle.dk_command.specs.Requests.{Asks, Playing, Plays, Report, Reports, Request, request_of}
+use Rattle.darkstar.specs.Asked.{IsAsked}
 use Rattle.darkstar.specs.Reports.{ForReport}
+use Rattle.darkstar.specs.Runs.{ForPlay}
 
 -- words that ask for something are a command line
 pub asks_line : (words : List (List ℕ)) (request : Request) → Asks words request → IsCommandLine words
@@ -20,36 +18,29 @@ asks_line words request asks = asks.1.0
 pub for_report : (words : List (List ℕ)) (mine : Report) (command : Command) → ((request : Request) → Asks words request → request_of command ≡ request) → request_of command ≡ Reports mine → (P : Report → Type 0) → P mine → ForReport words P
 for_report words mine command one is P has report asks = let e : Reports mine ≡ Reports report = sym is ∙ one (Reports report) asks in let same : mine ≡ report = cc in subst P same has
 
--- the name of a subcommand, as a number
-mark : App → ℕ
-mark app = sum app.top.name
+-- the one play that the words ask for
+pub for_play : (words : List (List ℕ)) (mine : Playing) (command : Command) → ((request : Request) → Asks words request → request_of command ≡ request) → request_of command ≡ Plays mine → (P : Playing → Type 0) → P mine → ForPlay words P
+for_play words mine command one is P has play asks = let e : Plays mine ≡ Plays play = sym is ∙ one (Plays play) asks in let same : mine ≡ play = cc in subst P same has
 
--- `play` alone asks for no report
-not_play_here : (c : Command) (report : Report) → IsCommandOf play_words c → request_of c ≡ Reports report → ⊥
-unfolding IsCommandOf app_named play_app check_app inspect_app mark
-not_play_here (command.Play dir game workers budget checkpoint) report is asks = cc
-not_play_here (command.Serve dir port game workers clients sessions) report is asks = cc
-not_play_here (command.Check dir game) report is asks = let apps : play_app ≡ check_app = let same : Some play_app ≡ Some check_app = is.1 in cc in let marks : mark play_app ≡ mark check_app = ap mark apps in omega (arith, marks)
-not_play_here (command.Inspect dir game) report is asks = let apps : play_app ≡ inspect_app = let same : Some play_app ≡ Some inspect_app = is.1 in cc in let marks : mark play_app ≡ mark inspect_app = ap mark apps in omega (arith, marks)
-not_play_here (command.Stress seed tasks workers) report is asks = cc
+-- words that ask for a play ask for no report, and the other way round
+pub play_alone : (words : List (List ℕ)) (mine : Playing) (command : Command) → ((request : Request) → Asks words request → request_of command ≡ request) → request_of command ≡ Plays mine → (report : Report) → Asks words (Reports report) → ⊥
+play_alone words mine command one is report asks = let e : Plays mine ≡ Reports report = sym is ∙ one (Reports report) asks in cc
 
-pub not_play : (words : List (List ℕ)) → words ≡ play_words → (report : Report) → Asks words (Reports report) → ⊥
-not_play words is report asks = not_play_here asks.0 report (subst (λ w. IsCommandOf w asks.0) is asks.1) asks.2
+pub report_alone : (words : List (List ℕ)) (mine : Report) (command : Command) → ((request : Request) → Asks words request → request_of command ≡ request) → request_of command ≡ Reports mine → (play : Playing) → Asks words (Plays play) → ⊥
+report_alone words mine command one is play asks = let e : Reports mine ≡ Plays play = sym is ∙ one (Plays play) asks in cc
 
 -- words that are no command line ask for nothing
+pub no_play : (words : List (List ℕ)) → ¬ IsCommandLine words → (play : Playing) → Asks words (Plays play) → ⊥
+no_play words outside play asks = outside (asks_line words (Plays play) asks)
+
 pub no_report : (words : List (List ℕ)) → ¬ IsCommandLine words → (report : Report) → Asks words (Reports report) → ⊥
 no_report words outside report asks = outside (asks_line words (Reports report) asks)
 
--- words that are no play and ask for no report ask for nothing that is done
-pub not_asked : (words : List (List ℕ)) → (words ≡ play_words → ⊥) → ((report : Report) → Asks words (Reports report) → ⊥) → IsAsked words → ⊥
-not_asked words no_play none is = ⊎_elim no_play (λ asks. none asks.0 asks.1) is
+pub not_asked : (words : List (List ℕ)) → ((play : Playing) → Asks words (Plays play) → ⊥) → ((report : Report) → Asks words (Reports report) → ⊥) → IsAsked words → ⊥
+not_asked words play report is = ⊎_elim (λ asks. play asks.0 asks.1) (λ asks. report asks.0 asks.1) is
 
 -- words that were refused as no command
 pub refused_line : (words : List (List ℕ)) (e : CommandRefused) → e ≡ Usage
     → ((◌≡◌ {A = Result Command CommandRefused} (Err e) (Err NoMemory) → ⊥) → (◌≡◌ {A = Result Command CommandRefused} (Err e) (Err Usage) → ¬ IsCommandLine words) × (¬ IsCommandLine words → ◌≡◌ {A = Result Command CommandRefused} (Err e) (Err Usage)))
     → ¬ IsCommandLine words
 refused_line words e is usage = (usage (λ no. let same : e ≡ NoMemory = cc in cc)).0 (ap Err is)
-
--- a test that failed
-pub untrue : (b : Bool) → b ≡ false → IsTrue b → ⊥
-untrue b is holds = let same : b ≡ true = holds in cc

@@ -1,19 +1,20 @@
 -- Which line is told of a source's bytes.
 use Rattle.std.proofs.Common.{◌≡◌, ℕ, Option, Some, None, List, IsSomeAnd, subst}
 use Rattle.std.specs.Prelude.{IfSome}
+use Rattle.dk_model.specs.declared.script.Line.{Line}
 use Rattle.dk_model.specs.Scripts.{IsScript, IsBadLine}
 use Rattle.dk_script.proofs.ScriptOnce.{scripts-are_read}
-use Rattle.darkstar.specs.Headline.{IsPlayable, IsReadPlay}
+use Rattle.darkstar.specs.Headline.{IsPlayable, IsReadScript}
 
 -- nothing is asked
 pub told_free : (o : Option (List ℕ)) (line : ℕ) → IfSome o (λ bytes. IsBadLine bytes line → Unit {0})
 told_free None line = tt
 told_free (Some xs) line = λ bad. tt
 
--- bytes that were played have no bad line
-pub told_played : (o left' : Option (List ℕ)) (text : List ℕ) (line : ℕ) → IsReadPlay o left' text → IfSome o (λ bytes. IsBadLine bytes line → ⊥)
-told_played None left' text line p = tt
-told_played (Some xs) left' text line p = λ bad. (scripts-are_read xs).not_both p.phases line (subst (λ (l : List ℕ). IsScript l p.phases) p.read.all.0 p.read.script) bad
+-- bytes that were read as a script have no bad line
+pub told_read : (o left' : Option (List ℕ)) (phases : List (List Line)) (line : ℕ) → IsReadScript o left' phases → IfSome o (λ bytes. IsBadLine bytes line → ⊥)
+told_read None left' phases line p = tt
+told_read (Some xs) left' phases line p = λ bad. (scripts-are_read xs).not_both phases line (subst (λ (l : List ℕ). IsScript l phases) p.all.0 p.script) bad
 
 -- a bad line is the only one
 pub told_once : (o : Option (List ℕ)) (line told : ℕ) → IfSome o (λ bytes. IsBadLine bytes told) → IfSome o (λ bytes. IsBadLine bytes line → told ≡ line)

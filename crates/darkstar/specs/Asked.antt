@@ -1,9 +1,15 @@
--- A report of the program, as what the words ask for.
-use Rattle.std.specs.Prelude.{string_bytes}
+-- What the words ask for, of what the program does.
+use Rattle.std.specs.Prelude.{◌⊎◌, List, ℕ, string_bytes}
 use Rattle.dk_command.specs.Requests as requests
 use Rattle.darkstar.specs.declared.report.Kind.{Kind}
 use Rattle.darkstar.specs.declared.report.Kind.TheVariants as kind
 use Rattle.darkstar.specs.declared.report.Report.{Report}
+use Rattle.darkstar.specs.declared.play_command.Terms.{Terms}
+use Rattle.darkstar.specs.declared.asked.Asked.{Asked}
+use Rattle.darkstar.specs.declared.asked.Asked.TheVariants as it
+use Rattle.dk_command.specs.Games.{word_of}
+use Rattle.darkstar.specs.Games.{rules_of}
+use Rattle.darkstar.specs.Runs.{PlayTerms}
 
 -- which line it writes
 abbrev pub kind_of : Kind → requests.ReportKind
@@ -13,3 +19,20 @@ kind_of kind.Inspect = requests.Inspects
 -- what was asked for
 abbrev pub asked : Report → requests.Report
 asked report = record { kind = kind_of report.kind; dir = string_bytes report.dir; game = report.game }
+
+-- the terms of a play in this folder
+abbrev pub play_of : List ℕ → Terms → requests.Playing
+play_of dir terms = record { dir = dir; game = terms.game; workers = terms.workers; budget = terms.budget; checkpoint = terms.checkpoint }
+
+-- the same, by what its game means
+abbrev pub terms_for : Terms → PlayTerms
+terms_for terms = record { game = word_of terms.game; rules = rules_of terms.game; budget = terms.budget; workers = terms.workers; checkpoint = terms.checkpoint }
+
+-- the request that is done
+abbrev pub request_for : Asked → requests.Request
+request_for (it.Play dir terms) = requests.Plays (play_of (string_bytes dir) terms)
+request_for (it.Tell report) = requests.Reports (asked report)
+
+-- the words ask for what the program does: a play, or a report
+abbrev pub IsAsked : List (List ℕ) → Type 0
+IsAsked words = ((play : requests.Playing) × requests.Asks words (requests.Plays play)) ⊎ ((report : requests.Report) × requests.Asks words (requests.Reports report))

@@ -1,12 +1,8 @@
 pub mod Statuses
 pub mod Headline
 pub mod Reports
+pub mod Games
+pub mod Runs
 pub mod Asked
+pub mod Ends
 pub mod Reading
-pub mod Plays
-pub mod Logins
-pub mod Faults
-pub mod Lines
-pub mod Drains
-pub mod Phases
-pub mod Played

@@ -5,14 +5,12 @@
 //! fault to standard error, and exits with the status.
 #![tactic(auto)]
 
+mod asked;
 mod input;
-mod memory_play;
 mod output;
-mod play;
+mod play_command;
 mod program;
 mod report;
-mod session;
-mod shared_play;
 #[cfg(test)]
 mod tests;
 
@@ -20,6 +18,7 @@ use dk_disk::FolderHome;
 use dk_edge::{StdSink, StdSource};
 use dk_status::Status;
 use dk_types::Words;
+use dk_workers::OpenGate;
 use program::run;
 use std::io::ErrorKind;
 use std::process::ExitCode;
@@ -27,26 +26,22 @@ use std::rt::Env;
 use std::{env, io};
 
 fn main(rt: HostRuntime) -> ExitCode {
-    let status = match obey(&rt) {
-        Ok(status) => status,
-        Err(status) => status,
+    let system: Result<_, _> = rt.clone();
+    let status = match (words(&rt), system) {
+        (Ok(words), Ok(system)) => {
+            let mut input = StdSource::new(rt.reader());
+            let mut out = StdSink::new(io::writer(&rt));
+            let home = FolderHome::new(rt.alloc(), system);
+            let gate = OpenGate;
+            run(&rt, rt.alloc(), &words, &mut input, &mut out, home, &gate).status
+        }
+        (Err(status), _) => status,
+        (_, Err(_)) => Status::NoMemory,
     };
     if status != Status::Ok {
         let _ = eprintln!(rt; "{status}");
     }
     ExitCode::from(status.code())
-}
-
-/// Does what the command line says.
-fn obey(rt: &HostRuntime) -> Result<Status, Status> {
-    let words = words(rt)?;
-    let Ok(system) = rt.clone() else {
-        return Err(Status::NoMemory);
-    };
-    let mut input = StdSource::new(rt.reader());
-    let mut out = StdSink::new(io::writer(rt));
-    let home = FolderHome::new(rt.alloc(), system);
-    Ok(run(rt.alloc(), &words, &mut input, &mut out, home).status)
 }
 
 /// The words after the program's name. Bytes that are no text are no words of any command.

@@ -1,23 +1,29 @@
 //! The top call: a whole command.
 ghost use Rattle.std.specs.Prelude.{◌≡◌, ◌≢◌, ◌↔◌, ℕ, IfSome, IsSomeAnd, IsTrue};
+ghost use Rattle.std.specs.Io.KnownBytes.{Appends};
 ghost use Rattle.dk_types.specs.Faults.{HasRisen};
+ghost use Rattle.dk_edge.specs.Streams.{AppendsPrefix};
 ghost use Rattle.dk_disk.specs.Opening.{NotCalled, Opened};
 ghost use Rattle.dk_model.specs.DurableWorlds.{DurableWorld};
 ghost use Rattle.dk_model.specs.Scripts.{IsBadLine};
 ghost use Rattle.dk_recover.specs.Files.{OnlyReads};
 ghost use Rattle.dk_reports.specs.Causes.{IsOpenedAt};
-ghost use Rattle.darkstar.specs.Headline.{play_words, IsAsked, IsDone, IsTorn, IsPlayable, ReadsFew};
+ghost use Rattle.darkstar.specs.Headline.{IsPlayable, ReadsFew};
+ghost use Rattle.darkstar.specs.Asked.{IsAsked};
 ghost use Rattle.darkstar.specs.Reports.{AppendsOne, AppendsPart, ForReport, Holds, IsCauseOf, IsLine, IsOfGame};
-ghost use Rattle.darkstar.specs.Statuses.{ComesForBadLine, IfBadScript, IsOkOrNoMemory, IsOkOrOfDevice};
+ghost use Rattle.darkstar.specs.Runs.{ForPlay, HoldsNone, IsPlayEnd, IsReadAndWritten, Keeps, MayOpen, passage, terms_of};
+ghost use Rattle.darkstar.specs.Statuses.{ComesForBadLine, IfBadScript, IsOkOrEnd, IsOkOrOfDevice, IsUnread};
 
-use crate::memory_play::play_in_memory;
-use crate::report::Report;
+use crate::asked::Asked;
 use dk_command::{CommandRefused, parse_command};
 use dk_disk::Home;
 use dk_edge::{Sink, Source};
 use dk_status::Status;
 use dk_types::Words;
+use dk_workers::Gate;
 use std::alloc::Global;
+use std::sync::Wait;
+use std::thread::Threads;
 
 /// How a command ended, and the home that it was given.
 #[derive(Drop)]
@@ -28,15 +34,17 @@ pub struct Ran<M> {
 
 /// Runs the command of these words, the ones behind the program's name.
 ///
-/// `play` alone reads the source to its end as a script, plays it on a world in memory that starts empty, and writes the
-/// transcript. `check DIR` and `inspect DIR` open the home in the folder DIR, recover the store that its files hold, and
-/// write one line of it.
-pub fn run<S: Source, K: Sink, M: Home>(
+/// `play DIR` reads the source to its end as a script, opens the home in the folder DIR, plays the script by workers on the
+/// store that its files hold, and writes the transcript. `check DIR` and `inspect DIR` open the home, recover the store, and
+/// write one line of it. The gate hears of the workers' commits.
+pub fn run<T: Threads + Wait + Sync, S: Source, K: Sink, M: Home + Send, G: Gate + Sync>(
+    rt: &T,
     alloc: Global,
     words: &Words,
     input: &mut S,
     out: &mut K,
     home: M,
+    gate: &G,
 ) -> Ran<M>
     requires { M.opening home ≡ NotCalled }
 
@@ -46,14 +54,26 @@ pub fn run<S: Source, K: Sink, M: Home>(
     ensures unread { result.status ≡ Status.Usage → input.new ≡ input.old }
     ensures unopened { result.status ≡ Status.Usage → result.home ≡ home }
 
-    // `play`: what was written, which line is told, and that a script which no fault meets is played, if there is memory.
-    ensures play_done { words.now ≡ play_words → result.status ≡ Status.Ok → IsDone (S.remaining input.old) (S.remaining input.new) (K.contents out.old) (K.contents out.new) }
-    ensures play_torn { words.now ≡ play_words → result.status ≡ Status.WriteFault → IsTorn (S.remaining input.old) (S.remaining input.new) (K.contents out.old) (K.contents out.new) }
-    ensures play_few_read { words.now ≡ play_words → result.status ≡ Status.ReadFault → ReadsFew (S.remaining input.old) (S.remaining input.new) }
-    ensures play_bad_line { words.now ≡ play_words → IfBadScript result.status (λ line. IfSome (S.remaining input.old) (λ bytes. IsBadLine bytes line)) }
-    ensures play_told_line { words.now ≡ play_words → (line : ℕ) → IfSome (S.remaining input.old) (λ bytes. IsBadLine bytes line → ComesForBadLine line result.status) }
-    ensures play_complete { words.now ≡ play_words → IsSomeAnd (S.remaining input.old) IsPlayable → ¬ HasRisen (S.counted input.old) (S.counted input.new) → ¬ HasRisen (K.counted out.old) (K.counted out.new) → IsOkOrNoMemory result.status }
-    ensures play_home { words.now ≡ play_words → result.home ≡ home }
+    // `play`: the transcript of a run on the store that the home's files held was written, or a first part of it.
+    ensures play_done { result.status ≡ Status.Ok → ForPlay words.now (λ play. IsReadAndWritten Appends (terms_of play) (passage M.tells (M.past home) (M.past result.home) (M.counted home) (M.counted result.home)) result.status (S.remaining input.old) (S.remaining input.new) (K.contents out.old) (K.contents out.new)) }
+    ensures play_torn { result.status ≡ Status.WriteFault → ForPlay words.now (λ play. IsReadAndWritten AppendsPrefix (terms_of play) (passage M.tells (M.past home) (M.past result.home) (M.counted home) (M.counted result.home)) result.status (S.remaining input.old) (S.remaining input.new) (K.contents out.old) (K.contents out.new)) }
+
+    // However it ends, the store's files are only read, or what a stop leaves at each moment is a beginning of one legal history.
+    // Files that hold no world stay as they read.
+    ensures play_keeps { ForPlay words.now (λ play. Keeps (terms_of play) (passage M.tells (M.past home) (M.past result.home) (M.counted home) (M.counted result.home)) result.status) }
+    ensures play_spares { IsTrue M.tells → HoldsNone (M.past home) → ForPlay words.now (λ play. OnlyReads (M.past home) (M.past result.home)) }
+
+    // The home is opened at most once, with the play's folder, and not before the script is read.
+    ensures play_folder { ForPlay words.now (λ play. IsOpenedAt play.dir (M.opening result.home)) }
+    ensures play_unread { IsUnread result.status → ForPlay words.now (λ play. result.home ≡ home) }
+
+    // Why it ends so; and a script that no fault meets, on a store of its game, is played to the end of its budget, its journal or its
+    // numbers.
+    ensures play_end { ForPlay words.now (λ play. IsPlayEnd (terms_of play) (passage M.tells (M.past home) (M.past result.home) (M.counted home) (M.counted result.home)) result.status) }
+    ensures play_bad_line { ForPlay words.now (λ play. IfBadScript result.status (λ line. IfSome (S.remaining input.old) (λ bytes. IsBadLine bytes line))) }
+    ensures play_told_line { ForPlay words.now (λ play. (line : ℕ) → IfSome (S.remaining input.old) (λ bytes. IsBadLine bytes line → ComesForBadLine line result.status)) }
+    ensures play_few_read { result.status ≡ Status.ReadFault → ReadsFew (S.remaining input.old) (S.remaining input.new) }
+    ensures play_complete { IsTrue M.tells → ¬ HasRisen (S.counted input.old) (S.counted input.new) → ¬ HasRisen (M.counted home) (M.counted result.home) → ¬ HasRisen (K.counted out.old) (K.counted out.new) → ForPlay words.now (λ play. IsSomeAnd (S.remaining input.old) IsPlayable → (d : DurableWorld) → MayOpen (terms_of play) (M.past home) d → IsOkOrEnd result.status) }
 
     // `check` and `inspect`: the line of what both files hold, or why there is none. A store of this game, and none yet, are told
     // unless a device fails or memory is wanting.
@@ -73,16 +93,12 @@ pub fn run<S: Source, K: Sink, M: Home>(
 
     // The causes of faults of devices: that device's count rose.
     ensures disk_cause { result.status ≡ Status.DiskFault → HasRisen (M.counted home) (M.counted result.home) }
-    ensures disk_steady { result.status ≢ Status.DiskFault → M.counted result.home ≡ M.counted home }
+    ensures report_disk_steady { result.status ≢ Status.DiskFault → ForReport words.now (λ report. M.counted result.home ≡ M.counted home) }
     ensures source_cause { result.status ≡ Status.ReadFault → HasRisen (S.counted input.old) (S.counted input.new) }
     ensures source_steady { result.status ≢ Status.ReadFault → S.counted input.new ≡ S.counted input.old }
     ensures sink_cause { result.status ≡ Status.WriteFault → HasRisen (K.counted out.old) (K.counted out.new) }
     ensures sink_steady { result.status ≢ Status.WriteFault → K.counted out.new ≡ K.counted out.old }
 {
-    if is_play(words) {
-        let status = play_in_memory(alloc, input, out);
-        return Ran { status, home };
-    }
     let command = match parse_command(alloc, words) {
         Ok(command) => command,
         Err(CommandRefused::Usage) => {
@@ -98,17 +114,14 @@ pub fn run<S: Source, K: Sink, M: Home>(
             };
         }
     };
-    match Report::of(command) {
-        Some(report) => report.write(alloc, home, out),
+    match Asked::of(command) {
+        Some(Asked::Play { dir, terms }) => {
+            terms.play(rt, alloc, dir.as_str(), input, out, home, gate)
+        }
+        Some(Asked::Tell(report)) => report.write(alloc, home, out),
         None => Ran {
             status: Status::Usage,
             home,
         },
     }
-}
-
-fn is_play(words: &Words) -> bool
-    ensures { IsTrue result ↔ (words.now ≡ play_words) }
-{
-    words.count() == 1 && words.word(0) == "play"
 }

@@ -1,19 +1,17 @@
 //! The commands `check` and `inspect`: one line of what a store holds.
-ghost use Rattle.std.specs.Prelude.{◌≡◌, ◌≢◌, IfNone, IfSome, IsTrue};
+ghost use Rattle.std.specs.Prelude.{◌≡◌, ◌≢◌, IsTrue, string_bytes};
 ghost use Rattle.dk_types.specs.Faults.{HasRisen};
 ghost use Rattle.dk_disk.specs.Opening.{NotCalled, Opened};
 ghost use Rattle.dk_model.specs.DurableWorlds.{DurableWorld};
 ghost use Rattle.dk_recover.specs.Files.{OnlyReads};
 ghost use Rattle.dk_command.specs.Games.{word_of};
-ghost use Rattle.dk_command.specs.Requests.{Reports, request_of};
-ghost use Rattle.dk_command.specs.Requests as requests;
 ghost use Rattle.dk_reports.specs.Causes.{IsOpenedAt};
-ghost use Rattle.darkstar.specs.Asked.{asked};
+ghost use Rattle.darkstar.specs.Asked.{asked, kind_of};
 ghost use Rattle.darkstar.specs.Reports.{AppendsOne, AppendsPart, Holds, IsCauseOf, IsLine, IsOfGame, status_of_fault, status_of_report};
 ghost use Rattle.darkstar.specs.Statuses.{IsOkOrOfDevice};
 
 use crate::program::Ran;
-use dk_command::{Command, GameName};
+use dk_command::GameName;
 use dk_disk::Home;
 use dk_edge::Sink;
 use dk_reports::{ReportFault, check, inspect};
@@ -39,26 +37,11 @@ pub struct Report {
 }
 
 impl Report {
-    /// The report that the command asks for, if it asks for one.
-    pub fn of(command: Command) -> Option<Report>
-        ensures some { IfSome result (λ report. request_of command ≡ Reports (asked report)) }
-        ensures none { IfNone result ((report : requests.Report) → request_of command ≡ Reports report → ⊥) }
+    /// A report of this kind.
+    pub fn new(kind: Kind, dir: String, game: GameName) -> Report
+        ensures { asked result ≡ record { kind = kind_of kind; dir = string_bytes dir; game = game } }
     {
-        match command {
-            Command::Check { dir, game } => Some(Report {
-                kind: Kind::Check,
-                dir,
-                game,
-            }),
-            Command::Inspect { dir, game } => Some(Report {
-                kind: Kind::Inspect,
-                dir,
-                game,
-            }),
-            Command::Play { .. } => None,
-            Command::Serve { .. } => None,
-            Command::Stress { .. } => None,
-        }
+        Report { kind, dir, game }
     }
 
     /// Opens the home in the report's folder, recovers the store that its files hold, and appends one line of it to the sink.

@@ -4,3 +4,13 @@ pub mod Tries
 pub mod Rounds
 pub mod Shifts
 pub mod Crossing
+pub mod PlayOrder
+pub mod Meanings
+pub mod Passing
+pub mod Meetings
+pub mod WorkedRuns
+pub mod Draining
+pub mod Standing
+pub mod Playing
+pub mod Closing
+pub mod Closed

@@ -3,3 +3,9 @@ pub mod Refused
 pub mod Tries
 pub mod Rows
 pub mod Workers
+pub mod Logins
+pub mod Faults
+pub mod Lines
+pub mod Drains
+pub mod Phases
+pub mod Played

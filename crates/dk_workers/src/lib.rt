@@ -1,12 +1,15 @@
-//! Workers: jobs are claimed, run and committed.
+//! Workers: jobs are claimed, run and committed; and plays of scripts by them.
 //!
 //! `work` does so over the shared host, with one pass, until nothing can be run; where a read no longer stood the job is run
 //! again. `work_all` has a worker in a thread of its own for each pass. A `Gate` hears of their commits. `work_once` is one
 //! step over a core on one thread, where nothing that a run has read changes before its commit. The host and the core say
 //! which job comes next and what a commit does, and `dk_game` runs the job; nothing here knows a game or a client.
+//!
+//! `play_store` plays a script on an opened store, phase by phase, by any number of workers, and gives the transcript.
 #![tactic(auto)]
 
 mod gate;
+mod play;
 mod row;
 mod running;
 mod team;
@@ -15,6 +18,7 @@ mod worked;
 mod worker;
 
 pub use gate::{Gate, OpenGate};
+pub use play::{PlayFault, Played, play_store};
 pub use running::run_claimed;
 pub use team::work_all;
 pub use worked::Worked;

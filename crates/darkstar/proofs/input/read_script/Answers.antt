@@ -1,3 +1,4 @@
+use Rattle.std.proofs.Common.{List, ℕ}
 use Rattle.darkstar.proofs.Fronts.{script_read, bad_read}
 use Rattle.darkstar.proofs.input.read_script.Goals as goal
 

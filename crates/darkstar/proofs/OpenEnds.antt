@@ -1,0 +1,118 @@
+-- What is left where no store was opened for a play, and how the program ends then.
+use Rattle.std.proofs.Common.{◌≡◌, ◌⊎◌, ◌∙◌, ⊎_elim, inl, inr, ℕ, Bool, true, false, IsTrue, List, Result, Ok, Err, IsErrOf, refl, sym, ap, subst}
+use Rattle.dk_types.specs.declared.side.Side.TheVariants.{Zero, One}
+use Rattle.dk_disk.specs.DiskHistories.{DiskHistory}
+use Rattle.dk_model.specs.DurableWorlds.{DurableWorld}
+use Rattle.dk_model.specs.Lawful.{AreLawful}
+use Rattle.dk_model.specs.Recovered.{HasDurable, Holding, Recovers}
+use Rattle.dk_model.specs.Validity.{IsValid}
+use Rattle.dk_image.proofs.Worlds.{empty_valid, world_valid}
+use Rattle.dk_recover.specs.Files.{OnlyReads, Settles}
+use Rattle.dk_recover.specs.Recovery.{IsOurs}
+use Rattle.dk_host.specs.OpenedStores.{IsLeftFaulty, IsOpenAnswer, IsUnwritten, IsWorldOrDevice, KeepsWorld, MayBeAnew}
+use Rattle.dk_host.specs.declared.fault.OpenFault.{OpenFault}
+use Rattle.dk_host.specs.declared.fault.OpenFault.TheVariants as fault
+use Rattle.dk_host.specs.declared.standing.Stood.{Stood}
+use Rattle.dk_status.specs.declared.status.Status.{Status}
+use Rattle.dk_status.specs.declared.status.Status.TheVariants as status
+use Rattle.darkstar.specs.Ends.{status_of_opening}
+use Rattle.darkstar.specs.Reports.{bytes_of}
+use Rattle.darkstar.specs.Runs.{IsPlayEnd, Keeps, PlayTerms, opened_with, passage}
+use Rattle.darkstar.specs.Statuses.{IsOfOpened, IsOkOrLimit}
+use Rattle.darkstar.proofs.RunLaws.{runs_none}
+
+-- a world that files hold is valid
+held_valid : (z o : List ℕ) (d : DurableWorld) → HasDurable z o d → IsValid d
+held_valid z o d has = ⊎_elim
+    (λ (there : Recovers z o (Holding d)). world_valid there.1.0 there.1.2.payloads d there.1.2.world)
+    (λ empty. subst IsValid (sym empty.1) empty_valid)
+    has
+
+module _ (terms : PlayTerms) (lawful : AreLawful terms.rules) (s : Status) (old new : DiskHistory) (before after : ℕ) where
+  abbrev z : List ℕ
+  z = bytes_of old Zero
+
+  abbrev o : List ℕ
+  o = bytes_of old One
+
+  faulty_keeps : (tells : Bool) → (IsTrue tells → IsLeftFaulty old new) → Keeps terms (passage tells old new before after) s
+  faulty_keeps true faulty = ⊎_elim
+      (λ (only : OnlyReads old new). inl (λ told. only))
+      (λ (w : (d : DurableWorld) × (HasDurable z o d × KeepsWorld d old new)). inr (record {
+        world = w.0;
+        held = λ told. w.1.0;
+        on = runs_none (opened_with terms w.0) lawful terms.workers old s new before after (held_valid z o w.0 w.1.0) true (λ told. w.1.1);
+      }))
+      (faulty refl)
+  faulty_keeps false faulty = inl (λ told. absurd cc)
+
+  module _ (tells : Bool) where
+    -- nothing was written, or the world that the files held is kept
+    pub refused_keeps : (f : OpenFault)
+        → (IsTrue tells → IsUnwritten z o (Err f) → OnlyReads old new × Settles old new)
+        → (IsTrue tells → IsErrOf {T = Stood} (Err f) fault.DiskFault → IsLeftFaulty old new) → Keeps terms (passage tells old new before after) s
+    refused_keeps fault.NoMemory reads faulty = inl (λ told. (reads told tt).0)
+    refused_keeps fault.DiskFault reads faulty = faulty_keeps tells (λ told. faulty told refl)
+    refused_keeps (fault.NotAStore side at) reads faulty = inl (λ told. (reads told tt).0)
+    refused_keeps (fault.WrongGame found) reads faulty = inl (λ told. (reads told tt).0)
+    refused_keeps (fault.Damaged side at) reads faulty = inl (λ told. (reads told tt).0)
+    refused_keeps (fault.ImageTooLarge n) reads faulty = inl (λ told. (reads told tt).0)
+    refused_keeps (fault.EpochEnd n) reads faulty = inl (λ told. (reads told tt).0)
+
+    -- why no store was opened is why the program ends so
+    pub refused_end : (f : OpenFault) → (IsTrue tells → IsOpenAnswer z o terms.game (Err f)) → IsPlayEnd terms (passage tells old new before after) (status_of_opening f)
+    refused_end fault.NoMemory answer = tt
+    refused_end fault.DiskFault answer = tt
+    refused_end (fault.NotAStore side at) answer = answer
+    refused_end (fault.WrongGame found) answer = answer
+    refused_end (fault.Damaged side at) answer = answer
+    refused_end (fault.ImageTooLarge n) answer = answer
+    refused_end (fault.EpochEnd n) answer = answer
+
+-- a store of the game is refused by a device alone
+pub refused_limit : (d : DurableWorld) (f : OpenFault) → IsWorldOrDevice d (Err f) → IsOkOrLimit (status_of_opening f)
+refused_limit d fault.NoMemory is = tt
+refused_limit d fault.DiskFault is = tt
+refused_limit d (fault.NotAStore side at) is = absurd is
+refused_limit d (fault.WrongGame found) is = absurd is
+refused_limit d (fault.Damaged side at) is = absurd is
+refused_limit d (fault.ImageTooLarge n) is = absurd is
+refused_limit d (fault.EpochEnd n) is = absurd is
+
+-- the program does not end so as done, or by a fault of the sink, or before the folder is open
+pub refused_ok : (f : OpenFault) → status_of_opening f ≡ status.Ok → ⊥
+refused_ok fault.NoMemory is = cc
+refused_ok fault.DiskFault is = cc
+refused_ok (fault.NotAStore side at) is = cc
+refused_ok (fault.WrongGame found) is = cc
+refused_ok (fault.Damaged side at) is = cc
+refused_ok (fault.ImageTooLarge n) is = cc
+refused_ok (fault.EpochEnd n) is = cc
+
+pub refused_torn : (f : OpenFault) → status_of_opening f ≡ status.WriteFault → ⊥
+refused_torn fault.NoMemory is = cc
+refused_torn fault.DiskFault is = cc
+refused_torn (fault.NotAStore side at) is = cc
+refused_torn (fault.WrongGame found) is = cc
+refused_torn (fault.Damaged side at) is = cc
+refused_torn (fault.ImageTooLarge n) is = cc
+refused_torn (fault.EpochEnd n) is = cc
+
+pub refused_unread : (f : OpenFault) → IsOfOpened (status_of_opening f)
+refused_unread fault.NoMemory = tt
+refused_unread fault.DiskFault = tt
+refused_unread (fault.NotAStore side at) = tt
+refused_unread (fault.WrongGame found) = tt
+refused_unread (fault.Damaged side at) = tt
+refused_unread (fault.ImageTooLarge n) = tt
+refused_unread (fault.EpochEnd n) = tt
+
+-- a disk fault is the store's
+pub refused_disk : (f : OpenFault) → status_of_opening f ≡ status.DiskFault → IsErrOf {T = Stood} (Err f) fault.DiskFault
+refused_disk fault.NoMemory is = absurd cc
+refused_disk fault.DiskFault is = refl
+refused_disk (fault.NotAStore side at) is = absurd cc
+refused_disk (fault.WrongGame found) is = absurd cc
+refused_disk (fault.Damaged side at) is = absurd cc
+refused_disk (fault.ImageTooLarge n) is = absurd cc
+refused_disk (fault.EpochEnd n) is = absurd cc

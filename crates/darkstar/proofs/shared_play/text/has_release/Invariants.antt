@@ -1,7 +1,0 @@
-use Rattle.std.proofs.Common.{take}
-use Rattle.dk_play_laws.specs.Told.{AreKept}
-use Rattle.darkstar.proofs.shared_play.text.has_release.Given as goal
-
--- none of them so far
-abbrev pub invariant-loop-event : goal.invariant-loop-event
-invariant-loop-event l = AreKept (take l.event-index l.events)
