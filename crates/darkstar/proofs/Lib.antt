@@ -21,3 +21,6 @@ pub mod Standing
 pub mod Playing
 pub mod Closing
 pub mod Closed
+pub mod Resting
+pub mod Tallying
+pub mod FreshStores

@@ -10,3 +10,5 @@ pub mod Lines
 pub mod Drains
 pub mod Phases
 pub mod Played
+pub mod StressText
+pub mod Tallies

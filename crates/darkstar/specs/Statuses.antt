@@ -28,3 +28,10 @@ IsOkOrOfDevice other = ⊥
 abbrev pub IfBadScript : Status → (ℕ → Type 0) → Type 0
 IfBadScript (status.BadScript line) P = P line
 IfBadScript other P = ⊤
+
+-- done, without memory, or a fault of the sink
+abbrev pub IsWrittenOrNoMemory : Status → Type 0
+IsWrittenOrNoMemory status.Ok = ⊤
+IsWrittenOrNoMemory status.NoMemory = ⊤
+IsWrittenOrNoMemory status.WriteFault = ⊤
+IsWrittenOrNoMemory other = ⊥

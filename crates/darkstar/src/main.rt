@@ -13,6 +13,7 @@ mod program;
 mod report;
 mod session;
 mod shared_play;
+mod stress;
 #[cfg(test)]
 mod tests;
 

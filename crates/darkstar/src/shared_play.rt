@@ -10,7 +10,7 @@ ghost use Rattle.dk_model.specs.Scripts.{AllStand};
 ghost use Rattle.darkstar.specs.Played.{IsPlayOn, IsUnopened, opened_on};
 
 mod closing;
-mod drains;
+pub(crate) mod drains;
 mod fault;
 mod hands;
 mod lines;
