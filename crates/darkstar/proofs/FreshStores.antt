@@ -1,5 +1,5 @@
 -- Two files of no bytes are no store yet, so what is opened on them is the empty world.
-use Rattle.std.proofs.Common.{◌≡◌, List, [], ℕ, Result, inr, refl, sym, ap, subst, ◌∙◌}
+use Rattle.std.proofs.Common.{◌≡◌, List, [], ℕ, Result, inr, refl, sym, subst}
 use Rattle.dk_types.specs.declared.side.Side.{Side}
 use Rattle.dk_model.specs.DurableWorlds.{DurableWorld, empty_world}
 use Rattle.dk_model.specs.Recovered.{HasDurable}

@@ -1,7 +1,7 @@
 use Rattle.std.proofs.Common.{◌≡◌, ℕ, List, sym, ap, ◌∙◌}
 use Rattle.std.proofs.lemmas.Result.{IfOk-weaker}
 use Rattle.dk_types.specs.declared.item.Item.TheVariants as ask
-use Rattle.dk_model.specs.DurableWorlds.{DurableWorld, answer}
+use Rattle.dk_model.specs.DurableWorlds.{answer}
 use Rattle.dk_model.specs.Legal.{world_after}
 use Rattle.dk_overlay.specs.Answers.{object_in}
 use Rattle.darkstar.specs.Tallies.{count_in, IsCountIn, ReadsCounter}

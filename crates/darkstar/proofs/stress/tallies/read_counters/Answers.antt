@@ -1,4 +1,4 @@
-use Rattle.std.proofs.Common.{◌≡◌, ℕ, ◌+◌, [], ◌∷◌, ◌++◌, List, sym, subst}
+use Rattle.std.proofs.Common.{ℕ, ◌+◌, [], ◌∷◌, ◌++◌, List, sym, subst}
 use Rattle.darkstar.specs.Tallies.{AreCountsIn, IsCountIn, ReadsCounters}
 use Rattle.darkstar.proofs.Resting.{reads_then}
 use Rattle.darkstar.proofs.Tallying.{counts_push}
