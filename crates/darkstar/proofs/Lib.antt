@@ -9,3 +9,6 @@ pub mod RunLaws
 pub mod PlayEnds
 pub mod OpenEnds
 pub mod PlayAfter
+pub mod Resting
+pub mod Tallying
+pub mod FreshStores

@@ -6,3 +6,5 @@ pub mod Runs
 pub mod Asked
 pub mod Ends
 pub mod Reading
+pub mod StressText
+pub mod Tallies

@@ -62,3 +62,10 @@ IsOfOpened status.ReadFault = ⊥
 IsOfOpened status.NetFault = ⊥
 IsOfOpened (status.BadScript line) = ⊥
 IsOfOpened other = ⊤
+
+-- done, without memory, or a fault of the sink
+abbrev pub IsWrittenOrNoMemory : Status → Type 0
+IsWrittenOrNoMemory status.Ok = ⊤
+IsWrittenOrNoMemory status.NoMemory = ⊤
+IsWrittenOrNoMemory status.WriteFault = ⊤
+IsWrittenOrNoMemory other = ⊥

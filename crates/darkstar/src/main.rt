@@ -11,6 +11,7 @@ mod output;
 mod play_command;
 mod program;
 mod report;
+mod stress;
 #[cfg(test)]
 mod tests;
 

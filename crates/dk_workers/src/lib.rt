@@ -18,7 +18,7 @@ mod worked;
 mod worker;
 
 pub use gate::{Gate, OpenGate};
-pub use play::{PlayFault, Played, play_store};
+pub use play::{PlayFault, Played, drain, play_store};
 pub use running::run_claimed;
 pub use team::work_all;
 pub use worked::Worked;

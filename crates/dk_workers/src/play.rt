@@ -28,6 +28,7 @@ use dk_model::Line;
 use dk_script::Script;
 use dk_turn::Blank;
 use dk_types::{Blob, Listed};
+pub use drains::drain;
 pub use fault::PlayFault;
 use staging::play_on_turn;
 use std::alloc::Global;

@@ -29,9 +29,9 @@ fn meet_all<W: Hosting, J: Naming, M: Home, R: Wait>(
     }
 }
 
-/// The workers work until each comes to an end, and then the main pass works. It meets them before and after, so that it
-/// has seen all that they entered.
-pub(crate) fn drain<
+/// Runs jobs until none is left: the workers work until each comes to an end, and then the main pass works. It meets them
+/// before and after, so that it has seen all that they entered. The commands that open a host call it.
+pub fn drain<
     G: Game + Sync,
     W: Hosting + Send + Sync,
     J: Naming + Send + Sync,
