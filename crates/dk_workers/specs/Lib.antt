@@ -3,3 +3,4 @@ pub mod Refused
 pub mod Tries
 pub mod Rows
 pub mod Workers
+pub mod Serving

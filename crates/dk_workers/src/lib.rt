@@ -1,14 +1,16 @@
 //! Workers: jobs are claimed, run and committed.
 //!
 //! `work` does so over the shared host, with one pass, until nothing can be run; where a read no longer stood the job is run
-//! again. `work_all` has a worker in a thread of its own for each pass. A `Gate` hears of their commits. `work_once` is one
-//! step over a core on one thread, where nothing that a run has read changes before its commit. The host and the core say
-//! which job comes next and what a commit does, and `dk_game` runs the job; nothing here knows a game or a client.
+//! again. `serve_jobs` waits there and works on, as long as a server runs. `work_all` has a worker in a thread of its own for
+//! each pass. A `Gate` hears of their commits. `work_once` is one step over a core on one thread, where nothing that a run has
+//! read changes before its commit. The host and the core say which job comes next and what a commit does, and `dk_game` runs
+//! the job; nothing here knows a game or a client.
 #![tactic(auto)]
 
 mod gate;
 mod row;
 mod running;
+mod serving;
 mod team;
 mod trying;
 mod worked;
@@ -16,6 +18,7 @@ mod worker;
 
 pub use gate::{Gate, OpenGate};
 pub use running::run_claimed;
+pub use serving::serve_jobs;
 pub use team::work_all;
 pub use worked::Worked;
 pub use worker::work;
