@@ -9,3 +9,4 @@ pub mod Lines
 pub mod Drains
 pub mod Phases
 pub mod Played
+pub mod Serving
