@@ -32,7 +32,10 @@ terms_for terms = record { game = word_of terms.game; rules = rules_of terms.gam
 abbrev pub request_for : Asked → requests.Request
 request_for (it.Play dir terms) = requests.Plays (play_of (string_bytes dir) terms)
 request_for (it.Tell report) = requests.Reports (asked report)
+request_for (it.Stress seed tasks workers) = requests.Stresses (record { seed = seed; tasks = tasks; workers = workers })
 
--- the words ask for what the program does: a play, or a report
+-- the words ask for what the program does: a play, a report, or a run of many tasks
 abbrev pub IsAsked : List (List ℕ) → Type 0
-IsAsked words = ((play : requests.Playing) × requests.Asks words (requests.Plays play)) ⊎ ((report : requests.Report) × requests.Asks words (requests.Reports report))
+IsAsked words =
+    ((play : requests.Playing) × requests.Asks words (requests.Plays play)) ⊎ ((report : requests.Report) × requests.Asks words (requests.Reports report))
+    ⊎ ((stress : requests.Stressing) × requests.Asks words (requests.Stresses stress))

@@ -3,6 +3,11 @@ use Rattle.std.specs.Prelude.{ℕ, ◌+◌, List, [], ◌∷◌, ◌++◌, codes
 use Rattle.std.proofs.Common.{zero, suc}
 use Rattle.std.specs.List.{flat_map}
 use Rattle.dk_demos.specs.CountersTotals.{plain_count}
+use Rattle.dk_command.specs.Requests.{Asks, Stresses, Stressing}
+
+-- where the words ask for a `stress`, this holds of it
+abbrev pub ForStress : List (List ℕ) → (Stressing → Type 0) → Type 0
+ForStress words P = (stress : Stressing) → Asks words (Stresses stress) → P stress
 
 -- how often so many counters from this one on are in the generated list
 unfoldable pub plain_counts_from : ℕ → ℕ → ℕ → ℕ → List ℕ

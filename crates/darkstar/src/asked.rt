@@ -1,6 +1,6 @@
 //! What a command asks for, of what the program does.
 ghost use Rattle.std.specs.Prelude.{◌≡◌, IfNone, IfSome};
-ghost use Rattle.dk_command.specs.Requests.{Plays, Reports, request_of};
+ghost use Rattle.dk_command.specs.Requests.{Plays, Reports, Stresses, request_of};
 ghost use Rattle.dk_command.specs.Requests as requests;
 ghost use Rattle.darkstar.specs.Asked.{request_for};
 
@@ -8,11 +8,12 @@ use crate::play_command::Terms;
 use crate::report::{Kind, Report};
 use dk_command::Command;
 
-/// A play on the store in the folder `dir`, or a report.
+/// A play on the store in the folder `dir`, a report, or a run of so many tasks by so many workers.
 #[derive(Drop)]
 pub enum Asked {
     Play { dir: String, terms: Terms },
     Tell(Report),
+    Stress { seed: u32, tasks: u32, workers: u8 },
 }
 
 impl Asked {
@@ -21,6 +22,7 @@ impl Asked {
         ensures some { IfSome result (λ asked. request_of command ≡ request_for asked) }
         ensures no_play { IfNone result ((play : requests.Playing) → request_of command ≡ Plays play → ⊥) }
         ensures no_report { IfNone result ((report : requests.Report) → request_of command ≡ Reports report → ⊥) }
+        ensures no_stress { IfNone result ((stress : requests.Stressing) → request_of command ≡ Stresses stress → ⊥) }
     {
         match command {
             Command::Play {
@@ -43,7 +45,15 @@ impl Asked {
                 Some(Asked::Tell(Report::new(Kind::Inspect, dir, game)))
             }
             Command::Serve { .. } => None,
-            Command::Stress { .. } => None,
+            Command::Stress {
+                seed,
+                tasks,
+                workers,
+            } => Some(Asked::Stress {
+                seed,
+                tasks,
+                workers,
+            }),
         }
     }
 }

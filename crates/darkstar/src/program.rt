@@ -12,9 +12,11 @@ ghost use Rattle.darkstar.specs.Headline.{IsPlayable, ReadsFew};
 ghost use Rattle.darkstar.specs.Asked.{IsAsked};
 ghost use Rattle.darkstar.specs.Reports.{AppendsOne, AppendsPart, ForReport, Holds, IsCauseOf, IsLine, IsOfGame};
 ghost use Rattle.darkstar.specs.Runs.{ForPlay, HoldsNone, IsPlayEnd, IsReadAndWritten, Keeps, MayOpen, passage, terms_of};
-ghost use Rattle.darkstar.specs.Statuses.{ComesForBadLine, IfBadScript, IsOkOrEnd, IsOkOrOfDevice, IsUnread};
+ghost use Rattle.darkstar.specs.Statuses.{ComesForBadLine, IfBadScript, IsOkOrEnd, IsOkOrNoMemory, IsOkOrOfDevice, IsUnread, IsWrittenOrNoMemory};
+ghost use Rattle.darkstar.specs.StressText.{ForStress, stress_text};
 
 use crate::asked::Asked;
+use crate::stress::stress;
 use dk_command::{CommandRefused, parse_command};
 use dk_disk::Home;
 use dk_edge::{Sink, Source};
@@ -36,7 +38,8 @@ pub struct Ran<M> {
 ///
 /// `play DIR` reads the source to its end as a script, opens the home in the folder DIR, plays the script by workers on the
 /// store that its files hold, and writes the transcript. `check DIR` and `inspect DIR` open the home, recover the store, and
-/// write one line of it. The gate hears of the workers' commits.
+/// write one line of it. `stress` runs a game of so many tasks by workers on a store in memory, and writes what they came to.
+/// The gate hears of the workers' commits.
 pub fn run<T: Threads + Wait + Sync, S: Source, K: Sink, M: Home + Send, G: Gate + Sync>(
     rt: &T,
     alloc: Global,
@@ -88,6 +91,14 @@ pub fn run<T: Threads + Wait + Sync, S: Source, K: Sink, M: Home + Send, G: Gate
     ensures report_reads { IsTrue M.tells → ForReport words.now (λ report. OnlyReads (M.past home) (M.past result.home)) }
     ensures report_unread { ForReport words.now (λ report. input.new ≡ input.old) }
 
+    // `stress`: each of the tasks is one commit behind the first run's, and the counters are the plain counts, whoever ran what. It is
+    // done unless the sink fails or memory is wanting, and leaves the source and the home as they were.
+    ensures stress_done { result.status ≡ Status.Ok → ForStress words.now (λ s. Appends (K.contents out.old) (K.contents out.new) (stress_text s.seed s.tasks)) }
+    ensures stress_torn { result.status ≡ Status.WriteFault → ForStress words.now (λ s. AppendsPrefix (K.contents out.old) (K.contents out.new) (stress_text s.seed s.tasks)) }
+    ensures stress_only { ForStress words.now (λ s. IsWrittenOrNoMemory result.status) }
+    ensures stress_complete { ¬ HasRisen (K.counted out.old) (K.counted out.new) → ForStress words.now (λ s. IsOkOrNoMemory result.status) }
+    ensures stress_alone { ForStress words.now (λ s. (input.new ≡ input.old) × (result.home ≡ home)) }
+
     // Nothing is written but by a command that was done, or whose sink failed.
     ensures unwritten { result.status ≢ Status.Ok → result.status ≢ Status.WriteFault → out.new ≡ out.old }
 
@@ -119,6 +130,22 @@ pub fn run<T: Threads + Wait + Sync, S: Source, K: Sink, M: Home + Send, G: Gate
             terms.play(rt, alloc, dir.as_str(), input, out, home, gate)
         }
         Some(Asked::Tell(report)) => report.write(alloc, home, out),
+        Some(Asked::Stress {
+            seed,
+            tasks,
+            workers,
+        }) => {
+            let status = stress(
+                rt,
+                alloc,
+                u64::from(seed),
+                tasks,
+                u32::from(workers),
+                out,
+                gate,
+            );
+            Ran { status, home }
+        }
         None => Ran {
             status: Status::Usage,
             home,

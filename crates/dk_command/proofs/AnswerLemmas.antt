@@ -1,6 +1,6 @@
 -- The answer for a subcommand, by what `clap` found.
-use Rattle.std.proofs.Common.{◌≡◌, ◌∙◌, ◌≤◌, ◌<◌, ℕ, true, List, [], Option, Some, None, refl, sym, ap, subst, arith}
-use Rattle.std.specs.Prelude.{Result, Ok, Err, IsErrAnd, IsSome}
+use Rattle.std.proofs.Common.{◌≡◌, ◌∙◌, ◌≤◌, ◌<◌, ℕ, true, List, [], Option, Some, None, codes, refl, sym, ap, subst, arith}
+use Rattle.std.specs.Prelude.{Result, Ok, Err, IfOk, IsErrAnd, IsSome}
 use Rattle.std.specs.Option.{IfSome, option_map_or}
 use Rattle.clap.specs.Words.{App, IsUnsignedIn, Row, Text, fault_of, first_of, found_of, matches_of, one_of, rows_of}
 use Rattle.clap.specs.declared.parser.matches.ArgMatches.{ArgMatches}
@@ -11,6 +11,8 @@ use Rattle.dk_command.specs.Commands.{HasValues, IsAnswerOf, IsTaken, app_of_com
 use Rattle.dk_command.specs.Found.{IsBetween, IsFlag, IsReadAs, is_plain, takes_flag, takes_number, wants_value}
 use Rattle.dk_command.proofs.GetterLemmas.{none_not_some}
 use Rattle.dk_command.specs.Matches.{game_in, number_or, spelled_number}
+use Rattle.dk_command.specs.Requests.{AreFewTasks}
+use Rattle.dk_types.specs.declared.limits.TheConstants.{TASKS_MOST_COUNT}
 
 -- the matches, by the grammar's own name and by the words that were passed
 pub read_here : (a app : App) (xs words : List Text) (m : ArgMatches) → a ≡ app → xs ≡ words → IsReadAs a xs m → IsReadAs app words m
@@ -101,3 +103,12 @@ pub number_fits : (least most other bound : ℕ) (name : Text) (rows : List Row)
 number_fits least most other bound name rows n is h fits wide =
     let at_most : n ≤ most = rw is (number_most least most other name rows h fits) in
     omega arith
+
+-- a command that was found asks for as few tasks as its option allows
+pub few_here : (rows : List Row) (n : ℕ) → n ≡ number_or 1000 (codes "tasks") rows → IsBetween 1 65536 (codes "tasks") rows → n ≤ TASKS_MOST_COUNT
+few_here rows n is h = rw is (number_most 1 65536 1000 (codes "tasks") rows h (omega arith))
+
+-- what is an error has no tasks
+pub few_up : (E : CommandRefused → Type 0) (r : Result Command CommandRefused) → IsErrAnd r E → IfOk r AreFewTasks
+few_up E (Ok command) h = absurd h
+few_up E (Err e) h = tt

@@ -1,6 +1,7 @@
 -- A command as clauses see it: texts are their bytes, and commands that are done alike stand together.
-use Rattle.std.specs.Prelude.{◌≡◌, ℕ, Bool, List, Option, string_bytes}
+use Rattle.std.specs.Prelude.{◌≡◌, ◌≤◌, ⊤, ℕ, Bool, List, Option, string_bytes}
 use Rattle.clap.specs.Words.{Text}
+use Rattle.dk_types.specs.declared.limits.TheConstants.{TASKS_MOST_COUNT}
 use Rattle.dk_command.specs.declared.command.GameName.{GameName}
 use Rattle.dk_command.specs.declared.command.Command.{Command}
 use Rattle.dk_command.specs.declared.command.Command.TheVariants as command
@@ -58,3 +59,11 @@ request_of (command.Stress seed tasks workers) = Stresses (record { seed = seed;
 -- the words are a command line that asks for this
 abbrev pub Asks : List Text → Request → Type 0
 Asks words request = (command : Command) × IsCommandOf words command × (request_of command ≡ request)
+
+-- a `stress` asks for at most as many tasks as one run may plan
+abbrev pub AreFewTasks : Command → Type 0
+AreFewTasks (command.Play dir game workers budget checkpoint) = ⊤
+AreFewTasks (command.Serve dir port game workers clients sessions) = ⊤
+AreFewTasks (command.Check dir game) = ⊤
+AreFewTasks (command.Inspect dir game) = ⊤
+AreFewTasks (command.Stress seed tasks workers) = tasks ≤ TASKS_MOST_COUNT

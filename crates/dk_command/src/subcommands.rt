@@ -4,6 +4,7 @@ ghost use Rattle.clap.specs.Walk.{texts};
 ghost use Rattle.dk_command.specs.Commands.{IsAnswerOf};
 ghost use Rattle.dk_command.specs.Grammar.{check_app, inspect_app, play_app, serve_app, stress_app};
 ghost use Rattle.dk_command.specs.Matches.{limit_of};
+ghost use Rattle.dk_command.specs.Requests.{AreFewTasks};
 
 use crate::command::Command;
 use crate::grammars;
@@ -80,7 +81,8 @@ pub(crate) fn inspect(alloc: Global, words: &Words) -> Result<Command, CommandRe
 }
 
 pub(crate) fn stress(alloc: Global, words: &Words) -> Result<Command, CommandRefused>
-    ensures { IsAnswerOf stress_app words.now result }
+    ensures answer { IsAnswerOf stress_app words.now result }
+    ensures few_tasks { IfOk result AreFewTasks }
 {
     let texts = texts_of(alloc, words)?;
     let grammar = grammars::stress(alloc)?;

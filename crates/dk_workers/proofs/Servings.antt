@@ -2,6 +2,7 @@
 use Rattle.std.proofs.Common.{◌≡◌, ℕ, List, [], ◌∷◌, ◌++◌, refl, ap, subst, ◌∙◌}
 use Rattle.std.proofs.lemmas.List.{append-nil}
 use Rattle.std.proofs.lemmas.Grind.{flat_map-append}
+use Rattle.dk_types.specs.declared.event.Event.{Event}
 use Rattle.dk_model.specs.Legal.{Opened}
 use Rattle.dk_turn.specs.Fronts.{Known}
 use Rattle.dk_host.specs.Passes.{Enters}
