@@ -16,3 +16,4 @@ mod Finding
 mod Later
 mod Midst
 mod PutParts
+mod Ticked

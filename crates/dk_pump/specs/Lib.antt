@@ -4,3 +4,5 @@ pub mod Reading
 pub mod Writing
 pub mod Sessions
 pub mod Waiting
+pub mod Arrivals
+pub mod Ticking

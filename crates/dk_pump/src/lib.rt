@@ -3,24 +3,33 @@
 //! `greet` reads a client's LOGIN and connects it. `read_session` posts what its further frames ask, and a Disconnect at
 //! the end; `write_session` puts the frames of what the connection is handed, until the connection is gone. Each takes a
 //! pass of its own, so a reader and a writer of one session run side by side. `SessionFuture` is both over one link, as a
-//! future with one pass, and gives a `SessionDone`, which a `Tally` counts. Nothing here listens or runs a job.
+//! future with one pass, and gives a `SessionDone`, which a `Tally` counts. Links are taken at the `Door`, where the listener is
+//! behind a lock; a ledger ties how many were given to what their takers have counted. `keep_time` ticks the host meanwhile.
+//! Nothing here runs a job.
 #![tactic(auto)]
 
+pub use arrivals::{Accepting, Arrivals, Doorway, NoLink};
 pub use done::SessionDone;
+pub use door::Door;
 pub use ends::{BadFrame, SessionEnd, WriteEnd};
 pub use future::SessionFuture;
 pub use greeting::{Greeted, greet};
+pub use link_count::LinkCount;
 pub use reading::read_session;
 pub use tally::Tally;
+pub use ticker::keep_time;
 pub use writing::write_session;
 
+mod arrivals;
 mod closing;
 mod course;
 mod done;
+mod door;
 pub mod ends;
 mod future;
 pub mod greeting;
 pub mod limits;
+mod link_count;
 mod outgoing;
 mod pieces;
 mod polling;
@@ -29,5 +38,6 @@ mod putting;
 pub mod reading;
 mod session;
 mod tally;
+mod ticker;
 mod watched;
 pub mod writing;
