@@ -1,8 +1,10 @@
 //! The program over streams and homes in memory, as rows of data. The transcripts are worked by hand.
+ghost use Rattle.std.specs.Prelude.{◌≡◌, IfOk};
+ghost use Rattle.dk_disk.specs.Opening.{NotCalled};
 
 use crate::program::{Ran, run};
-use dk_disk::MemoryHome;
-use dk_edge::{MemorySink, MemorySource};
+use dk_disk::{Home, MemoryHome};
+use dk_edge::{MemorySink, MemorySource, Sink, Source};
 use dk_status::Status;
 use dk_types::{NoMemory, Side, Words};
 use dk_workers::OpenGate;
@@ -284,6 +286,20 @@ fn words_of(alloc: Global, text: &str) -> Result<Words, NoMemory> {
     Ok(words)
 }
 
+// The command of these words, over any streams and any home.
+fn command<R: Threads + Wait + Sync, S: Source, K: Sink, M: Home + Send>(
+    rt: &R,
+    alloc: Global,
+    words: &Words,
+    input: &mut S,
+    out: &mut K,
+    home: M,
+) -> Ran<M>
+    requires { M.opening home ≡ NotCalled }
+{
+    run(rt, alloc, words, input, out, home, &OpenGate)
+}
+
 // The command over a home with these files, a source that gives the script in pieces of ten, and this sink. The call of
 // this number fails on the source; 0 is none.
 fn ran<R: Threads + Wait + Sync>(
@@ -294,18 +310,22 @@ fn ran<R: Threads + Wait + Sync>(
     home: MemoryHome,
     failing_take: u64,
     out: &mut MemorySink,
-) -> Result<Ran<MemoryHome>, AllocError> {
+) -> Result<Ran<MemoryHome>, AllocError>
+    requires { home.opening ≡ NotCalled }
+{
     let mut input = MemorySource::in_pieces(
         script.as_bytes().to_vec(alloc)?,
         [failing_take].to_vec(alloc)?,
         10,
     );
     let words = words_of(alloc, words).map_err(|_| AllocError)?;
-    Ok(run(rt, alloc, &words, &mut input, out, home, &OpenGate))
+    Ok(command(rt, alloc, &words, &mut input, out, home))
 }
 
 // A home with these files.
-fn home_of(alloc: Global, zero: &[u8], one: &[u8]) -> Result<MemoryHome, AllocError> {
+fn home_of(alloc: Global, zero: &[u8], one: &[u8]) -> Result<MemoryHome, AllocError>
+    ensures { IfOk result (λ home. home.opening ≡ NotCalled) }
+{
     Ok(MemoryHome::new(
         alloc,
         zero.to_vec(alloc)?,

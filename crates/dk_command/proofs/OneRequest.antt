@@ -32,12 +32,12 @@ inspect_is_other e = let m : mark stress_app ≡ mark inspect_app = ap mark e in
 -- the answer for another subcommand asks for no tasks
 pub answers_few : (words : List Text) (app : App) (r : Result Command CommandRefused) → IsAnswerOf app words r → (stress_app ≡ app → ⊥) → IfOk r AreFewTasks
 unfolding IsAnswerOf
-answers_few words app (Ok (command.Play dir game workers budget checkpoint)) h no = tt
-answers_few words app (Ok (command.Serve dir port game workers clients sessions)) h no = tt
-answers_few words app (Ok (command.Check dir game)) h no = tt
-answers_few words app (Ok (command.Inspect dir game)) h no = tt
-answers_few words app (Ok (command.Stress seed tasks workers)) h no = absurd (no h.1)
-answers_few words app (Err e) h no = tt
+answers_few words app (Ok (command.Play dir game workers budget checkpoint)) h differs = tt
+answers_few words app (Ok (command.Serve dir port game workers clients sessions)) h differs = tt
+answers_few words app (Ok (command.Check dir game)) h differs = tt
+answers_few words app (Ok (command.Inspect dir game)) h differs = tt
+answers_few words app (Ok (command.Stress seed tasks workers)) h differs = absurd (differs h.1)
+answers_few words app (Err e) h differs = tt
 
 module _ (words : List Text) where
   marks : (c d : Command) → IsCommandOf words c → IsCommandOf words d → mark (app_of_command c) ≡ mark (app_of_command d)
