@@ -1,10 +1,10 @@
--- The host of a test: a game that does nothing, on a durable world.
-use Rattle.std.specs.Prelude.{Ok, None}
+-- The host of a test.
+use Rattle.std.specs.Prelude.{None}
 use Rattle.dk_types.specs.declared.durable.Durable.{Durable}
+use Rattle.dk_model.specs.Events.{Meaning}
 use Rattle.dk_model.specs.Legal.{Opened}
-use Rattle.dk_model.specs.Runs.{give}
 use Rattle.dk_core.specs.Listings.{world_of}
 
--- a host opened on this world
-abbrev pub opened_on : Durable → Opened
-opened_on d = record { rules = λ _. give (Ok tt); durable = world_of d; budget = None }
+-- a host opened for these rules on this world
+abbrev pub opened_for : Meaning → Durable → Opened
+opened_for rules d = record { rules = rules; durable = world_of d; budget = None }

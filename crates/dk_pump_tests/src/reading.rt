@@ -1,88 +1,19 @@
-//! Clients' streams, and how their sessions end.
+//! Sessions that are read by the blocking calls.
 
-use crate::hosting::{kept_sessions, two_sessions};
+use crate::blocking::{Sessions, TwoRead};
+use crate::hosting::play;
+use crate::rows::{LOGIN, ROWS, Row, SESSION};
 use dk_edge::MemorySource;
-use dk_frame::FrameFault::{Field, Length, Opcode};
+use dk_frame::FrameFault::Field;
 use dk_pump::{BadFrame, SessionEnd};
 use dk_types::{ConnectReply, Event, Input, PostReply};
 use std::alloc::Global;
+use std::sync::Wait;
 use std::test::*;
+use sword_world::SwordWorld;
 
-// A stream, and how its session ends.
-struct Row(&'static [u8], SessionEnd);
-
-// alice logs in.
-const LOGIN: &[u8] = b"\x00\x00\x00\x07\x01\x05alice";
-
-// She looks and logs out.
-const SESSION: &[u8] = b"\x00\x00\x00\x07\x01\x05alice\x00\x00\x00\x05\x02look\x00\x00\x00\x01\x04";
-
-const ROWS: [Row; 17] = [
-    Row(b"", SessionEnd::End { at: 0 }),
-    Row(b"\x00", SessionEnd::Truncated { at: 0 }),
-    Row(b"\x00\x00\x00", SessionEnd::Truncated { at: 0 }),
-    Row(
-        b"\x00\x00\x00\x00",
-        SessionEnd::Bad(BadFrame { at: 0, why: Length }),
-    ),
-    Row(
-        b"\x00\x10\x01\x02",
-        SessionEnd::Bad(BadFrame { at: 0, why: Length }),
-    ),
-    Row(
-        b"\x00\x00\x00\x01\x02",
-        SessionEnd::Bad(BadFrame { at: 0, why: Opcode }),
-    ),
-    Row(
-        b"\x00\x00\x00\x01\x81",
-        SessionEnd::Bad(BadFrame { at: 0, why: Opcode }),
-    ),
-    Row(
-        b"\x00\x00\x00\x02\x01\x00",
-        SessionEnd::Bad(BadFrame { at: 0, why: Field }),
-    ),
-    Row(
-        b"\x00\x00\x00\x03\x01\x01\xFF",
-        SessionEnd::Bad(BadFrame { at: 0, why: Field }),
-    ),
-    Row(LOGIN, SessionEnd::End { at: 11 }),
-    Row(
-        b"\x00\x00\x00\x07\x01\x05alice\x00\x00\x00\x07\x01",
-        SessionEnd::Bad(BadFrame {
-            at: 11,
-            why: Opcode,
-        }),
-    ),
-    Row(
-        b"\x00\x00\x00\x07\x01\x05alice\x00\x00\x00\x02\x04\x00",
-        SessionEnd::Bad(BadFrame { at: 11, why: Field }),
-    ),
-    Row(
-        b"\x00\x00\x00\x07\x01\x05alice\x00\x00\x00\x05\x02lo",
-        SessionEnd::Truncated { at: 11 },
-    ),
-    // A whole frame is posted before the bad one behind it is told.
-    Row(
-        b"\x00\x00\x00\x07\x01\x05alice\x00\x00\x00\x05\x02look\x00\x00\x00\x00",
-        SessionEnd::Bad(BadFrame {
-            at: 20,
-            why: Length,
-        }),
-    ),
-    Row(
-        b"\x00\x00\x00\x07\x01\x05alice\x00\x00\x00\x05\x02look",
-        SessionEnd::End { at: 20 },
-    ),
-    Row(SESSION, SessionEnd::Logout),
-    // Bytes behind a logout are not looked at.
-    Row(
-        b"\x00\x00\x00\x07\x01\x05alice\x00\x00\x00\x01\x04\x00\x00\x00\x00",
-        SessionEnd::Logout,
-    ),
-];
-
-// A source of these bytes, in pieces of so many at most.
-fn source(
+/// A source of these bytes, in pieces of so many at most.
+pub(crate) fn source(
     alloc: Global,
     bytes: &[u8],
     piece: usize,
@@ -93,6 +24,33 @@ fn source(
         Vec::from_slice(alloc, failing)?,
         piece.max(1),
     ))
+}
+
+// Two sessions on a host that keeps its events, or none.
+fn kept_sessions<R: Wait>(
+    rt: &R,
+    alloc: Global,
+    first: MemorySource,
+    second: MemorySource,
+    keep: bool,
+) -> Result<Sessions, Fail> {
+    play(
+        rt,
+        alloc,
+        &SwordWorld::new(),
+        keep,
+        TwoRead { first, second },
+    )
+}
+
+// How a session of this source ends, and how another does after it on the same host.
+fn two_sessions<R: Wait>(
+    rt: &R,
+    alloc: Global,
+    first: MemorySource,
+    second: MemorySource,
+) -> Result<(SessionEnd, SessionEnd), Fail> {
+    Ok(kept_sessions(rt, alloc, first, second, false)?.ends)
 }
 
 #[test]
