@@ -12,8 +12,6 @@ mod play_command;
 mod program;
 mod report;
 mod stress;
-#[cfg(test)]
-mod tests;
 
 use dk_disk::FolderHome;
 use dk_edge::{StdSink, StdSource};

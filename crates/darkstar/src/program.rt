@@ -130,11 +130,13 @@ pub fn run<T: Threads + Wait + Sync, S: Source, K: Sink, M: Home + Send, G: Gate
             terms.play(rt, alloc, dir.as_str(), input, out, home, gate)
         }
         Some(Asked::Tell(report)) => report.write(alloc, home, out),
-        Some(Asked::Stress {
-            seed,
-            tasks,
-            workers,
-        }) => {
+        Some(
+            Asked::Stress {
+                seed,
+                tasks,
+                workers,
+            },
+        ) => {
             let status = stress(
                 rt,
                 alloc,

@@ -34,11 +34,7 @@ impl<'n, L: Listener, D: Doorway> Door<'n, L, D> {
     }
 
     /// The next link, for which the share rises by one. It waits for the lock, and under it for the link.
-    pub fn next<R: Wait>(
-        &self,
-        rt: &R,
-        share: &mut Share<D>,
-    ) -> Result<L::Whole, NoLink>
+    pub fn next<R: Wait>(&self, rt: &R, share: &mut Share<D>) -> Result<L::Whole, NoLink>
         requires part { 0 < share.old.parts }
         ensures given { OnOk result (share.new.amount ≡ share.old.amount + 1) }
         ensures few { OnOk result (share.old.amount < NUMBERS_END) }

@@ -50,9 +50,9 @@ fn counted(alloc: Global, tasks: u32) -> Result<String, AllocError> {
     let mut counts = [0_u32; 16];
     for before in 0..tasks {
         let counter = (7 + (before + 1) / 2) % 16;
-        counts[counter as usize] += 1;
+        counts[counter as usize] = counts[counter as usize].saturating_add(1);
     }
-    let mut text = format!(in alloc; "commits {}\ncounters", tasks + 1)?;
+    let mut text = format!(in alloc; "commits {}\ncounters", u64::from(tasks) + 1)?;
     for count in counts {
         write!(text, " {count}")?;
     }
