@@ -1,4 +1,5 @@
 pub mod Statuses
+pub mod Served
 pub mod Headline
 pub mod Reports
 pub mod Asked

@@ -11,6 +11,7 @@ mod output;
 mod play;
 mod program;
 mod report;
+mod serve;
 mod session;
 mod shared_play;
 #[cfg(test)]
