@@ -5,31 +5,80 @@ use crate::link::Link;
 use dk_types::{Failed, FaultCount};
 use futures::task::{Context, Poll};
 use std::io::{ErrorKind, Read, Write};
+use std::net::{Net, OpenStream};
+use std::thread;
+use std::time::{Clock, Duration};
 
-/// A link over a stream of the system, mostly a `TcpStream`, that was set not to block. It tells nothing of its bytes. A
-/// poll that finds the stream not ready asks for another poll.
+/// How many polls in a row are asked for at once where nothing comes and goes.
+const QUICK_POLLS_COUNT: u32 = 100;
+
+/// Behind how many such polls the stream is waited for.
+const PATIENT_POLLS_COUNT: u32 = 200;
+
+/// How long a poll between these rests, in microseconds.
+const REST_MICROS: u64 = 100;
+
+/// How long a stream is waited for, in ms.
+pub(crate) const WAIT_MS: u64 = 16;
+
+/// A link over a stream of the system that was set not to block. It tells nothing of its bytes. A poll that finds the stream
+/// not ready asks for another poll; where many in a row found nothing to take and put nothing, a poll first rests, and then
+/// waits for the stream a little, so that an idle link costs almost nothing.
 #[derive(Drop)]
-pub struct TcpLink<S: Read + Write + Drop> {
-    stream: S,
+pub struct TcpLink<'a, R: Net + Clock> {
+    rt: &'a R,
+    stream: R::Stream,
+    // How many polls in a row found nothing to take and put nothing.
+    idle: u32,
+    // Whether a read waits for the stream a little.
+    waits: bool,
     take_faults: FaultCount,
     put_faults: FaultCount,
 }
 
-impl<S: Read + Write + Drop> TcpLink<S> {
+impl<'a, R: Net + Clock> TcpLink<'a, R> {
     /// A link over this connection, which was set not to block.
-    pub fn new(stream: S) -> TcpLink<S>
+    pub fn new(rt: &'a R, stream: R::Stream) -> TcpLink<'a, R>
         ensures take { result.take_faults.count ≡ 0 }
         ensures put { result.put_faults.count ≡ 0 }
     {
         TcpLink {
+            rt,
             stream,
+            idle: 0,
+            waits: false,
             take_faults: FaultCount::new(),
             put_faults: FaultCount::new(),
         }
     }
+
+    // Rests, where nothing came and went for a while; or has the next read wait.
+    fn rest(&mut self)
+        ensures take { self.new.take_faults.count ≡ self.old.take_faults.count }
+        ensures put { self.new.put_faults.count ≡ self.old.put_faults.count }
+    {
+        if self.idle >= PATIENT_POLLS_COUNT {
+            self.set_waiting(true);
+            return;
+        }
+        self.set_waiting(false);
+        if self.idle >= QUICK_POLLS_COUNT {
+            thread::sleep(self.rt, Duration::from_micros(REST_MICROS));
+        }
+    }
+
+    // Has reads wait a little, or not, if the system lets it.
+    fn set_waiting(&mut self, waits: bool)
+        ensures take { self.new.take_faults.count ≡ self.old.take_faults.count }
+        ensures put { self.new.put_faults.count ≡ self.old.put_faults.count }
+    {
+        if self.waits != waits && self.stream.set_nonblocking(!waits).is_ok() {
+            self.waits = waits;
+        }
+    }
 }
 
-impl<S: Read + Write + Drop> Link for TcpLink<S> {
+impl<'a, R: Net + Clock> Link for TcpLink<'a, R> {
     ghost remaining = { λ _. None };
 
     ghost contents = { λ _. None };
@@ -43,9 +92,16 @@ impl<S: Read + Write + Drop> Link for TcpLink<S> {
         context: &mut Context<'_>,
         into: &mut [u8],
     ) -> Poll<Result<usize, Failed>> {
+        self.rest();
         match self.stream.read(into) {
-            Ok(count) => Poll::Ready(Ok(count)),
-            Err(error) if is_passing(error.kind()) => context.yield_now(),
+            Ok(count) => {
+                self.idle = 0;
+                Poll::Ready(Ok(count))
+            }
+            Err(error) if is_passing(error.kind()) => {
+                self.idle = self.idle.saturating_add(1);
+                context.yield_now()
+            }
             Err(_) => {
                 self.take_faults.rise();
                 Poll::Ready(Err(Failed))
@@ -57,8 +113,12 @@ impl<S: Read + Write + Drop> Link for TcpLink<S> {
         if bytes.is_empty() {
             return Poll::Ready(Ok(0));
         }
+        self.set_waiting(false);
         match self.stream.write(bytes) {
-            Ok(count) if count > 0 => Poll::Ready(Ok(count)),
+            Ok(count) if count > 0 => {
+                self.idle = 0;
+                Poll::Ready(Ok(count))
+            }
             Err(error) if is_passing(error.kind()) => context.yield_now(),
             _ => {
                 self.put_faults.rise();

@@ -5,11 +5,12 @@ ghost use Rattle.dk_edge.specs.Listening.{listening_at};
 
 use crate::listener::{Binding, Listener};
 use crate::std_streams::{StdSink, StdSource};
-use crate::tcp_link::TcpLink;
+use crate::tcp_link::{TcpLink, WAIT_MS};
 use dk_types::limits::NUMBERS_END;
 use dk_types::{Failed, FaultCount};
 use std::io;
 use std::net::{Ipv4Addr, Net, OpenListener, OpenStream, TcpListener};
+use std::time::{Clock, Duration};
 
 /// A source over one handle of a connection.
 pub type TcpSource<S> = StdSource<S>;
@@ -19,7 +20,7 @@ pub type TcpSink<S> = StdSink<S>;
 
 /// Listens at a port of 127.0.0.1. It gives links for as long as they come, up to 2^62 of them.
 #[derive(Drop)]
-pub struct TcpListen<'a, R: Net> {
+pub struct TcpListen<'a, R: Net + Clock> {
     rt: &'a R,
     listener: Option<R::Listener>,
     binding: Binding,
@@ -29,7 +30,7 @@ pub struct TcpListen<'a, R: Net> {
     ghost few: { given ≤ NUMBERS_END },
 }
 
-impl<'a, R: Net> TcpListen<'a, R> {
+impl<'a, R: Net + Clock> TcpListen<'a, R> {
     /// A listener of this runtime's system, which does not listen yet.
     pub fn new(rt: &'a R) -> TcpListen<'a, R>
         ensures binding { result.binding ≡ Binding.NotCalled }
@@ -62,20 +63,22 @@ impl<'a, R: Net> TcpListen<'a, R> {
         Ok((stream, other))
     }
 
-    // The next connection, set not to block.
+    // The next connection, set not to block, nor to gather what is put; a read that waits does so for a little.
     fn next_whole(&self) -> io::Result<R::Stream> {
         let stream = self.next()?;
+        stream.set_nodelay(true)?;
+        stream.set_read_timeout(Some(Duration::from_millis(WAIT_MS)))?;
         stream.set_nonblocking(true)?;
         Ok(stream)
     }
 }
 
-impl<'a, R: Net> Listener for TcpListen<'a, R> {
+impl<'a, R: Net + Clock> Listener for TcpListen<'a, R> {
     type In = TcpSource<R::Stream>;
 
     type Out = TcpSink<R::Stream>;
 
-    type Whole = TcpLink<R::Stream>;
+    type Whole = TcpLink<'a, R>;
 
     ghost listening = { λ l. listening_at l.binding l.given l.ended };
 
@@ -119,7 +122,7 @@ impl<'a, R: Net> Listener for TcpListen<'a, R> {
             return Err(Failed);
         };
         self.given += 1;
-        Ok(Some(TcpLink::new(stream)))
+        Ok(Some(TcpLink::new(self.rt, stream)))
     }
 
     fn faults(&self) -> u64 {
