@@ -11,7 +11,7 @@ use Rattle.dk_command.specs.Commands.{HasValues, IsAnswerOf, IsTaken, app_of_com
 use Rattle.dk_command.specs.Found.{IsBetween, IsFlag, IsReadAs, is_plain, takes_flag, takes_number, wants_value}
 use Rattle.dk_command.proofs.GetterLemmas.{none_not_some}
 use Rattle.dk_command.specs.Matches.{game_in, number_or, spelled_number}
-use Rattle.dk_command.specs.Requests.{AreFewTasks}
+use Rattle.dk_command.specs.Requests.{AreFew}
 use Rattle.dk_types.specs.declared.limits.TheConstants.{TASKS_MOST_COUNT}
 
 -- the matches, by the grammar's own name and by the words that were passed
@@ -108,7 +108,12 @@ number_fits least most other bound name rows n is h fits wide =
 pub few_here : (rows : List Row) (n : ℕ) → n ≡ number_or 1000 (codes "tasks") rows → IsBetween 1 65536 (codes "tasks") rows → n ≤ TASKS_MOST_COUNT
 few_here rows n is h = rw is (number_most 1 65536 1000 (codes "tasks") rows h (omega arith))
 
--- what is an error has no tasks
-pub few_up : (E : CommandRefused → Type 0) (r : Result Command CommandRefused) → IsErrAnd r E → IfOk r AreFewTasks
+-- and a server for as few workers and clients as its options allow
+pub few_served : (rows : List Row) (n m : ℕ) → n ≡ number_or 2 (codes "workers") rows → IsBetween 1 64 (codes "workers") rows
+    → m ≡ number_or 16 (codes "clients") rows → IsBetween 1 256 (codes "clients") rows → (n ≤ 64) × (m ≤ 256)
+few_served rows n m is h also k = (rw is (number_most 1 64 2 (codes "workers") rows h (omega arith)), rw also (number_most 1 256 16 (codes "clients") rows k (omega arith)))
+
+-- what is an error asks for nothing
+pub few_up : (E : CommandRefused → Type 0) (r : Result Command CommandRefused) → IsErrAnd r E → IfOk r AreFew
 few_up E (Ok command) h = absurd h
 few_up E (Err e) h = tt

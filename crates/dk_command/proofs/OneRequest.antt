@@ -6,7 +6,7 @@ use Rattle.dk_command.specs.declared.command.Command.TheVariants as command
 use Rattle.dk_command.specs.declared.parse.CommandRefused.{CommandRefused}
 use Rattle.dk_command.specs.Grammar.{play_app, serve_app, check_app, inspect_app, stress_app}
 use Rattle.dk_command.specs.Commands.{IsAnswerOf, IsCommandOf, app_of_command}
-use Rattle.dk_command.specs.Requests.{AreFewTasks, Request, request_of, Asks}
+use Rattle.dk_command.specs.Requests.{AreFew, Request, request_of, Asks}
 
 -- the subcommands have different names
 mark : App → ℕ
@@ -17,10 +17,6 @@ pub play_is_other : stress_app ≡ play_app → ⊥
 unfolding play_app stress_app mark
 play_is_other e = let m : mark stress_app ≡ mark play_app = ap mark e in omega arith
 
-pub serve_is_other : stress_app ≡ serve_app → ⊥
-unfolding serve_app stress_app mark
-serve_is_other e = let m : mark stress_app ≡ mark serve_app = ap mark e in omega arith
-
 pub check_is_other : stress_app ≡ check_app → ⊥
 unfolding check_app stress_app mark
 check_is_other e = let m : mark stress_app ≡ mark check_app = ap mark e in omega arith
@@ -29,15 +25,28 @@ pub inspect_is_other : stress_app ≡ inspect_app → ⊥
 unfolding inspect_app stress_app mark
 inspect_is_other e = let m : mark stress_app ≡ mark inspect_app = ap mark e in omega arith
 
--- the answer for another subcommand asks for no tasks
-pub answers_few : (words : List Text) (app : App) (r : Result Command CommandRefused) → IsAnswerOf app words r → (stress_app ≡ app → ⊥) → IfOk r AreFewTasks
+-- nor `serve`
+pub play_serves_none : serve_app ≡ play_app → ⊥
+unfolding play_app serve_app mark
+play_serves_none e = let m : mark serve_app ≡ mark play_app = ap mark e in omega arith
+
+pub check_serves_none : serve_app ≡ check_app → ⊥
+unfolding check_app serve_app mark
+check_serves_none e = let m : mark serve_app ≡ mark check_app = ap mark e in omega arith
+
+pub inspect_serves_none : serve_app ≡ inspect_app → ⊥
+unfolding inspect_app serve_app mark
+inspect_serves_none e = let m : mark serve_app ≡ mark inspect_app = ap mark e in omega arith
+
+-- the answer for another subcommand asks for nothing of which there may be too much
+pub answers_few : (words : List Text) (app : App) (r : Result Command CommandRefused) → IsAnswerOf app words r → (stress_app ≡ app → ⊥) → (serve_app ≡ app → ⊥) → IfOk r AreFew
 unfolding IsAnswerOf
-answers_few words app (Ok (command.Play dir game workers budget checkpoint)) h differs = tt
-answers_few words app (Ok (command.Serve dir port game workers clients sessions)) h differs = tt
-answers_few words app (Ok (command.Check dir game)) h differs = tt
-answers_few words app (Ok (command.Inspect dir game)) h differs = tt
-answers_few words app (Ok (command.Stress seed tasks workers)) h differs = absurd (differs h.1)
-answers_few words app (Err e) h differs = tt
+answers_few words app (Ok (command.Play dir game workers budget checkpoint)) h differs serves = tt
+answers_few words app (Ok (command.Serve dir port game workers clients sessions)) h differs serves = absurd (serves h.1)
+answers_few words app (Ok (command.Check dir game)) h differs serves = tt
+answers_few words app (Ok (command.Inspect dir game)) h differs serves = tt
+answers_few words app (Ok (command.Stress seed tasks workers)) h differs serves = absurd (differs h.1)
+answers_few words app (Err e) h differs serves = tt
 
 module _ (words : List Text) where
   marks : (c d : Command) → IsCommandOf words c → IsCommandOf words d → mark (app_of_command c) ≡ mark (app_of_command d)

@@ -60,10 +60,10 @@ request_of (command.Stress seed tasks workers) = Stresses (record { seed = seed;
 abbrev pub Asks : List Text → Request → Type 0
 Asks words request = (command : Command) × IsCommandOf words command × (request_of command ≡ request)
 
--- a `stress` asks for at most as many tasks as one run may plan
-abbrev pub AreFewTasks : Command → Type 0
-AreFewTasks (command.Play dir game workers budget checkpoint) = ⊤
-AreFewTasks (command.Serve dir port game workers clients sessions) = ⊤
-AreFewTasks (command.Check dir game) = ⊤
-AreFewTasks (command.Inspect dir game) = ⊤
-AreFewTasks (command.Stress seed tasks workers) = tasks ≤ TASKS_MOST_COUNT
+-- a `serve` asks for at most 64 workers and 256 clients at one time, and a `stress` for at most as many tasks as one run may plan
+abbrev pub AreFew : Command → Type 0
+AreFew (command.Play dir game workers budget checkpoint) = ⊤
+AreFew (command.Serve dir port game workers clients sessions) = (workers ≤ 64) × (clients ≤ 256)
+AreFew (command.Check dir game) = ⊤
+AreFew (command.Inspect dir game) = ⊤
+AreFew (command.Stress seed tasks workers) = tasks ≤ TASKS_MOST_COUNT

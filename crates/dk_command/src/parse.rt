@@ -1,7 +1,7 @@
 //! The reading of the words.
 ghost use Rattle.std.specs.Prelude.{◌≡◌, ◌≢◌, ◌↔◌, None, IfOk};
 ghost use Rattle.dk_command.specs.Commands.{app_of_words, IsCommandLine, IsCommandOf};
-ghost use Rattle.dk_command.specs.Requests.{AreFewTasks, Asks, Request, request_of};
+ghost use Rattle.dk_command.specs.Requests.{AreFew, Asks, Request, request_of};
 
 use crate::command::Command;
 use crate::subcommands::{check, inspect, play, serve, stress};
@@ -48,7 +48,7 @@ impl<T: Drop> From<AllocFailed<T>> for CommandRefused {
 pub fn parse_command(alloc: Global, words: &Words) -> Result<Command, CommandRefused>
     ensures ok { IfOk result (IsCommandOf words.now) }
     ensures one { (request : Request) → Asks words.now request → IfOk result (λ command. request_of command ≡ request) }
-    ensures few_tasks { IfOk result AreFewTasks }
+    ensures few { IfOk result AreFew }
     ensures usage { result ≢ Err CommandRefused.NoMemory → ((result ≡ Err CommandRefused.Usage) ↔ (¬ IsCommandLine words.now)) }
     ensures unknown { app_of_words words.now ≡ None → result ≡ Err CommandRefused.Usage }
 {

@@ -4,7 +4,7 @@ ghost use Rattle.clap.specs.Walk.{texts};
 ghost use Rattle.dk_command.specs.Commands.{IsAnswerOf};
 ghost use Rattle.dk_command.specs.Grammar.{check_app, inspect_app, play_app, serve_app, stress_app};
 ghost use Rattle.dk_command.specs.Matches.{limit_of};
-ghost use Rattle.dk_command.specs.Requests.{AreFewTasks};
+ghost use Rattle.dk_command.specs.Requests.{AreFew};
 
 use crate::command::Command;
 use crate::grammars;
@@ -32,7 +32,8 @@ pub(crate) fn play(alloc: Global, words: &Words) -> Result<Command, CommandRefus
 }
 
 pub(crate) fn serve(alloc: Global, words: &Words) -> Result<Command, CommandRefused>
-    ensures { IsAnswerOf serve_app words.now result }
+    ensures answer { IsAnswerOf serve_app words.now result }
+    ensures few { IfOk result AreFew }
 {
     let texts = texts_of(alloc, words)?;
     let grammar = grammars::serve(alloc)?;
@@ -82,7 +83,7 @@ pub(crate) fn inspect(alloc: Global, words: &Words) -> Result<Command, CommandRe
 
 pub(crate) fn stress(alloc: Global, words: &Words) -> Result<Command, CommandRefused>
     ensures answer { IsAnswerOf stress_app words.now result }
-    ensures few_tasks { IfOk result AreFewTasks }
+    ensures few { IfOk result AreFew }
 {
     let texts = texts_of(alloc, words)?;
     let grammar = grammars::stress(alloc)?;

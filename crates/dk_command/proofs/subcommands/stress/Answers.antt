@@ -9,13 +9,13 @@ use Rattle.dk_command.proofs.subcommands.stress.Goals as goal
 pub returns-in_err-texts : goal.returns-in_err-texts
 returns-in_err-texts c = record {
   answer = memory_up stress_app c.args.words.now c.from_residual.result c.from_residual.ensures.1;
-  few_tasks = few_up _ c.from_residual.result c.from_residual.ensures.1;
+  few = few_up _ c.from_residual.result c.from_residual.ensures.1;
 }
 
 pub returns-in_err-grammar : goal.returns-in_err-grammar
 returns-in_err-grammar c = record {
   answer = memory_up stress_app c.args.words.now c.from_residual-in_err-grammar.result c.from_residual-in_err-grammar.ensures.1;
-  few_tasks = few_up _ c.from_residual-in_err-grammar.result c.from_residual-in_err-grammar.ensures.1;
+  few = few_up _ c.from_residual-in_err-grammar.result c.from_residual-in_err-grammar.ensures.1;
 }
 
 pub read-requires : goal.read-requires
@@ -25,7 +25,7 @@ pub returns-in_err-matches : goal.returns-in_err-matches
 returns-in_err-matches c = record {
   answer = fault_up (app_of c.in_ok-grammar.grammar) stress_app (texts c.as_slice.result.now) c.args.words.now c.in_err-matches.field-0.0 c.in_ok-grammar.ensures
       (ap texts c.as_slice.ensures.value ∙ c.in_ok-texts.ensures) c.in_err-matches.ensures.usage c.from_residual-in_err-matches.result c.from_residual-in_err-matches.ensures.1;
-  few_tasks = few_up _ c.from_residual-in_err-matches.result c.from_residual-in_err-matches.ensures.1;
+  few = few_up _ c.from_residual-in_err-matches.result c.from_residual-in_err-matches.ensures.1;
 }
 
 pub number-requires : goal.number-requires
@@ -65,6 +65,6 @@ returns c =
     record {
       answer = values_here stress_app c.args.words.now c.in_ok-matches.matches _ read (λ has. absurd (stress_has_no_game has)) refl
           (c.number.ensures, c.number-2.ensures, c.number-3.ensures);
-      few_tasks = few_here (rows_of (found_of c.in_ok-matches.matches)) c.number-2.result c.number-2.ensures
+      few = few_here (rows_of (found_of c.in_ok-matches.matches)) c.number-2.result c.number-2.ensures
           (between_here (app_of c.in_ok-grammar.grammar) stress_app (texts c.as_slice.result.now) c.in_ok-matches.matches c.in_ok-grammar.ensures c.in_ok-matches.ensures.ok (codes "tasks") 1 65536 stress_tasks);
     }
