@@ -4,7 +4,7 @@ use Rattle.dk_command.specs.declared.command.Command.{Command}
 use Rattle.dk_command.specs.declared.parse.CommandRefused.{CommandRefused}
 use Rattle.dk_command.specs.declared.parse.CommandRefused.TheVariants.{Usage, NoMemory}
 use Rattle.dk_command.specs.Commands.{IsCommandLine, IsCommandOf}
-use Rattle.dk_command.specs.Requests.{AreFewTasks, Asks, Playing, Plays, Report, Reports, Request, Stresses, Stressing, request_of}
+use Rattle.dk_command.specs.Requests.{AreFew, Asks, Playing, Plays, Report, Reports, Request, Stresses, Stressing, request_of}
 use Rattle.darkstar.specs.Asked.{IsAsked}
 use Rattle.darkstar.specs.Reports.{ForReport}
 use Rattle.darkstar.specs.Runs.{ForPlay}
@@ -50,7 +50,7 @@ pub stress_no_report : (words : List (List ℕ)) (mine : Stressing) (command : C
 stress_no_report words mine command one is report asks = let e : Stresses mine ≡ Reports report = sym is ∙ one (Reports report) asks in cc
 
 -- a `stress` asks for few tasks
-pub few_of : (given : Command) (mine : Stressing) → AreFewTasks given → request_of given ≡ Stresses mine → mine.tasks ≤ TASKS_MOST_COUNT
+pub few_of : (given : Command) (mine : Stressing) → AreFew given → request_of given ≡ Stresses mine → mine.tasks ≤ TASKS_MOST_COUNT
 few_of (command.Play dir game workers budget checkpoint) mine few is = absurd cc
 few_of (command.Serve dir port game workers clients sessions) mine few is = absurd cc
 few_of (command.Check dir game) mine few is = absurd cc
