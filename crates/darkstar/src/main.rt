@@ -5,16 +5,21 @@
 //! fault to standard error, and exits with the status.
 #![tactic(auto)]
 
+mod announcing;
 mod asked;
+mod ended;
 mod input;
 mod output;
 mod play_command;
 mod program;
 mod report;
+mod serve;
+mod serve_command;
 mod stress;
 
+use announcing::Announcing;
 use dk_disk::FolderHome;
-use dk_edge::{StdSink, StdSource};
+use dk_edge::{StdSink, StdSource, SystemClock, TcpListen, ThreadSpawner};
 use dk_status::Status;
 use dk_types::Words;
 use dk_workers::OpenGate;
@@ -31,8 +36,24 @@ fn main(rt: HostRuntime) -> ExitCode {
             let mut input = StdSource::new(rt.reader());
             let mut out = StdSink::new(io::writer(&rt));
             let home = FolderHome::new(rt.alloc(), system);
+            let mut net = Announcing::new(&rt, TcpListen::new(&rt));
+            let clock = SystemClock::new(&rt);
+            let mut spawner = ThreadSpawner::new(&rt);
             let gate = OpenGate;
-            run(&rt, rt.alloc(), &words, &mut input, &mut out, home, &gate).status
+            let ran = run(
+                &rt,
+                rt.alloc(),
+                &words,
+                &mut input,
+                &mut out,
+                home,
+                &mut net,
+                &clock,
+                &mut spawner,
+                &gate,
+            );
+            net.tell_served(ran.served.number());
+            ran.status
         }
         (Err(status), _) => status,
         (_, Err(_)) => Status::NoMemory,

@@ -61,6 +61,7 @@ impl Report {
         ensures sink_steady { result.status ≢ Status.WriteFault → K.counted out.new ≡ K.counted out.old }
         ensures no_usage { result.status ≢ Status.Usage }
         ensures no_read { result.status ≢ Status.ReadFault }
+        ensures no_net { result.status ≢ Status.NetFault }
     {
         let mut home = home;
         let game = id_of(self.game);

@@ -20,6 +20,7 @@ use dk_disk::Home;
 use dk_edge::{Clock, Listener, Spawner};
 use dk_game::Game;
 use dk_host::open_store;
+use dk_pump::Tally;
 use dk_status::Status;
 use dk_workers::Gate;
 use std::alloc::{AllocGlobal, Global};
@@ -71,7 +72,11 @@ impl Service {
         let mut home = home;
         match home.open(dir) {
             Ok(()) => self.serve_game(rt, alloc, home, before, net, clock, spawner, gate),
-            Err(_) => Ran::unserved(Status::DiskFault, home),
+            Err(_) => Ran {
+                status: Status::DiskFault,
+                home,
+                served: Tally::new(),
+            },
         }
     }
 
@@ -161,7 +166,13 @@ impl Service {
     {
         let store = match open_store(alloc, home, &game.id()) {
             Ok(store) => store,
-            Err(refused) => return Ran::unserved(unopened_status(refused.fault), refused.home),
+            Err(refused) => {
+                return Ran {
+                    status: unopened_status(refused.fault),
+                    home: refused.home,
+                    served: Tally::new(),
+                };
+            }
         };
         let Served {
             home,

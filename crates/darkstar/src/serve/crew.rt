@@ -71,10 +71,11 @@ where
     ghost may_give = { λ _ _. Unit {0} };
 
     fn go(self) -> MemberDone<D, L::Whole> {
-        match self.role {
-            Role::Ticker(pass) => self.server.tick(pass),
-            Role::Worker(number, pass) => self.server.work(number, pass),
-            Role::Place(place) => self.server.serve(place),
+        let Member { server, role } = self;
+        match role {
+            Role::Ticker(pass) => server.tick(pass),
+            Role::Worker(number, pass) => server.work(number, pass),
+            Role::Place(place) => server.serve(place),
         }
     }
 }
@@ -158,7 +159,7 @@ where
     for _ in 0..count {
         if let Some(pass) = passes.pop() {
             let count = LinkCount::new(share.split_off(1, 0));
-            let role = Role::Place(Place { pass, count });
+            let role = Role::Place(Place::new(pass, count));
             members.push(Member { server, role })?;
         }
     }

@@ -138,10 +138,14 @@ where
     /// Serves sessions, as long as there are links for them.
     pub(crate) fn serve(&self, place: Place<W, J, D, L::Whole>) -> MemberDone<D, L::Whole> {
         match place.serve(self.rt, self.alloc, self.host, &self.door) {
-            Some(done) => MemberDone {
-                verdict: Verdict::of_place(done.end),
-                count: Some(done.place.count),
-            },
+            Some(done) => {
+                let verdict = Verdict::of_place(done.end);
+                let (_, count) = done.place.into_parts();
+                MemberDone {
+                    verdict,
+                    count: Some(count),
+                }
+            }
             None => MemberDone {
                 verdict: Verdict::no_memory(),
                 count: None,

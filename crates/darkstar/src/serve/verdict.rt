@@ -1,10 +1,10 @@
 //! How a member of a server's crew ended.
 ghost use Rattle.std.specs.Prelude.{◌≡◌, ◌↔◌, None, Some, IsTrue};
 ghost use Rattle.dk_types.specs.Faults.{HasRisen};
+ghost use Rattle.dk_pump.specs.Places.{IsSoundPlaceEnd};
 ghost use Rattle.darkstar.specs.Served.{HasWorkCause, IsSound, IsSoundDrain, IsTold};
 
 use dk_pump::{NoLink, PlaceEnd};
-use dk_types::limits::NUMBERS_END;
 use dk_workers::{PlayFault, Worked};
 
 /// Why a server came to an end that it was not to come to.
@@ -80,21 +80,16 @@ impl Verdict {
         Verdict { fault }
     }
 
-    /// What a place's end is to the server. The numbers are told to be at their end where the next one is none.
-    pub(crate) fn of_place(end: PlaceEnd) -> Verdict {
+    /// What a place's end is to the server.
+    pub(crate) fn of_place(end: PlaceEnd) -> Verdict
+        requires { IsSoundPlaceEnd end }
+    {
         match end {
             PlaceEnd::NoLink(NoLink::Over | NoLink::Ending) => Verdict::good(),
             PlaceEnd::NoLink(NoLink::Failed) => Verdict::net_fault(),
-            PlaceEnd::Exhausted { next } => Verdict::exhausted(next),
-        }
-    }
-
-    fn exhausted(next: u64) -> Verdict {
-        if next != NUMBERS_END {
-            return Verdict::no_memory();
-        }
-        Verdict {
-            fault: Some(ServeFault::Exhausted { next }),
+            PlaceEnd::Exhausted { next } => Verdict {
+                fault: Some(ServeFault::Exhausted { next }),
+            },
         }
     }
 
