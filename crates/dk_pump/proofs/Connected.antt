@@ -3,9 +3,13 @@ use Rattle.std.proofs.Common.{◌≡◌, ℕ, ◌<◌, ◌≤◌, List, [], ◌�
 use Rattle.std.proofs.lemmas.List.{append-nil}
 use Rattle.std.specs.List.{All, remove}
 use Rattle.std.specs.Io.KnownBytes.{Consumes}
+use Rattle.dk_types.specs.declared.limits.TheConstants.{NUMBERS_END}
 use Rattle.dk_types.specs.declared.event.Event.{Event}
+use Rattle.dk_types.specs.declared.event.Event.TheVariants as event
+use Rattle.dk_types.specs.declared.event.ConnectReply.TheVariants as connected
 use Rattle.dk_model.specs.Frames.{Frame, Login}
-use Rattle.dk_model.specs.Legal.{Opened, pass_of}
+use Rattle.dk_model.specs.Legal.{Opened, IsLegal, pass_of}
+use Rattle.dk_play_laws.proofs.Budgets.{numbers_end}
 use Rattle.dk_core.specs.declared.answers.ConnectRefused.{ConnectRefused}
 use Rattle.dk_core.specs.declared.answers.ConnectRefused.TheVariants as refused
 use Rattle.dk_frame.specs.declared.frame.ClientFrame.{ClientFrame}
@@ -21,6 +25,10 @@ use Rattle.dk_pump.specs.Ends.{end_of_connect}
 use Rattle.dk_pump.specs.Reading.{IsOfRead, Counts, IsNextRead, IsNextEnd, IsFirstRead, IsFirstEnd, ConnectsBy, Greets}
 use Rattle.dk_pump.proofs.Entering.{enters_none, enters_one}
 use Rattle.dk_pump.proofs.Streams.{consumes_then, cause_then}
+
+-- where a Connect finds no number, numbers have come to their end
+pub connect_ends : (o : Opened) (pass : ℕ) (name : List ℕ) (next : ℕ) (old new : List Event) → Entered o pass (event.Connect pass name (connected.Exhausted next) ∷ []) old new → next ≡ NUMBERS_END
+connect_ends o pass name next old new e = numbers_end o e.before (event.Connect pass name (connected.Exhausted next)) next refl (subst (IsLegal o) e.front e.legal)
 
 -- a list without length has nothing
 pub empty_is : {A : Type 0} (items : List A) → length items ≡ 0 → items ≡ []
@@ -116,7 +124,7 @@ module _ (o : Opened) (count pass : ℕ) (left left' : Option (List ℕ)) (new :
       stands = first.stands;
       few = few;
       connects = (name, rest, is, refl);
-      cause = tt;
+      cause = connect_ends o pass name next front front' e;
       counts = first.counts;
       enters = enters_one o count pass _ front front' e named;
     }

@@ -17,3 +17,5 @@ mod Later
 mod Midst
 mod PutParts
 mod Ticked
+mod Numbered
+mod Choices

@@ -5,6 +5,7 @@ use Rattle.std.proofs.lemmas.List.Folds.{list_any-append}
 use Rattle.std.specs.List.{list_any}
 use Rattle.std.specs.Io.KnownBytes.{Consumes}
 use mathlib.Core.List.{IsPrefix}
+use Rattle.dk_types.specs.declared.limits.TheConstants.{NUMBERS_END}
 use Rattle.dk_types.specs.declared.number.ConnNo.{ConnNo}
 use Rattle.dk_types.specs.declared.event.Event.{Event}
 use Rattle.dk_types.specs.declared.event.Event.TheVariants as event
@@ -15,7 +16,7 @@ use Rattle.dk_core.specs.declared.answers.ConnectRefused.{ConnectRefused}
 use Rattle.dk_core.specs.declared.answers.ConnectRefused.TheVariants as refused
 use Rattle.dk_frame.specs.Decoding.{Decoding}
 use Rattle.dk_frame.proofs.Turns.{stage_after-append}
-use Rattle.dk_host.specs.Calls.{connect_events}
+use Rattle.dk_host.specs.Calls.{Entered, connect_events}
 use Rattle.dk_pump.specs.declared.limits.TheConstants.{SESSION_MOST_BYTES}
 use Rattle.dk_pump.specs.declared.ends.SessionEnd.{SessionEnd}
 use Rattle.dk_pump.specs.declared.ends.SessionEnd.TheVariants as ends
@@ -24,7 +25,7 @@ use Rattle.dk_pump.specs.Ends.{end_of_connect}
 use Rattle.dk_pump.specs.Reading.{inputs_of, taken, Posts, Counts, IsOfRead, IsNextEnd, ConnectsBy, IsPosted, Closes}
 use Rattle.dk_pump.specs.Sessions.{IsPolledRead, IsInSession, IsReadOut, AreReads, StopsBy, HasRead}
 use Rattle.dk_pump.specs.Writing.{tells_end}
-use Rattle.dk_pump.proofs.Connected.{connects_none}
+use Rattle.dk_pump.proofs.Connected.{connect_ends, connects_none}
 use Rattle.dk_turn.proofs.Beginnings.{prefix_self}
 use Rattle.dk_pump.proofs.Later.{prefix_then}
 use Rattle.dk_pump.proofs.PostedBehind.{taken_both}
@@ -34,7 +35,7 @@ or_left : (x y : Bool) → x ≡ true → (x || y) ≡ true
 or_left true y is = refl
 or_left false y is = absurd (cc is)
 
--- the ends of which no byte tells
+-- the ends of which no byte tells, with what causes them
 abbrev pub IsOfCall : SessionEnd → Type 0
 IsOfCall ends.Logout = Unit {0}
 IsOfCall (ends.End at) = ⊥
@@ -43,7 +44,7 @@ IsOfCall (ends.Bad bad) = ⊥
 IsOfCall ends.ReadFault = ⊥
 IsOfCall (ends.Flood waiting) = Unit {0}
 IsOfCall ends.Closed = Unit {0}
-IsOfCall (ends.Exhausted next) = Unit {0}
+IsOfCall (ends.Exhausted next) = next ≡ NUMBERS_END
 IsOfCall (ends.Budget bytes) = ⊥
 IsOfCall ends.NoMemory = Unit {0}
 
@@ -100,7 +101,7 @@ module _ (o : Opened) (keeps : Bool) (pass : ℕ) (conn : Option ConnNo) (d : De
   stops_by_call ends.ReadFault is = absurd is
   stops_by_call (ends.Flood waiting) is = (h.stops.0, tt, h.stops.1)
   stops_by_call ends.Closed is = (h.stops.0, tt, h.stops.1)
-  stops_by_call (ends.Exhausted next) is = (h.stops.0, tt, h.stops.1)
+  stops_by_call (ends.Exhausted next) is = (h.stops.0, is, h.stops.1)
   stops_by_call (ends.Budget bytes) is = absurd is
   stops_by_call ends.NoMemory is = (tt, tt, h.stops.1)
 
@@ -153,9 +154,9 @@ pub logs_in_not : (pass : ℕ) (frames : List Frame) (name : List ℕ) (rest : L
 logs_in_not pass frames name rest writes reads h (refused.Exhausted next) = (name, rest, h.0, ap (λ es. es ++ event.Connect pass name (connected.Exhausted next) ∷ []) h.1)
 logs_in_not pass frames name rest writes reads h refused.NoMemory = ap (λ es. es ++ []) h.1
 
-pub refused_by_call : (r : ConnectRefused) → IsOfCall (end_of_connect r)
-refused_by_call (refused.Exhausted next) = tt
-refused_by_call refused.NoMemory = tt
+pub refused_by_call : (o : Opened) (pass : ℕ) (name : List ℕ) (old new : List Event) (r : ConnectRefused) → Entered o pass (connect_events pass name (Err r)) old new → IsOfCall (end_of_connect r)
+refused_by_call o pass name old new (refused.Exhausted next) e = connect_ends o pass name next old new e
+refused_by_call o pass name old new refused.NoMemory e = tt
 
 -- no LOGIN came
 pub never_logs_in : (pass : ℕ) (frames : List Frame) (writes reads : List Event) → (frames ≡ []) × (reads ≡ []) → (end : SessionEnd) → IsOfRead end → ConnectsBy pass frames (Err end) reads

@@ -181,7 +181,7 @@ module _ (o : Opened) (keeps : Bool) (count : ℕ) where
       (subst (λ z. IsSession o keeps count began given mid link z []) (sym ends.1)
       (by_reading began given pass link x (Login name ∷ rest) s mid link x' [] events same
       (subst (λ m. Enters o count m events pass.front mid.front) (sym s.number) (enters_one o count n events pass.front mid.front now named))
-      (read_to_call o keeps n None x.decoder given.left link.left given.take_counted link.take_counted pass.front mid.front (Login name ∷ rest) s.writes s.reads s.read end (refused_by_call r) None (s.reads ++ events)
+      (read_to_call o keeps n None x.decoder given.left link.left given.take_counted link.take_counted pass.front mid.front (Login name ∷ rest) s.writes s.reads s.read end (refused_by_call o n name pass.front mid.front r now) None (s.reads ++ events)
       (logs_in_not n s.read.frames name rest s.writes s.reads s.read.entered r))
       (unwritten_over x x.decoder end given.contents link.contents link.contents given.put_counted link.put_counted link.put_counted s.writes refl refl s.written)))) ends
 

@@ -6,3 +6,4 @@ pub mod Sessions
 pub mod Waiting
 pub mod Arrivals
 pub mod Ticking
+pub mod Places

@@ -7,6 +7,7 @@ use Rattle.std.specs.List.{flat_map}
 use mathlib.Core.List.{IsPrefix}
 use Rattle.std.specs.Io.KnownBytes.{Consumes}
 use Rattle.dk_types.specs.Faults.{HasRisen}
+use Rattle.dk_types.specs.declared.limits.TheConstants.{NUMBERS_END}
 use Rattle.dk_types.specs.declared.number.ConnNo.{ConnNo}
 use Rattle.dk_types.specs.declared.job.Input.{Input}
 use Rattle.dk_types.specs.declared.job.Input.TheVariants as input
@@ -95,7 +96,7 @@ abbrev pub IsWhole : Option (List ℕ) → List ℕ → Type 0
 IsWhole None bytes = Unit {0}
 IsWhole (Some left) bytes = left ≡ bytes
 
--- Why reading ended, from what was left at its begin, the bytes that were read, and what the decoder then is. The budget ends a session before it looks for more, and all that looks for more is within it.
+-- Why reading ended, from what was left at its begin, the bytes that were read, and what the decoder then is. The budget ends a session before it looks for more, and all that looks for more is within it. Where no number was left, numbers have come to their end.
 abbrev pub IsCause : SessionEnd → Option (List ℕ) → List ℕ → Decoding → Type 0
 IsCause ends.Logout left bytes d = Unit {0}
 IsCause (ends.End at) left bytes d = (following d ≡ Nothing) × (at ≡ d.fed) × IsWhole left bytes × (d.fed < SESSION_MOST_BYTES)
@@ -104,7 +105,7 @@ IsCause (ends.Bad bad) left bytes d = following d ≡ Bad bad.at (fault_of bad.w
 IsCause ends.ReadFault left bytes d = d.fed < SESSION_MOST_BYTES
 IsCause (ends.Flood waiting) left bytes d = Unit {0}
 IsCause ends.Closed left bytes d = Unit {0}
-IsCause (ends.Exhausted next) left bytes d = Unit {0}
+IsCause (ends.Exhausted next) left bytes d = next ≡ NUMBERS_END
 IsCause (ends.Budget bytes_read) left bytes d = (bytes_read ≡ SESSION_MOST_BYTES) × (d.fed ≡ SESSION_MOST_BYTES)
 IsCause ends.NoMemory left bytes d = Unit {0}
 

@@ -1,5 +1,6 @@
 //! A session that has ended.
 ghost use Rattle.std.specs.Prelude.{◌≡◌};
+ghost use Rattle.dk_pump.specs.Places.{IsSoundEnd};
 ghost use Rattle.dk_pump.specs.Sessions.{HasEnded};
 
 use crate::ends::{SessionEnd, WriteEnd};
@@ -35,7 +36,8 @@ impl<W: Hosting, J: Naming, K: Link + Drop> Model for SessionDone<W, J, K> {
 impl<W: Hosting, J: Naming, K: Link + Drop> SessionDone<W, J, K> {
     /// How its reading ended.
     pub fn end(&self) -> SessionEnd
-        ensures { result ≡ self.now.end }
+        ensures is { result ≡ self.now.end }
+        ensures sound { IsSoundEnd result }
     {
         self.end
     }

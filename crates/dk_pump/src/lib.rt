@@ -3,9 +3,9 @@
 //! `greet` reads a client's LOGIN and connects it. `read_session` posts what its further frames ask, and a Disconnect at
 //! the end; `write_session` puts the frames of what the connection is handed, until the connection is gone. Each takes a
 //! pass of its own, so a reader and a writer of one session run side by side. `SessionFuture` is both over one link, as a
-//! future with one pass, and gives a `SessionDone`, which a `Tally` counts. Links are taken at the `Door`, where the listener is
-//! behind a lock; a ledger ties how many were given to what their takers have counted. `keep_time` ticks the host meanwhile.
-//! Nothing here runs a job.
+//! future with one pass, and gives a `SessionDone`, which a `Tally` counts. A `Place` runs such futures one after another, on
+//! the links that it takes at the `Door`, where the listener is behind a lock; a ledger ties how many links were given to
+//! what the places have counted. `keep_time` ticks the host meanwhile. Nothing here runs a job.
 #![tactic(auto)]
 
 pub use arrivals::{Accepting, Arrivals, Doorway, NoLink};
@@ -15,6 +15,7 @@ pub use ends::{BadFrame, SessionEnd, WriteEnd};
 pub use future::SessionFuture;
 pub use greeting::{Greeted, greet};
 pub use link_count::LinkCount;
+pub use place::{Place, PlaceDone, PlaceEnd};
 pub use reading::read_session;
 pub use tally::Tally;
 pub use ticker::keep_time;
@@ -32,6 +33,7 @@ pub mod limits;
 mod link_count;
 mod outgoing;
 mod pieces;
+mod place;
 mod polling;
 mod posting;
 mod putting;
