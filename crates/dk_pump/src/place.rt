@@ -176,5 +176,11 @@ fn run<W: Hosting, J: Naming, M: Home, K: Link + Drop, R: Wait + RandomSource + 
 ) -> Option<SessionDone<W, J, K>>
     ensures { IfSome result (λ done. done.pass.number ≡ pass.number) }
 {
-    block_on(rt, SessionFuture::new(rt, alloc, host, pass, link)).ok()
+    match block_on(rt, SessionFuture::new(rt, alloc, host, pass, link)) {
+        Ok(done) => {
+            done.has_ended();
+            Some(done)
+        }
+        Err(_) => None,
+    }
 }
