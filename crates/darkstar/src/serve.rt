@@ -45,10 +45,13 @@ pub struct ServeTerms {
 
 impl ServeTerms {
     /// How many links are to be served, or 0 where there is no end.
-    fn most(self) -> u64
+    pub(crate) fn most(self) -> u64
         ensures { result ≡ links_of self.sessions }
     {
-        self.sessions.unwrap_or(0)
+        match self.sessions {
+            Some(most) => most,
+            None => 0,
+        }
     }
 
     /// How many passes the host has: of the workers and the places, the ticker's and the caller's.

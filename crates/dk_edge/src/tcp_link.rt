@@ -9,21 +9,21 @@ use std::net::{Net, OpenStream};
 use std::thread;
 use std::time::{Clock, Duration};
 
-/// How many polls in a row are asked for at once where nothing comes and goes.
-const QUICK_POLLS_COUNT: u32 = 100;
+/// How many polls in a row do not rest where nothing comes and goes.
+const QUICK_POLLS_COUNT: u32 = 4;
 
 /// Behind how many such polls the stream is waited for.
-const PATIENT_POLLS_COUNT: u32 = 200;
+const PATIENT_POLLS_COUNT: u32 = 12;
 
-/// How long a poll between these rests, in microseconds.
-const REST_MICROS: u64 = 100;
+/// How long the first of the polls between these rests, in microseconds. Each further one rests twice as long.
+const REST_MICROS: u64 = 25;
 
 /// How long a stream is waited for, in ms.
 pub(crate) const WAIT_MS: u64 = 16;
 
 /// A link over a stream of the system that was set not to block. It tells nothing of its bytes. A poll that finds the stream
-/// not ready asks for another poll; where many in a row found nothing to take and put nothing, a poll first rests, and then
-/// waits for the stream a little, so that an idle link costs almost nothing.
+/// not ready asks for another poll; where many in a row found nothing to take and put nothing, a poll rests, each twice as long as
+/// the one before, and then waits for the stream a little, so that an idle link costs almost nothing.
 #[derive(Drop)]
 pub struct TcpLink<'a, R: Net + Clock> {
     rt: &'a R,
@@ -57,13 +57,15 @@ impl<'a, R: Net + Clock> TcpLink<'a, R> {
         ensures take { self.new.take_faults.count ≡ self.old.take_faults.count }
         ensures put { self.new.put_faults.count ≡ self.old.put_faults.count }
     {
-        if self.idle >= PATIENT_POLLS_COUNT {
+        let idle = self.idle;
+        if idle >= PATIENT_POLLS_COUNT {
             self.set_waiting(true);
             return;
         }
         self.set_waiting(false);
-        if self.idle >= QUICK_POLLS_COUNT {
-            thread::sleep(self.rt, Duration::from_micros(REST_MICROS));
+        if idle >= QUICK_POLLS_COUNT {
+            let micros = REST_MICROS << (idle - QUICK_POLLS_COUNT);
+            thread::sleep(self.rt, Duration::from_micros(micros));
         }
     }
 

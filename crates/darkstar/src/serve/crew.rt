@@ -156,7 +156,7 @@ where
     requires share { (count ≤ share.old.parts) × (share.old.amount ≡ 0) }
     ensures size { vec_len members.new ≤ vec_len members.old + count }
 {
-    for _ in 0..count {
+    for _place in 0..count {
         if let Some(pass) = passes.pop() {
             let count = LinkCount::new(share.split_off(1, 0));
             let role = Role::Place(Place::new(pass, count));

@@ -179,7 +179,6 @@ fn drain_now<
     gate: &T,
 ) -> Verdict
     requires rules { W.opened.rules ≡ G.rules game.now }
-    ensures size { length workers.new ≡ length workers.old }
 {
     if host.tick(rt, main, clock.now()).is_err() {
         return Verdict::no_memory();
