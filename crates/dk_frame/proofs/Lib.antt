@@ -4,6 +4,7 @@ pub mod Opened
 pub mod FieldLemmas
 pub mod FrontLemmas
 pub mod Turns
+pub mod MessageRuns
 pub mod GoingOn
 pub mod Standing
 pub mod Parted

@@ -1,6 +1,6 @@
 -- What stands at the front of bytes.
-use Rattle.std.specs.Prelude.{◌≡◌, ℕ, ◌≤◌, List, [], ◌++◌, length, drop, map, Option, Some, None, option_map}
-use Rattle.dk_model.specs.Frames.{Frame, Stage, AtLogin, InSession, LoggedOut, Fault, IsFrame, MayCome, AreInTurn, IsPartial, IsBad, opcode_of, frame_spelling, stage_after, stream_of}
+use Rattle.std.specs.Prelude.{◌≡◌, ℕ, ◌+◌, ◌≤◌, List, [], ◌++◌, length, drop, map, Option, Some, None, option_map}
+use Rattle.dk_model.specs.Frames.{Frame, Message, Stage, AtLogin, InSession, LoggedOut, Fault, IsFrame, MayCome, AreInTurn, IsPartial, IsBad, opcode_of, frame_spelling, stage_after, stream_of}
 use Rattle.dk_frame.specs.declared.front.Front.{Front}
 use Rattle.dk_frame.specs.declared.front.Front.TheVariants.{Whole, Partial, Bad}
 use Rattle.dk_frame.specs.declared.frame.FrameFault.{FrameFault}
@@ -29,6 +29,17 @@ pub record AreTaken (start : Stage) (bytes : List ℕ) (frames : List Frame) (ta
   pub parts : bytes ≡ stream_of frames ++ drop taken bytes
   pub takes : taken ≡ length (stream_of frames)
   pub within : taken ≤ length bytes
+
+-- a message with this body stands at the front, and this behind it
+pub record IsMessage (bytes body behind : List ℕ) : Type 0 where
+  pub whole : IsWhole InSession bytes (Message body) (5 + length body)
+  pub behind_is : behind ≡ drop (5 + length body) bytes
+
+-- frames of this stage at the front of these bytes, which take so many of them, were put behind others
+pub record AddsTaken (stage : Stage) (bytes : List ℕ) (old new : List Frame) (taken : ℕ) : Type 0 where
+  pub more : List Frame
+  pub now : new ≡ old ++ more
+  pub are : AreTaken stage bytes more taken stage
 
 -- no whole frame follows: less than a frame does, or this bad frame, or the stream is over
 abbrev pub Stops : Stage → List ℕ → Option Fault → Type 0

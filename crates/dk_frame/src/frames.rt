@@ -5,6 +5,7 @@ ghost use Rattle.dk_frame.specs.Fronts.{IsRead, IsReadOn, IsToldOf};
 
 use crate::frame::{ClientFrame, FrameFault, FrameRefused};
 use crate::front::Front;
+use crate::messages::take_messages;
 use crate::stage::Stage;
 use dk_types::NoMemory;
 use std::alloc::Global;
@@ -64,6 +65,9 @@ impl Frames {
         } = self;
         let mut taken = 0;
         'frames: while stage != Stage::LoggedOut {
+            let (_, rest) = bytes.split_at(taken);
+            let passed = take_messages(alloc, stage, &mut frames, rest)?;
+            taken += passed;
             let (_, rest) = bytes.split_at(taken);
             match Front::of(alloc, stage, rest)? {
                 Front::Whole { frame, taken: more } => {

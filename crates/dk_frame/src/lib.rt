@@ -17,4 +17,5 @@ mod frames;
 mod front;
 pub mod laws;
 pub mod limits;
+mod messages;
 mod stage;

@@ -180,9 +180,7 @@ fn a_session_is_truncated_within_each_frame(rt: HostRuntime) -> Result<(), Fail>
 fn with_body(alloc: Global, head: &[u8], body: u64) -> Result<Vec<u8>, Fail> {
     let mut stream = Vec::from_slice(alloc, b"\x00\x00\x00\x07\x01\x05alice")?;
     stream.extend_from_slice(head)?;
-    for _ in 0..body {
-        stream.push(0)?;
-    }
+    stream.resize(stream.len().saturating_add(body as usize), 0)?;
     Ok(stream)
 }
 
@@ -228,12 +226,58 @@ fn a_body_has_its_limit(rt: HostRuntime) -> Result<(), Fail> {
             Next::Begun { at: 11 },
             4_097,
         ),
+        // One byte above what two bytes can state.
+        (
+            b"\x00\x01\x00\x01\x02".as_slice(),
+            65_536,
+            "login alice;message 65536;",
+            Next::Nothing,
+            1,
+        ),
+        // The greatest length, of which a message cannot have the body.
+        (
+            b"\x00\x10\x01\x01\x02".as_slice(),
+            most + 256,
+            "login alice;",
+            field,
+            65_537,
+        ),
     ] {
         let stream = with_body(alloc, head, body)?;
         for piece in [least, 2_000_000] {
             let (told, after) = read(alloc, stream.as_slice(), piece)?;
             assert_eq!(rt; told.as_str(), frames, "{head:?} and {body} bytes");
             assert_eq!(rt; after, next, "{head:?} and {body} bytes");
+        }
+    }
+    Ok(())
+}
+
+// How many frames follow the login.
+const FLOOD_COUNT: u32 = 1_024;
+
+#[test]
+fn a_flood_of_small_frames_loses_none(rt: HostRuntime) -> Result<(), Fail> {
+    let alloc = rt.alloc();
+    // A frame, and its text.
+    for (frame, text) in [
+        (b"\x00\x00\x00\x01\x02".as_slice(), "message 0;"),
+        (b"\x00\x00\x00\x05\x03\x01ahi".as_slice(), "channel a 2;"),
+    ] {
+        let mut stream = Vec::from_slice(alloc, b"\x00\x00\x00\x07\x01\x05alice")?;
+        let mut wanted = String::from_str(alloc, "login alice;")?;
+        for _ in 0..FLOOD_COUNT {
+            stream.extend_from_slice(frame)?;
+            wanted.push_str(text)?;
+        }
+        for most in [1, 7, 100_000] {
+            let (told, after) = read(alloc, stream.as_slice(), most)?;
+            assert_eq!(rt;
+                told.as_str(),
+                wanted.as_str(),
+                "{frame:?} in pieces of {most}"
+            );
+            assert_eq!(rt; after, Next::Nothing, "{frame:?} in pieces of {most}");
         }
     }
     Ok(())
