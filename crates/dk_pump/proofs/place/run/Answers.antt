@@ -1,4 +1,5 @@
 use Rattle.std.proofs.Common.{◌≡◌, ap, ◌∙◌}
+use Rattle.dk_types.specs.declared.event.Event.{Event}
 use Rattle.dk_turn.specs.Fronts.{Known}
 use Rattle.dk_pump.proofs.Choices.{of_some}
 use Rattle.dk_pump.proofs.Numbered.{ended_number}
