@@ -68,8 +68,6 @@ pub fn run<
     spawner: &mut P,
     gate: &G,
 ) -> Ran<M, L>
-where
-    L::Whole: Send + Drop,
     requires unopened { M.opening home ≡ NotCalled }
     requires unbound { IsUncalled (L.listening net.old) }
 

@@ -94,8 +94,6 @@ fn serve_on_ledgers<
     gate: &T,
     terms: ServeTerms,
 ) -> Served<M, L::Whole>
-where
-    L::Whole: Send + Drop,
     requires unbound { IsUncalled (L.listening net.old) }
     requires commits { (commits.name ≡ W.commits) × (commits.parts ≡ 1) }
     requires places { (places.name ≡ W.places) × (places.parts ≡ 1) }
@@ -142,8 +140,6 @@ pub fn serve_store<
     gate: &T,
     terms: ServeTerms,
 ) -> Served<M, L::Whole>
-where
-    L::Whole: Send + Drop,
     requires unbound { IsUncalled (L.listening net.old) }
     requires counted { M.counted store.home ≡ before }
     ensures serves { IsUnserved store.home result.home result.served result.outcome ⊎ IsServedOn (served_on (G.rules game.now) store.durable) M.tells (M.past store.home) (M.past result.home) before (M.counted result.home) (L.counted net.old) (L.counted net.new) (P.counted spawner.old) (P.counted spawner.new) terms.port (links_of terms.sessions) (L.listening net.old) (L.listening net.new) result.served result.outcome }

@@ -56,8 +56,6 @@ impl Service {
         spawner: &mut P,
         gate: &G,
     ) -> Ran<M, L>
-    where
-        L::Whole: Send + Drop,
         requires unopened { M.opening home ≡ NotCalled }
         requires unbound { IsUncalled (L.listening net.old) }
         ensures done { result.status ≡ Status.Ok → HasServedAll self.terms.port self.terms.sessions result.served (L.listening net.old) (L.listening net.new) }
@@ -99,8 +97,6 @@ impl Service {
         spawner: &mut P,
         gate: &G,
     ) -> Ran<M, L>
-    where
-        L::Whole: Send + Drop,
         requires is_open { IsOpen (M.opening home) }
         requires unbound { IsUncalled (L.listening net.old) }
         requires counted { M.counted home ≡ before }
@@ -149,8 +145,6 @@ impl Service {
         spawner: &mut P,
         gate: &G,
     ) -> Ran<M, L>
-    where
-        L::Whole: Send + Drop,
         requires is_open { IsOpen (M.opening home) }
         requires unbound { IsUncalled (L.listening net.old) }
         requires counted { M.counted home ≡ before }

@@ -24,7 +24,8 @@ pub trait Listener {
 
     type Out: Sink;
 
-    type Whole: Link;
+    /// It may be served by another thread than it was taken by.
+    type Whole: Link + Send + Drop;
 
     /// The port, how many links were given, and whether no more come.
     ghost listening: { Self → Listening };

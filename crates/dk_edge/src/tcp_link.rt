@@ -5,29 +5,20 @@ use crate::link::Link;
 use dk_types::{Failed, FaultCount};
 use futures::task::{Context, Poll};
 use std::io::{ErrorKind, Read, Write};
-use std::net::{Net, OpenStream};
-use std::thread;
-use std::time::{Clock, Duration};
+use std::net::OpenStream;
 
-/// How many polls in a row do not rest where nothing comes and goes.
-const QUICK_POLLS_COUNT: u32 = 4;
-
-/// Behind how many such polls the stream is waited for.
-const PATIENT_POLLS_COUNT: u32 = 12;
-
-/// How long the first of the polls between these rests, in microseconds. Each further one rests twice as long.
-const REST_MICROS: u64 = 25;
+/// Behind how many polls in a row that found nothing the stream is waited for.
+const QUICK_POLLS_COUNT: u32 = 200;
 
 /// How long a stream is waited for, in ms.
 pub(crate) const WAIT_MS: u64 = 16;
 
 /// A link over a stream of the system that was set not to block. It tells nothing of its bytes. A poll that finds the stream
-/// not ready asks for another poll; where many in a row found nothing to take and put nothing, a poll rests, each twice as long as
-/// the one before, and then waits for the stream a little, so that an idle link costs almost nothing.
+/// not ready asks for another poll; where many in a row found nothing to take and put nothing, a poll first waits for the
+/// stream a little, so that an idle link costs almost nothing.
 #[derive(Drop)]
-pub struct TcpLink<'a, R: Net + Clock> {
-    rt: &'a R,
-    stream: R::Stream,
+pub struct TcpLink<S: Read + Write + OpenStream + Drop> {
+    stream: S,
     // How many polls in a row found nothing to take and put nothing.
     idle: u32,
     // Whether a read waits for the stream a little.
@@ -36,36 +27,18 @@ pub struct TcpLink<'a, R: Net + Clock> {
     put_faults: FaultCount,
 }
 
-impl<'a, R: Net + Clock> TcpLink<'a, R> {
+impl<S: Read + Write + OpenStream + Drop> TcpLink<S> {
     /// A link over this connection, which was set not to block.
-    pub fn new(rt: &'a R, stream: R::Stream) -> TcpLink<'a, R>
+    pub fn new(stream: S) -> TcpLink<S>
         ensures take { result.take_faults.count ≡ 0 }
         ensures put { result.put_faults.count ≡ 0 }
     {
         TcpLink {
-            rt,
             stream,
             idle: 0,
             waits: false,
             take_faults: FaultCount::new(),
             put_faults: FaultCount::new(),
-        }
-    }
-
-    // Rests, where nothing came and went for a while; or has the next read wait.
-    fn rest(&mut self)
-        ensures take { self.new.take_faults.count ≡ self.old.take_faults.count }
-        ensures put { self.new.put_faults.count ≡ self.old.put_faults.count }
-    {
-        let idle = self.idle;
-        if idle >= PATIENT_POLLS_COUNT {
-            self.set_waiting(true);
-            return;
-        }
-        self.set_waiting(false);
-        if idle >= QUICK_POLLS_COUNT {
-            let micros = REST_MICROS << (idle - QUICK_POLLS_COUNT);
-            thread::sleep(self.rt, Duration::from_micros(micros));
         }
     }
 
@@ -80,7 +53,7 @@ impl<'a, R: Net + Clock> TcpLink<'a, R> {
     }
 }
 
-impl<'a, R: Net + Clock> Link for TcpLink<'a, R> {
+impl<S: Read + Write + OpenStream + Drop> Link for TcpLink<S> {
     ghost remaining = { λ _. None };
 
     ghost contents = { λ _. None };
@@ -94,7 +67,7 @@ impl<'a, R: Net + Clock> Link for TcpLink<'a, R> {
         context: &mut Context<'_>,
         into: &mut [u8],
     ) -> Poll<Result<usize, Failed>> {
-        self.rest();
+        self.set_waiting(self.idle >= QUICK_POLLS_COUNT);
         match self.stream.read(into) {
             Ok(count) => {
                 self.idle = 0;

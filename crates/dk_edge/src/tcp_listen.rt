@@ -10,7 +10,7 @@ use dk_types::limits::NUMBERS_END;
 use dk_types::{Failed, FaultCount};
 use std::io;
 use std::net::{Ipv4Addr, Net, OpenListener, OpenStream, TcpListener};
-use std::time::{Clock, Duration};
+use std::time::Duration;
 
 /// A source over one handle of a connection.
 pub type TcpSource<S> = StdSource<S>;
@@ -20,7 +20,7 @@ pub type TcpSink<S> = StdSink<S>;
 
 /// Listens at a port of 127.0.0.1. It gives links for as long as they come, up to 2^62 of them.
 #[derive(Drop)]
-pub struct TcpListen<'a, R: Net + Clock> {
+pub struct TcpListen<'a, R: Net> {
     rt: &'a R,
     listener: Option<R::Listener>,
     binding: Binding,
@@ -30,7 +30,7 @@ pub struct TcpListen<'a, R: Net + Clock> {
     ghost few: { given ≤ NUMBERS_END },
 }
 
-impl<'a, R: Net + Clock> TcpListen<'a, R> {
+impl<'a, R: Net> TcpListen<'a, R> {
     /// A listener of this runtime's system, which does not listen yet.
     pub fn new(rt: &'a R) -> TcpListen<'a, R>
         ensures binding { result.binding ≡ Binding.NotCalled }
@@ -73,12 +73,15 @@ impl<'a, R: Net + Clock> TcpListen<'a, R> {
     }
 }
 
-impl<'a, R: Net + Clock> Listener for TcpListen<'a, R> {
+impl<'a, R: Net> Listener for TcpListen<'a, R>
+where
+    R::Stream: Send,
+{
     type In = TcpSource<R::Stream>;
 
     type Out = TcpSink<R::Stream>;
 
-    type Whole = TcpLink<'a, R>;
+    type Whole = TcpLink<R::Stream>;
 
     ghost listening = { λ l. listening_at l.binding l.given l.ended };
 
@@ -122,7 +125,7 @@ impl<'a, R: Net + Clock> Listener for TcpListen<'a, R> {
             return Err(Failed);
         };
         self.given += 1;
-        Ok(Some(TcpLink::new(self.rt, stream)))
+        Ok(Some(TcpLink::new(stream)))
     }
 
     fn faults(&self) -> u64 {

@@ -63,8 +63,6 @@ pub(crate) fn serve_on_turn<
     gate: &T,
     terms: ServeTerms,
 ) -> Served<M, L::Whole>
-where
-    L::Whole: Send + Drop,
     requires name { blank ≡ J.name }
     requires passes { J.name.passes ≡ terms.workers + terms.clients + 2 }
     requires unbound { IsUncalled (L.listening net.old) }

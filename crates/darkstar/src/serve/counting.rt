@@ -30,8 +30,6 @@ pub(crate) fn gather<L: Listener, D: Doorway>(
     share: &mut Share<D>,
     dones: Vec<MemberDone<D, L::Whole>>,
 ) -> (Verdict, LinkCount<D, L::Whole>)
-where
-    L::Whole: Drop,
 {
     let mut verdict = Verdict::good();
     let mut count = LinkCount::empty(share);
@@ -51,8 +49,6 @@ pub(crate) fn settle<'n, L: Listener, D: Doorway>(
     mut count: LinkCount<D, L::Whole>,
     places: u64,
 ) -> Counted<'n, L>
-where
-    L::Whole: Drop,
     requires places { places ≡ D.parts }
     ensures same { result.net.ghost_name ≡ D.lent }
     ensures bound { (L.listening result.net.now).binding ≡ Bound D.port }

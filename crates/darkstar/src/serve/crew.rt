@@ -1,88 +1,69 @@
 //! The crew of a server: a ticker, workers and places.
 ghost use Rattle.std.specs.Prelude.{◌≡◌, ◌+◌, ◌≤◌, IfOk, vec_len};
 
-use super::counting::MemberDone;
-use super::server::Server;
-use dk_disk::Home;
-use dk_edge::{Activity, Clock, Listener};
-use dk_game::Game;
+use super::ServeTerms;
+use super::verdict::Verdict;
+use dk_edge::{Activity, Crew, Link, Spawner};
 use dk_host::{Hosting, WorldBook};
 use dk_pump::{Doorway, LinkCount, Place};
 use dk_turn::{Naming, Pass};
-use dk_workers::Gate;
-use std::alloc::{AllocError, AllocGlobal, Global};
-use std::random::RandomSource;
-use std::sync::Wait;
+use std::alloc::{AllocError, Global};
 use std::sync::ledger::Share;
 
-/// What a member does, with a pass of its own.
+/// What a crew does for a server, which its members share.
+pub(crate) trait Crewed {
+    /// What a ticker and a worker have of their own.
+    type Pass: Send + Drop;
+
+    /// What a place has of its own.
+    type Place: Send + Drop;
+
+    /// What a member comes to.
+    type Done: Send + Drop;
+
+    /// Ticks until the server is ending.
+    fn run_ticker(&self, pass: Self::Pass) -> Self::Done;
+
+    /// Works until the server is ending.
+    fn run_worker(&self, number: u32, pass: Self::Pass) -> Self::Done;
+
+    /// Serves sessions, as long as there are links for them.
+    fn run_place(&self, place: Self::Place) -> Self::Done;
+}
+
+/// What a member does, with what it has of its own.
 #[derive(Drop)]
-pub(crate) enum Role<W: Hosting, J: Naming, D: Doorway, L: Listener>
-where
-    L::Whole: Drop,
-{
-    Ticker(Pass<WorldBook<W>, J>),
-    Worker(u32, Pass<WorldBook<W>, J>),
-    Place(Place<W, J, D, L::Whole>),
+pub(crate) enum Role<A, B> {
+    Ticker(A),
+    Worker(u32, A),
+    Place(B),
 }
 
 /// A member of the crew, which is lent the server.
 #[derive(Drop)]
-pub(crate) struct Member<
-    's,
-    'a,
-    'n,
-    W: Hosting,
-    J: Naming,
-    M: Home,
-    L: Listener,
-    D: Doorway,
-    C: Clock,
-    G: Game,
-    T: Gate,
-    R: Wait,
->
-where
-    L::Whole: Drop,
-{
-    server: &'s Server<'a, 'n, W, J, M, L, D, C, G, T, R>,
-    role: Role<W, J, D, L>,
+struct Member<'s, S: Crewed> {
+    server: &'s S,
+    role: Role<S::Pass, S::Place>,
 }
 
-impl<
-    's,
-    'a,
-    'n,
-    W: Hosting,
-    J: Naming,
-    M: Home,
-    L: Listener,
-    D: Doorway,
-    C: Clock,
-    G: Game,
-    T: Gate,
-    R: Wait + RandomSource + AllocGlobal,
-> Activity for Member<'s, 'a, 'n, W, J, M, L, D, C, G, T, R>
-where
-    L::Whole: Drop,
-{
-    type Done = MemberDone<D, L::Whole>;
+impl<'s, S: Crewed> Activity for Member<'s, S> {
+    type Done = S::Done;
 
     ghost may_give = { λ _ _. Unit {0} };
 
-    fn go(self) -> MemberDone<D, L::Whole> {
+    fn go(self) -> S::Done {
         let Member { server, role } = self;
         match role {
-            Role::Ticker(pass) => server.tick(pass),
-            Role::Worker(number, pass) => server.work(number, pass),
-            Role::Place(place) => server.serve(place),
+            Role::Ticker(pass) => server.run_ticker(pass),
+            Role::Worker(number, pass) => server.run_worker(number, pass),
+            Role::Place(place) => server.run_place(place),
         }
     }
 }
 
 /// The caller of a crew, which waits for the others and does nothing.
 #[derive(Drop)]
-pub(crate) struct Waiting;
+struct Waiting;
 
 impl Activity for Waiting {
     type Done = ();
@@ -92,76 +73,54 @@ impl Activity for Waiting {
     fn go(self) {}
 }
 
-/// A ticker, and then so many workers, as far as there are passes.
-pub(crate) fn workers<
-    's,
-    'a,
-    'n,
-    W: Hosting,
-    J: Naming,
-    M: Home,
-    L: Listener,
-    D: Doorway,
-    C: Clock,
-    G: Game,
-    T: Gate,
-    R: Wait,
->(
+/// A ticker, then the workers and then the places, as far as there are passes. Each place has one part of the ledger.
+pub(crate) fn roles<W: Hosting, J: Naming, D: Doorway, K: Link + Drop>(
     alloc: Global,
-    server: &'s Server<'a, 'n, W, J, M, L, D, C, G, T, R>,
-    passes: &mut Vec<Pass<WorldBook<W>, J>>,
-    count: u8,
-) -> Result<Vec<Member<'s, 'a, 'n, W, J, M, L, D, C, G, T, R>>, AllocError>
-where
-    L::Whole: Drop,
-    ensures size { IfOk result (λ members. vec_len members ≤ count + 1) }
+    mut passes: Vec<Pass<WorldBook<W>, J>>,
+    share: &mut Share<D>,
+    terms: ServeTerms,
+) -> Result<Vec<Role<Pass<WorldBook<W>, J>, Place<W, J, D, K>>>, AllocError>
+    requires share { (terms.clients ≤ share.old.parts) × (share.old.amount ≡ 0) }
+    ensures size { IfOk result (λ roles. vec_len roles ≤ terms.workers + terms.clients + 1) }
 {
-    let mut members = Vec::new(alloc);
+    let mut roles = Vec::new(alloc);
     if let Some(pass) = passes.pop() {
-        let role = Role::Ticker(pass);
-        members.push(Member { server, role })?;
+        roles.push(Role::Ticker(pass))?;
     }
-    for number in 0..count {
+    for number in 0..terms.workers {
         if let Some(pass) = passes.pop() {
-            let role = Role::Worker(u32::from(number), pass);
-            members.push(Member { server, role })?;
+            roles.push(Role::Worker(u32::from(number), pass))?;
         }
     }
-    Ok(members)
-}
-
-/// Behind the others so many places, as far as there are passes. Each has one part of the ledger.
-pub(crate) fn add_places<
-    's,
-    'a,
-    'n,
-    W: Hosting,
-    J: Naming,
-    M: Home,
-    L: Listener,
-    D: Doorway,
-    C: Clock,
-    G: Game,
-    T: Gate,
-    R: Wait,
->(
-    server: &'s Server<'a, 'n, W, J, M, L, D, C, G, T, R>,
-    passes: &mut Vec<Pass<WorldBook<W>, J>>,
-    share: &mut Share<D>,
-    count: u16,
-    members: &mut Vec<Member<'s, 'a, 'n, W, J, M, L, D, C, G, T, R>>,
-) -> Result<(), AllocError>
-where
-    L::Whole: Drop,
-    requires share { (count ≤ share.old.parts) × (share.old.amount ≡ 0) }
-    ensures size { vec_len members.new ≤ vec_len members.old + count }
-{
-    for _place in 0..count {
+    for _place in 0..terms.clients {
         if let Some(pass) = passes.pop() {
             let count = LinkCount::new(share.split_off(1, 0));
-            let role = Role::Place(Place::new(pass, count));
-            members.push(Member { server, role })?;
+            roles.push(Role::Place(Place::new(pass, count)))?;
         }
     }
-    Ok(())
+    Ok(roles)
+}
+
+/// Runs the crew, a member for each role, and answers what the members came to, in their order.
+pub(crate) fn run_crew<S: Crewed + Sync, P: Spawner>(
+    alloc: Global,
+    server: &S,
+    roles: Vec<Role<S::Pass, S::Place>>,
+    spawner: &mut P,
+) -> Result<Vec<S::Done>, Verdict>
+    requires { vec_len roles ≤ 1024 }
+{
+    let mut members = Vec::new(alloc);
+    for role in roles {
+        if members.push(Member { server, role }).is_err() {
+            return Err(Verdict::no_memory());
+        }
+    }
+    match spawner.crew(members, Waiting) {
+        Ok(crew) => {
+            let Crew { members, own: _ } = crew;
+            Ok(members)
+        }
+        Err(_) => Err(Verdict::net_fault()),
+    }
 }

@@ -6,11 +6,11 @@ ghost use Rattle.darkstar.specs.Served.{IsAllServed, IsBoundAt, links_of};
 
 use super::ServeTerms;
 use super::counting::{Counted, MemberDone, gather, settle};
-use super::crew::{Waiting, add_places, workers};
+use super::crew::{roles, run_crew};
 use super::server::Server;
 use super::verdict::Verdict;
 use dk_disk::Home;
-use dk_edge::{Clock, Crew, Listener, Spawner};
+use dk_edge::{Clock, Listener, Spawner};
 use dk_game::Game;
 use dk_host::{Host, Hosting, WorldBook};
 use dk_pump::{Arrivals, Door, Doorway, LinkCount, Tally};
@@ -43,8 +43,8 @@ impl<K> ServerEnd<K> {
     }
 }
 
-/// Runs the crew, each member with a pass: a ticker, workers and places. It answers what the members came to, in their order.
-fn run_crew<
+/// Runs the crew of a server.
+fn run_members<
     W: Hosting + Send + Sync,
     J: Naming + Send + Sync,
     M: Home + Send,
@@ -54,33 +54,20 @@ fn run_crew<
     P: Spawner,
     G: Game + Sync,
     T: Gate + Sync,
-    R: Wait + RandomSource + AllocGlobal + Sync,
+    R: Threads + Wait + RandomSource + AllocGlobal + Sync,
 >(
     server: &Server<'_, '_, W, J, M, L, D, C, G, T, R>,
-    mut passes: Vec<Pass<WorldBook<W>, J>>,
+    passes: Vec<Pass<WorldBook<W>, J>>,
     share: &mut Share<D>,
     terms: ServeTerms,
     spawner: &mut P,
 ) -> Result<Vec<MemberDone<D, L::Whole>>, Verdict>
-where
-    L::Whole: Send + Drop,
     requires share { (terms.clients ≤ share.old.parts) × (share.old.amount ≡ 0) }
 {
-    let alloc = server.alloc;
-    let Ok(mut members) = workers(alloc, server, &mut passes, terms.workers) else {
+    let Ok(roles) = roles(server.alloc, passes, share, terms) else {
         return Err(Verdict::no_memory());
     };
-    let added = add_places(server, &mut passes, share, terms.clients, &mut members);
-    if added.is_err() {
-        return Err(Verdict::no_memory());
-    }
-    match spawner.crew(members, Waiting) {
-        Ok(crew) => {
-            let Crew { members, own: _ } = crew;
-            Ok(members)
-        }
-        Err(_) => Err(Verdict::net_fault()),
-    }
+    run_crew(server.alloc, server, roles, spawner)
 }
 
 /// A server whose listener is bound. The listener comes back.
@@ -95,7 +82,7 @@ fn serve_at_door<
     P: Spawner,
     G: Game + Sync,
     T: Gate + Sync,
-    R: Wait + RandomSource + AllocGlobal + Sync,
+    R: Threads + Wait + RandomSource + AllocGlobal + Sync,
 >(
     rt: &R,
     alloc: Global,
@@ -109,8 +96,6 @@ fn serve_at_door<
     gate: &T,
     terms: ServeTerms,
 ) -> Counted<'n, L>
-where
-    L::Whole: Send + Drop,
     requires rules { W.opened.rules ≡ G.rules game.now }
     requires lent { net.ghost_name ≡ D.lent }
     requires bound { (L.listening net.old).binding ≡ Bound D.port }
@@ -134,7 +119,7 @@ where
         game,
         gate,
     };
-    let dones = run_crew(&server, passes, &mut share, terms, spawner);
+    let dones = run_members(&server, passes, &mut share, terms, spawner);
     let Server {
         rt: _,
         alloc: _,
@@ -209,8 +194,6 @@ pub(crate) fn run_server<
     gate: &T,
     terms: ServeTerms,
 ) -> ServerEnd<L::Whole>
-where
-    L::Whole: Send + Drop,
     requires rules { W.opened.rules ≡ G.rules game.now }
     requires unbound { IsUncalled (L.listening net.old) }
     requires passes { length passes.items ≡ terms.workers + terms.clients + 2 }

@@ -2,6 +2,7 @@
 ghost use Rattle.std.specs.Prelude.{◌≡◌};
 
 use super::counting::MemberDone;
+use super::crew::Crewed;
 use super::verdict::Verdict;
 use dk_disk::Home;
 use dk_edge::{Clock, Listener};
@@ -132,8 +133,6 @@ impl<
     T: Gate,
     R: Wait + RandomSource + AllocGlobal,
 > Server<'a, 'n, W, J, M, L, D, C, G, T, R>
-where
-    L::Whole: Drop,
 {
     /// Serves sessions, as long as there are links for them.
     pub(crate) fn serve(&self, place: Place<W, J, D, L::Whole>) -> MemberDone<D, L::Whole> {
@@ -151,5 +150,38 @@ where
                 count: None,
             },
         }
+    }
+}
+
+impl<
+    'a,
+    'n,
+    W: Hosting + Send + Sync,
+    J: Naming + Send + Sync,
+    M: Home,
+    L: Listener,
+    D: Doorway + Send + Sync,
+    C: Clock,
+    G: Game,
+    T: Gate,
+    R: Wait + RandomSource + AllocGlobal,
+> Crewed for Server<'a, 'n, W, J, M, L, D, C, G, T, R>
+{
+    type Pass = Pass<WorldBook<W>, J>;
+
+    type Place = Place<W, J, D, L::Whole>;
+
+    type Done = MemberDone<D, L::Whole>;
+
+    fn run_ticker(&self, pass: Pass<WorldBook<W>, J>) -> MemberDone<D, L::Whole> {
+        self.tick(pass)
+    }
+
+    fn run_worker(&self, number: u32, pass: Pass<WorldBook<W>, J>) -> MemberDone<D, L::Whole> {
+        self.work(number, pass)
+    }
+
+    fn run_place(&self, place: Place<W, J, D, L::Whole>) -> MemberDone<D, L::Whole> {
+        self.serve(place)
     }
 }

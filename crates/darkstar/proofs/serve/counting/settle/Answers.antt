@@ -1,4 +1,4 @@
-use Rattle.std.proofs.Common.{◌≡◌, ◌+◌, ap, sym, subst, ◌∙◌, Option, None, Some}
+use Rattle.std.proofs.Common.{◌≡◌, ◌+◌, refl, ap, sym, subst, ◌∙◌, Option, None, Some}
 use Rattle.dk_pump.specs.Arrivals.{AreAll}
 use Rattle.darkstar.specs.declared.serve.verdict.ServeFault.{ServeFault}
 use Rattle.darkstar.specs.declared.serve.verdict.ServeFault.TheVariants as fault
@@ -17,5 +17,5 @@ returns-clause-all g c =
     let same = c.into_listener-2.ensures.now ∙ c.audit.ensures.net.1 in
     λ _. record {
       links = c.into_listener-2.ensures.given.links ∙ ap (λ n. g.D.Doorway.first + n) (sym c.audit.ensures.all ∙ sym c.into_tally-2.ensures);
-      all = subst (λ l. AreAll most c.into_tally-2.result l) (ap listening (sym same)) (subst (λ n. AreAll most n (listening c.args.arrivals.net.now)) (sym served) (c.if-not-is_over.ensures tt));
+      all = subst (λ l. AreAll most c.into_tally-2.result l) (ap listening (sym same)) (subst (λ n. AreAll most n (listening c.args.arrivals.net.now)) (sym served) (c.if-not-is_over.ensures refl));
     }
