@@ -22,7 +22,7 @@ use crate::asked::Asked;
 use crate::stress::stress;
 use dk_command::{CommandRefused, parse_command};
 use dk_disk::Home;
-use dk_edge::{Clock, Listener, Sink, Source, Spawner};
+use dk_edge::{Clock, Link, Listener, Sink, Source, Spawner};
 use dk_pump::Tally;
 use dk_status::Status;
 use dk_types::Words;
@@ -52,7 +52,8 @@ pub fn run<
     S: Source,
     K: Sink,
     M: Home + Send,
-    L: Listener + Send,
+    E: Link + Send + Drop,
+    L: Listener<Whole = E> + Send,
     C: Clock + Sync,
     P: Spawner,
     G: Gate + Sync,

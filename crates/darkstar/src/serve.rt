@@ -16,7 +16,7 @@ mod verdict;
 
 use closing::serve_on_turn;
 use dk_disk::Home;
-use dk_edge::{Clock, Listener, Spawner};
+use dk_edge::{Clock, Link, Listener, Spawner};
 use dk_game::Game;
 use dk_host::{Hosting, OpenedStore};
 use dk_pump::Tally;
@@ -74,7 +74,8 @@ pub struct Served<M, K> {
 fn serve_on_ledgers<
     W: Hosting + Send + Sync,
     M: Home + Send,
-    L: Listener + Send,
+    K: Link + Send + Drop,
+    L: Listener<Whole = K> + Send,
     C: Clock + Sync,
     P: Spawner,
     G: Game + Sync,
@@ -93,7 +94,7 @@ fn serve_on_ledgers<
     spawner: &mut P,
     gate: &T,
     terms: ServeTerms,
-) -> Served<M, L::Whole>
+) -> Served<M, K>
     requires unbound { IsUncalled (L.listening net.old) }
     requires commits { (commits.name ≡ W.commits) × (commits.parts ≡ 1) }
     requires places { (places.name ≡ W.places) × (places.parts ≡ 1) }
@@ -108,7 +109,7 @@ fn serve_on_ledgers<
     ensures opening { M.opening result.home ≡ W.opening }
 {
     match Blank::new(alloc, terms.passes()) {
-        Ok(blank) => serve_on_turn::<W, Brand, M, L, C, P, G, T, R>(
+        Ok(blank) => serve_on_turn::<W, Brand, M, K, L, C, P, G, T, R>(
             rt, alloc, blank, commits, places, game, store, before, net, clock, spawner, gate, terms,
         ),
         Err(_) => Served {
@@ -122,7 +123,8 @@ fn serve_on_ledgers<
 /// Serves on a store. `before` is the home's count of faults of before.
 pub fn serve_store<
     M: Home + Send,
-    L: Listener + Send,
+    K: Link + Send + Drop,
+    L: Listener<Whole = K> + Send,
     C: Clock + Sync,
     P: Spawner,
     G: Game + Sync,
@@ -139,7 +141,7 @@ pub fn serve_store<
     spawner: &mut P,
     gate: &T,
     terms: ServeTerms,
-) -> Served<M, L::Whole>
+) -> Served<M, K>
     requires unbound { IsUncalled (L.listening net.old) }
     requires counted { M.counted store.home ≡ before }
     ensures serves { IsUnserved store.home result.home result.served result.outcome ⊎ IsServedOn (served_on (G.rules game.now) store.durable) M.tells (M.past store.home) (M.past result.home) before (M.counted result.home) (L.counted net.old) (L.counted net.new) (P.counted spawner.old) (P.counted spawner.new) terms.port (links_of terms.sessions) (L.listening net.old) (L.listening net.new) result.served result.outcome }
@@ -147,7 +149,7 @@ pub fn serve_store<
 {
     let commits = ledger::Blank::new(1);
     let places = ledger::Blank::new(1);
-    serve_on_ledgers::<Brand, M, L, C, P, G, T, R>(
+    serve_on_ledgers::<Brand, M, K, L, C, P, G, T, R>(
         rt, alloc, commits, places, game, store, before, net, clock, spawner, gate, terms,
     )
 }

@@ -17,7 +17,7 @@ use crate::serve::{ServeFault, ServeTerms, Served, serve_store};
 use dk_command::GameName;
 use dk_demos::{Channels, Timer};
 use dk_disk::Home;
-use dk_edge::{Clock, Listener, Spawner};
+use dk_edge::{Clock, Link, Listener, Spawner};
 use dk_game::Game;
 use dk_host::open_store;
 use dk_pump::Tally;
@@ -41,7 +41,8 @@ impl Service {
     pub fn serve<
         T: Threads + Wait + RandomSource + AllocGlobal + Sync,
         M: Home + Send,
-        L: Listener + Send,
+        E: Link + Send + Drop,
+        L: Listener<Whole = E> + Send,
         C: Clock + Sync,
         P: Spawner,
         G: Gate + Sync,
@@ -82,7 +83,8 @@ impl Service {
     fn serve_game<
         T: Threads + Wait + RandomSource + AllocGlobal + Sync,
         M: Home + Send,
-        L: Listener + Send,
+        E: Link + Send + Drop,
+        L: Listener<Whole = E> + Send,
         C: Clock + Sync,
         P: Spawner,
         G: Gate + Sync,
@@ -129,7 +131,8 @@ impl Service {
         T: Threads + Wait + RandomSource + AllocGlobal + Sync,
         A: Game + Sync,
         M: Home + Send,
-        L: Listener + Send,
+        E: Link + Send + Drop,
+        L: Listener<Whole = E> + Send,
         C: Clock + Sync,
         P: Spawner,
         G: Gate + Sync,

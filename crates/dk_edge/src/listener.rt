@@ -24,8 +24,7 @@ pub trait Listener {
 
     type Out: Sink;
 
-    /// It may be served by another thread than it was taken by.
-    type Whole: Link + Send + Drop;
+    type Whole: Link;
 
     /// The port, how many links were given, and whether no more come.
     ghost listening: { Self → Listening };

@@ -73,10 +73,7 @@ impl<'a, R: Net> TcpListen<'a, R> {
     }
 }
 
-impl<'a, R: Net> Listener for TcpListen<'a, R>
-where
-    R::Stream: Send,
-{
+impl<'a, R: Net> Listener for TcpListen<'a, R> {
     type In = TcpSource<R::Stream>;
 
     type Out = TcpSink<R::Stream>;

@@ -19,7 +19,7 @@ use std::sync::Wait;
 
 /// What a place has between two sessions: its pass, and how many links it took and sessions on them have ended.
 #[derive(Drop)]
-pub struct Place<W: Hosting, J: Naming, D: Doorway, K: Link + Drop> {
+pub struct Place<W: Hosting, J: Naming, D: Doorway, K> {
     pub(crate) pass: Pass<WorldBook<W>, J>,
     pub(crate) count: LinkCount<D, K>,
     pub(crate) ghost one: { count.places ≡ 1 },
@@ -36,13 +36,13 @@ pub enum PlaceEnd {
 
 /// A place that has ended.
 #[derive(Drop)]
-pub struct PlaceDone<W: Hosting, J: Naming, D: Doorway, K: Link + Drop> {
+pub struct PlaceDone<W: Hosting, J: Naming, D: Doorway, K> {
     pub place: Place<W, J, D, K>,
     pub end: PlaceEnd,
 }
 
 // A place that asked for one link, and how it ended, if it did.
-struct Turn<W: Hosting, J: Naming, D: Doorway, K: Link + Drop> {
+struct Turn<W: Hosting, J: Naming, D: Doorway, K> {
     place: Place<W, J, D, K>,
     end: Option<PlaceEnd>,
 }

@@ -8,7 +8,7 @@ use super::running::run_server;
 use super::verdict::{Counts, ServeFault, told};
 use super::{ServeTerms, Served};
 use dk_disk::Home;
-use dk_edge::{Clock, Listener, Spawner};
+use dk_edge::{Clock, Link, Listener, Spawner};
 use dk_game::Game;
 use dk_host::{Host, Hosting, OpenedStore, WorldBook};
 use dk_pump::Tally;
@@ -42,7 +42,8 @@ pub(crate) fn serve_on_turn<
     W: Hosting + Send + Sync,
     J: Naming + Send + Sync,
     M: Home + Send,
-    L: Listener + Send,
+    K: Link + Send + Drop,
+    L: Listener<Whole = K> + Send,
     C: Clock + Sync,
     P: Spawner,
     G: Game + Sync,
@@ -62,7 +63,7 @@ pub(crate) fn serve_on_turn<
     spawner: &mut P,
     gate: &T,
     terms: ServeTerms,
-) -> Served<M, L::Whole>
+) -> Served<M, K>
     requires name { blank ≡ J.name }
     requires passes { J.name.passes ≡ terms.workers + terms.clients + 2 }
     requires unbound { IsUncalled (L.listening net.old) }

@@ -25,11 +25,11 @@ pub(crate) struct Counted<'n, L: Listener> {
 }
 
 /// The first fault of the members, in their order, and the counts of their places together.
-pub(crate) fn gather<L: Listener, D: Doorway>(
+pub(crate) fn gather<K: Link + Drop, L: Listener<Whole = K>, D: Doorway>(
     arrivals: &mut Arrivals<'_, L, D>,
     share: &mut Share<D>,
-    dones: Vec<MemberDone<D, L::Whole>>,
-) -> (Verdict, LinkCount<D, L::Whole>)
+    dones: Vec<MemberDone<D, K>>,
+) -> (Verdict, LinkCount<D, K>)
 {
     let mut verdict = Verdict::good();
     let mut count = LinkCount::empty(share);
@@ -43,10 +43,10 @@ pub(crate) fn gather<L: Listener, D: Doorway>(
 }
 
 /// What a server came to, whose members had this verdict and this count. Without a fault the count is of all places.
-pub(crate) fn settle<'n, L: Listener, D: Doorway>(
+pub(crate) fn settle<'n, K: Link + Drop, L: Listener<Whole = K>, D: Doorway>(
     mut arrivals: Arrivals<'n, L, D>,
     verdict: Verdict,
-    mut count: LinkCount<D, L::Whole>,
+    mut count: LinkCount<D, K>,
     places: u64,
 ) -> Counted<'n, L>
     requires places { places ≡ D.parts }

@@ -13,13 +13,13 @@ use std::sync::ledger::Share;
 /// What a crew does for a server, which its members share.
 pub(crate) trait Crewed {
     /// What a ticker and a worker have of their own.
-    type Pass: Send + Drop;
+    type Pass: Drop;
 
     /// What a place has of its own.
-    type Place: Send + Drop;
+    type Place: Drop;
 
     /// What a member comes to.
-    type Done: Send + Drop;
+    type Done: Drop;
 
     /// Ticks until the server is ending.
     fn run_ticker(&self, pass: Self::Pass) -> Self::Done;
@@ -41,17 +41,18 @@ pub(crate) enum Role<A, B> {
 
 /// A member of the crew, which is lent the server.
 #[derive(Drop)]
-struct Member<'s, S: Crewed> {
+struct Member<'s, A, B, S> {
     server: &'s S,
-    role: Role<S::Pass, S::Place>,
+    role: Role<A, B>,
 }
 
-impl<'s, S: Crewed> Activity for Member<'s, S> {
-    type Done = S::Done;
+impl<'s, A: Drop, B: Drop, Z: Drop, S: Crewed<Pass = A, Place = B, Done = Z>> Activity
+    for Member<'s, A, B, S> {
+    type Done = Z;
 
     ghost may_give = { λ _ _. Unit {0} };
 
-    fn go(self) -> S::Done {
+    fn go(self) -> Z {
         let Member { server, role } = self;
         match role {
             Role::Ticker(pass) => server.run_ticker(pass),
@@ -102,12 +103,18 @@ pub(crate) fn roles<W: Hosting, J: Naming, D: Doorway, K: Link + Drop>(
 }
 
 /// Runs the crew, a member for each role, and answers what the members came to, in their order.
-pub(crate) fn run_crew<S: Crewed + Sync, P: Spawner>(
+pub(crate) fn run_crew<
+    A: Send + Drop,
+    B: Send + Drop,
+    Z: Send + Drop,
+    S: Crewed<Pass = A, Place = B, Done = Z> + Sync,
+    P: Spawner,
+>(
     alloc: Global,
     server: &S,
-    roles: Vec<Role<S::Pass, S::Place>>,
+    roles: Vec<Role<A, B>>,
     spawner: &mut P,
-) -> Result<Vec<S::Done>, Verdict>
+) -> Result<Vec<Z>, Verdict>
     requires { vec_len roles ≤ 1024 }
 {
     let mut members = Vec::new(alloc);

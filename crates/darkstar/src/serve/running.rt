@@ -10,7 +10,7 @@ use super::crew::{roles, run_crew};
 use super::server::Server;
 use super::verdict::Verdict;
 use dk_disk::Home;
-use dk_edge::{Clock, Listener, Spawner};
+use dk_edge::{Clock, Link, Listener, Spawner};
 use dk_game::Game;
 use dk_host::{Host, Hosting, WorldBook};
 use dk_pump::{Arrivals, Door, Doorway, LinkCount, Tally};
@@ -48,7 +48,8 @@ fn run_members<
     W: Hosting + Send + Sync,
     J: Naming + Send + Sync,
     M: Home + Send,
-    L: Listener + Send,
+    K: Link + Send + Drop,
+    L: Listener<Whole = K> + Send,
     D: Doorway + Send + Sync,
     C: Clock + Sync,
     P: Spawner,
@@ -61,7 +62,7 @@ fn run_members<
     share: &mut Share<D>,
     terms: ServeTerms,
     spawner: &mut P,
-) -> Result<Vec<MemberDone<D, L::Whole>>, Verdict>
+) -> Result<Vec<MemberDone<D, K>>, Verdict>
     requires share { (terms.clients ≤ share.old.parts) × (share.old.amount ≡ 0) }
 {
     let Ok(roles) = roles(server.alloc, passes, share, terms) else {
@@ -76,7 +77,8 @@ fn serve_at_door<
     W: Hosting + Send + Sync,
     J: Naming + Send + Sync,
     M: Home + Send,
-    L: Listener + Send,
+    K: Link + Send + Drop,
+    L: Listener<Whole = K> + Send,
     D: Doorway + Send + Sync,
     C: Clock + Sync,
     P: Spawner,
@@ -176,7 +178,8 @@ pub(crate) fn run_server<
     W: Hosting + Send + Sync,
     J: Naming + Send + Sync,
     M: Home + Send,
-    L: Listener + Send,
+    K: Link + Send + Drop,
+    L: Listener<Whole = K> + Send,
     C: Clock + Sync,
     P: Spawner,
     G: Game + Sync,
@@ -193,7 +196,7 @@ pub(crate) fn run_server<
     spawner: &mut P,
     gate: &T,
     terms: ServeTerms,
-) -> ServerEnd<L::Whole>
+) -> ServerEnd<K>
     requires rules { W.opened.rules ≡ G.rules game.now }
     requires unbound { IsUncalled (L.listening net.old) }
     requires passes { length passes.items ≡ terms.workers + terms.clients + 2 }
@@ -217,7 +220,7 @@ pub(crate) fn run_server<
         net,
         verdict,
         served,
-    } = serve_at_door::<W, J, M, L, Brand, C, P, G, T, R>(
+    } = serve_at_door::<W, J, M, K, L, Brand, C, P, G, T, R>(
         rt, alloc, host, passes, game, net, links, clock, spawner, gate, terms,
     );
     take_back(net);

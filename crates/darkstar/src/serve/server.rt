@@ -5,7 +5,7 @@ use super::counting::MemberDone;
 use super::crew::Crewed;
 use super::verdict::Verdict;
 use dk_disk::Home;
-use dk_edge::{Clock, Listener};
+use dk_edge::{Clock, Link, Listener};
 use dk_game::Game;
 use dk_host::{Host, Hosting, WorldBook};
 use dk_pump::{Door, Doorway, Place, keep_time};
@@ -126,7 +126,8 @@ impl<
     W: Hosting,
     J: Naming,
     M: Home,
-    L: Listener,
+    K: Link + Drop,
+    L: Listener<Whole = K>,
     D: Doorway,
     C: Clock,
     G: Game,
@@ -135,7 +136,7 @@ impl<
 > Server<'a, 'n, W, J, M, L, D, C, G, T, R>
 {
     /// Serves sessions, as long as there are links for them.
-    pub(crate) fn serve(&self, place: Place<W, J, D, L::Whole>) -> MemberDone<D, L::Whole> {
+    pub(crate) fn serve(&self, place: Place<W, J, D, K>) -> MemberDone<D, K> {
         match place.serve(self.rt, self.alloc, self.host, &self.door) {
             Some(done) => {
                 let verdict = Verdict::of_place(done.end);
@@ -156,11 +157,12 @@ impl<
 impl<
     'a,
     'n,
-    W: Hosting + Send + Sync,
-    J: Naming + Send + Sync,
+    W: Hosting,
+    J: Naming,
     M: Home,
-    L: Listener,
-    D: Doorway + Send + Sync,
+    K: Link + Drop,
+    L: Listener<Whole = K>,
+    D: Doorway,
     C: Clock,
     G: Game,
     T: Gate,
@@ -169,19 +171,19 @@ impl<
 {
     type Pass = Pass<WorldBook<W>, J>;
 
-    type Place = Place<W, J, D, L::Whole>;
+    type Place = Place<W, J, D, K>;
 
-    type Done = MemberDone<D, L::Whole>;
+    type Done = MemberDone<D, K>;
 
-    fn run_ticker(&self, pass: Pass<WorldBook<W>, J>) -> MemberDone<D, L::Whole> {
+    fn run_ticker(&self, pass: Pass<WorldBook<W>, J>) -> MemberDone<D, K> {
         self.tick(pass)
     }
 
-    fn run_worker(&self, number: u32, pass: Pass<WorldBook<W>, J>) -> MemberDone<D, L::Whole> {
+    fn run_worker(&self, number: u32, pass: Pass<WorldBook<W>, J>) -> MemberDone<D, K> {
         self.work(number, pass)
     }
 
-    fn run_place(&self, place: Place<W, J, D, L::Whole>) -> MemberDone<D, L::Whole> {
+    fn run_place(&self, place: Place<W, J, D, K>) -> MemberDone<D, K> {
         self.serve(place)
     }
 }
