@@ -2,34 +2,19 @@
 ghost use Rattle.std.specs.Prelude.{◌≡◌, ◌+◌, ◌≤◌, IfOk, vec_len};
 
 use super::ServeTerms;
-use super::verdict::Verdict;
-use dk_edge::{Activity, Crew, Link, Spawner};
+use super::counting::MemberDone;
+use super::server::Server;
+use dk_disk::Home;
+use dk_edge::{Activity, Clock, Link, Listener};
+use dk_game::Game;
 use dk_host::{Hosting, WorldBook};
 use dk_pump::{Doorway, LinkCount, Place};
 use dk_turn::{Naming, Pass};
-use std::alloc::{AllocError, Global};
+use dk_workers::Gate;
+use std::alloc::{AllocError, AllocGlobal, Global};
+use std::random::RandomSource;
+use std::sync::Wait;
 use std::sync::ledger::Share;
-
-/// What a crew does for a server, which its members share.
-pub(crate) trait Crewed {
-    /// What a ticker and a worker have of their own.
-    type Pass: Drop;
-
-    /// What a place has of its own.
-    type Place: Drop;
-
-    /// What a member comes to.
-    type Done: Drop;
-
-    /// Ticks until the server is ending.
-    fn run_ticker(&self, pass: Self::Pass) -> Self::Done;
-
-    /// Works until the server is ending.
-    fn run_worker(&self, number: u32, pass: Self::Pass) -> Self::Done;
-
-    /// Serves sessions, as long as there are links for them.
-    fn run_place(&self, place: Self::Place) -> Self::Done;
-}
 
 /// What a member does, with what it has of its own.
 #[derive(Drop)]
@@ -41,30 +26,57 @@ pub(crate) enum Role<A, B> {
 
 /// A member of the crew, which is lent the server.
 #[derive(Drop)]
-struct Member<'s, A, B, S> {
-    server: &'s S,
-    role: Role<A, B>,
+pub(crate) struct Member<
+    's,
+    'a,
+    'n,
+    W: Hosting,
+    J: Naming,
+    M: Home,
+    K: Link + Drop,
+    L: Listener<Whole = K>,
+    D: Doorway,
+    C: Clock,
+    G: Game,
+    T: Gate,
+    R: Wait,
+> {
+    pub(crate) server: &'s Server<'a, 'n, W, J, M, L, D, C, G, T, R>,
+    pub(crate) role: Role<Pass<WorldBook<W>, J>, Place<W, J, D, K>>,
 }
 
-impl<'s, A: Drop, B: Drop, Z: Drop, S: Crewed<Pass = A, Place = B, Done = Z>> Activity
-    for Member<'s, A, B, S> {
-    type Done = Z;
+impl<
+    's,
+    'a,
+    'n,
+    W: Hosting,
+    J: Naming,
+    M: Home,
+    K: Link + Drop,
+    L: Listener<Whole = K>,
+    D: Doorway,
+    C: Clock,
+    G: Game,
+    T: Gate,
+    R: Wait + RandomSource + AllocGlobal,
+> Activity for Member<'s, 'a, 'n, W, J, M, K, L, D, C, G, T, R> {
+    type Done = MemberDone<D, K>;
 
     ghost may_give = { λ _ _. Unit {0} };
 
-    fn go(self) -> Z {
+    fn go(self) -> MemberDone<D, K> {
         let Member { server, role } = self;
         match role {
-            Role::Ticker(pass) => server.run_ticker(pass),
-            Role::Worker(number, pass) => server.run_worker(number, pass),
-            Role::Place(place) => server.run_place(place),
+            Role::Ticker(pass) => server.tick(pass),
+            Role::Worker(number, pass) => server.work(number, pass),
+            Role::Place(place) => server.serve(place),
         }
     }
 }
 
 /// The caller of a crew, which waits for the others and does nothing.
 #[derive(Drop)]
-struct Waiting;
+pub(crate) struct Waiting;
 
 impl Activity for Waiting {
     type Done = ();
@@ -100,34 +112,4 @@ pub(crate) fn roles<W: Hosting, J: Naming, D: Doorway, K: Link + Drop>(
         }
     }
     Ok(roles)
-}
-
-/// Runs the crew, a member for each role, and answers what the members came to, in their order.
-pub(crate) fn run_crew<
-    A: Send + Drop,
-    B: Send + Drop,
-    Z: Send + Drop,
-    S: Crewed<Pass = A, Place = B, Done = Z> + Sync,
-    P: Spawner,
->(
-    alloc: Global,
-    server: &S,
-    roles: Vec<Role<A, B>>,
-    spawner: &mut P,
-) -> Result<Vec<Z>, Verdict>
-    requires { vec_len roles ≤ 1024 }
-{
-    let mut members = Vec::new(alloc);
-    for role in roles {
-        if members.push(Member { server, role }).is_err() {
-            return Err(Verdict::no_memory());
-        }
-    }
-    match spawner.crew(members, Waiting) {
-        Ok(crew) => {
-            let Crew { members, own: _ } = crew;
-            Ok(members)
-        }
-        Err(_) => Err(Verdict::net_fault()),
-    }
 }

@@ -6,11 +6,11 @@ ghost use Rattle.darkstar.specs.Served.{IsAllServed, IsBoundAt, links_of};
 
 use super::ServeTerms;
 use super::counting::{Counted, MemberDone, gather, settle};
-use super::crew::{roles, run_crew};
+use super::crew::{Member, Waiting, roles};
 use super::server::Server;
 use super::verdict::Verdict;
 use dk_disk::Home;
-use dk_edge::{Clock, Link, Listener, Spawner};
+use dk_edge::{Clock, Crew, Link, Listener, Spawner};
 use dk_game::Game;
 use dk_host::{Host, Hosting, WorldBook};
 use dk_pump::{Arrivals, Door, Doorway, LinkCount, Tally};
@@ -68,7 +68,19 @@ fn run_members<
     let Ok(roles) = roles(server.alloc, passes, share, terms) else {
         return Err(Verdict::no_memory());
     };
-    run_crew(server.alloc, server, roles, spawner)
+    let mut members = Vec::new(server.alloc);
+    for role in roles {
+        if members.push(Member { server, role }).is_err() {
+            return Err(Verdict::no_memory());
+        }
+    }
+    match spawner.crew(members, Waiting) {
+        Ok(crew) => {
+            let Crew { members, own: _ } = crew;
+            Ok(members)
+        }
+        Err(_) => Err(Verdict::net_fault()),
+    }
 }
 
 /// A server whose listener is bound. The listener comes back.

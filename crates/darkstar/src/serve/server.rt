@@ -2,7 +2,6 @@
 ghost use Rattle.std.specs.Prelude.{◌≡◌};
 
 use super::counting::MemberDone;
-use super::crew::Crewed;
 use super::verdict::Verdict;
 use dk_disk::Home;
 use dk_edge::{Clock, Link, Listener};
@@ -151,39 +150,5 @@ impl<
                 count: None,
             },
         }
-    }
-}
-
-impl<
-    'a,
-    'n,
-    W: Hosting,
-    J: Naming,
-    M: Home,
-    K: Link + Drop,
-    L: Listener<Whole = K>,
-    D: Doorway,
-    C: Clock,
-    G: Game,
-    T: Gate,
-    R: Wait + RandomSource + AllocGlobal,
-> Crewed for Server<'a, 'n, W, J, M, L, D, C, G, T, R>
-{
-    type Pass = Pass<WorldBook<W>, J>;
-
-    type Place = Place<W, J, D, K>;
-
-    type Done = MemberDone<D, K>;
-
-    fn run_ticker(&self, pass: Pass<WorldBook<W>, J>) -> MemberDone<D, K> {
-        self.tick(pass)
-    }
-
-    fn run_worker(&self, number: u32, pass: Pass<WorldBook<W>, J>) -> MemberDone<D, K> {
-        self.work(number, pass)
-    }
-
-    fn run_place(&self, place: Place<W, J, D, K>) -> MemberDone<D, K> {
-        self.serve(place)
     }
 }
