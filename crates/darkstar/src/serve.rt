@@ -16,7 +16,7 @@ mod verdict;
 
 use closing::serve_on_turn;
 use dk_disk::Home;
-use dk_edge::{Clock, Link, Listener, Spawner};
+use dk_edge::{Clock, Link, Listener, Sink, Source, Spawner};
 use dk_game::Game;
 use dk_host::{Hosting, OpenedStore};
 use dk_pump::Tally;
@@ -75,7 +75,9 @@ fn serve_on_ledgers<
     W: Hosting + Send + Sync,
     M: Home + Send,
     K: Link + Send + Drop,
-    L: Listener<Whole = K> + Send,
+    I: Source + Send,
+    O: Sink + Send,
+    L: Listener<In = I, Out = O, Whole = K> + Send,
     C: Clock + Sync,
     P: Spawner,
     G: Game + Sync,
@@ -109,7 +111,7 @@ fn serve_on_ledgers<
     ensures opening { M.opening result.home ≡ W.opening }
 {
     match Blank::new(alloc, terms.passes()) {
-        Ok(blank) => serve_on_turn::<W, Brand, M, K, L, C, P, G, T, R>(
+        Ok(blank) => serve_on_turn::<W, Brand, M, K, _, _, L, C, P, G, T, R>(
             rt, alloc, blank, commits, places, game, store, before, net, clock, spawner, gate, terms,
         ),
         Err(_) => Served {
@@ -124,7 +126,9 @@ fn serve_on_ledgers<
 pub fn serve_store<
     M: Home + Send,
     K: Link + Send + Drop,
-    L: Listener<Whole = K> + Send,
+    I: Source + Send,
+    O: Sink + Send,
+    L: Listener<In = I, Out = O, Whole = K> + Send,
     C: Clock + Sync,
     P: Spawner,
     G: Game + Sync,
@@ -149,7 +153,7 @@ pub fn serve_store<
 {
     let commits = ledger::Blank::new(1);
     let places = ledger::Blank::new(1);
-    serve_on_ledgers::<Brand, M, K, L, C, P, G, T, R>(
+    serve_on_ledgers::<Brand, M, K, _, _, L, C, P, G, T, R>(
         rt, alloc, commits, places, game, store, before, net, clock, spawner, gate, terms,
     )
 }

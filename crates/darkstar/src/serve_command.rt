@@ -17,7 +17,7 @@ use crate::serve::{ServeFault, ServeTerms, Served, serve_store};
 use dk_command::GameName;
 use dk_demos::{Channels, Timer};
 use dk_disk::Home;
-use dk_edge::{Clock, Link, Listener, Spawner};
+use dk_edge::{Clock, Link, Listener, Sink, Source, Spawner};
 use dk_game::Game;
 use dk_host::open_store;
 use dk_pump::Tally;
@@ -42,7 +42,9 @@ impl Service {
         T: Threads + Wait + RandomSource + AllocGlobal + Sync,
         M: Home + Send,
         E: Link + Send + Drop,
-        L: Listener<Whole = E> + Send,
+        I: Source + Send,
+        O: Sink + Send,
+        L: Listener<In = I, Out = O, Whole = E> + Send,
         C: Clock + Sync,
         P: Spawner,
         G: Gate + Sync,
@@ -84,7 +86,9 @@ impl Service {
         T: Threads + Wait + RandomSource + AllocGlobal + Sync,
         M: Home + Send,
         E: Link + Send + Drop,
-        L: Listener<Whole = E> + Send,
+        I: Source + Send,
+        O: Sink + Send,
+        L: Listener<In = I, Out = O, Whole = E> + Send,
         C: Clock + Sync,
         P: Spawner,
         G: Gate + Sync,
@@ -132,7 +136,9 @@ impl Service {
         A: Game + Sync,
         M: Home + Send,
         E: Link + Send + Drop,
-        L: Listener<Whole = E> + Send,
+        I: Source + Send,
+        O: Sink + Send,
+        L: Listener<In = I, Out = O, Whole = E> + Send,
         C: Clock + Sync,
         P: Spawner,
         G: Gate + Sync,

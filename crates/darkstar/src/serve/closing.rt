@@ -8,7 +8,7 @@ use super::running::run_server;
 use super::verdict::{Counts, ServeFault, told};
 use super::{ServeTerms, Served};
 use dk_disk::Home;
-use dk_edge::{Clock, Link, Listener, Spawner};
+use dk_edge::{Clock, Link, Listener, Sink, Source, Spawner};
 use dk_game::Game;
 use dk_host::{Host, Hosting, OpenedStore, WorldBook};
 use dk_pump::Tally;
@@ -43,7 +43,9 @@ pub(crate) fn serve_on_turn<
     J: Naming + Send + Sync,
     M: Home + Send,
     K: Link + Send + Drop,
-    L: Listener<Whole = K> + Send,
+    I: Source + Send,
+    O: Sink + Send,
+    L: Listener<In = I, Out = O, Whole = K> + Send,
     C: Clock + Sync,
     P: Spawner,
     G: Game + Sync,

@@ -10,7 +10,7 @@ use super::crew::{Member, Waiting, roles};
 use super::server::Server;
 use super::verdict::Verdict;
 use dk_disk::Home;
-use dk_edge::{Clock, Crew, Link, Listener, Spawner};
+use dk_edge::{Clock, Crew, Link, Listener, Sink, Source, Spawner};
 use dk_game::Game;
 use dk_host::{Host, Hosting, WorldBook};
 use dk_pump::{Arrivals, Door, Doorway, LinkCount, Tally};
@@ -49,7 +49,9 @@ fn run_members<
     J: Naming + Send + Sync,
     M: Home + Send,
     K: Link + Send + Drop,
-    L: Listener<Whole = K> + Send,
+    I: Source + Send,
+    O: Sink + Send,
+    L: Listener<In = I, Out = O, Whole = K> + Send,
     D: Doorway + Send + Sync,
     C: Clock + Sync,
     P: Spawner,
@@ -90,7 +92,9 @@ fn serve_at_door<
     J: Naming + Send + Sync,
     M: Home + Send,
     K: Link + Send + Drop,
-    L: Listener<Whole = K> + Send,
+    I: Source + Send,
+    O: Sink + Send,
+    L: Listener<In = I, Out = O, Whole = K> + Send,
     D: Doorway + Send + Sync,
     C: Clock + Sync,
     P: Spawner,
@@ -191,7 +195,9 @@ pub(crate) fn run_server<
     J: Naming + Send + Sync,
     M: Home + Send,
     K: Link + Send + Drop,
-    L: Listener<Whole = K> + Send,
+    I: Source + Send,
+    O: Sink + Send,
+    L: Listener<In = I, Out = O, Whole = K> + Send,
     C: Clock + Sync,
     P: Spawner,
     G: Game + Sync,
@@ -232,7 +238,7 @@ pub(crate) fn run_server<
         net,
         verdict,
         served,
-    } = serve_at_door::<W, J, M, K, L, Brand, C, P, G, T, R>(
+    } = serve_at_door::<W, J, M, K, _, _, L, Brand, C, P, G, T, R>(
         rt, alloc, host, passes, game, net, links, clock, spawner, gate, terms,
     );
     take_back(net);

@@ -38,8 +38,8 @@ returns-in-Err-clause-complete g c told d may =
     let old = g.M.Home.past c.args.home in
     subst IsServedOrLimit (sym c.unopened_status.ensures) (unopened_limit d c.in-Err.refused.fault (c.in-Err.ensures.accepted told d may.held (subst (IsOurs (bytes_of old Zero) (bytes_of old One)) (sym (c.id.ensures ∙ c.requires.id)) may.ours) may.anew))
 
-pub returns-in-Ok-clause-done : goal.returns-in-Ok-clause-done
-returns-in-Ok-clause-done g c ok =
+pub returns-clause-done : goal.returns-clause-done
+returns-clause-done g c ok =
     let terms = service_for c.args.self in
     let past = g.M.Home.past in
     let counted = g.M.Home.counted in
@@ -54,8 +54,8 @@ returns-in-Ok-clause-done g c ok =
     subst (λ (r : Meaning). IsUnserved store.home end_.home end_.served end_.outcome ⊎ IsServedOn (served_on r store.durable) g.M.Home.tells (past store.home) (past end_.home) c.args.before (counted end_.home) (g.L.Listener.counted c.args.net.now) (g.L.Listener.counted c.serve_store-home.new.net) (g.P.Spawner.counted c.args.spawner.now) (g.P.Spawner.counted c.serve_store-home.new.spawner) c.args.self.terms.port (links_of c.args.self.terms.sessions) (listening c.args.net.now) (listening c.serve_store-home.new.net) end_.served end_.outcome) c.requires.rules c.serve_store-home.ensures.serves in
     served_done past counted terms lawful (many c.args.self) g.M.Home.tells old store.home end_.home store.durable c.args.before c.in-Ok.ensures.valid held ours c.in-Ok.ensures.keeps (g.L.Listener.counted c.args.net.now) (g.L.Listener.counted c.serve_store-home.new.net) (g.P.Spawner.counted c.args.spawner.now) (g.P.Spawner.counted c.serve_store-home.new.spawner) c.args.self.terms.port (links_of c.args.self.terms.sessions) (listening c.args.net.now) (listening c.serve_store-home.new.net) end_.served end_.outcome has (sym c.served_status.ensures ∙ ok) c.args.self.terms.sessions refl
 
-pub returns-in-Ok-clause-keeps : goal.returns-in-Ok-clause-keeps
-returns-in-Ok-clause-keeps g c =
+pub returns-clause-keeps : goal.returns-clause-keeps
+returns-clause-keeps g c =
     let terms = service_for c.args.self in
     let past = g.M.Home.past in
     let counted = g.M.Home.counted in
@@ -70,8 +70,8 @@ returns-in-Ok-clause-keeps g c =
     subst (λ (r : Meaning). IsUnserved store.home end_.home end_.served end_.outcome ⊎ IsServedOn (served_on r store.durable) g.M.Home.tells (past store.home) (past end_.home) c.args.before (counted end_.home) (g.L.Listener.counted c.args.net.now) (g.L.Listener.counted c.serve_store-home.new.net) (g.P.Spawner.counted c.args.spawner.now) (g.P.Spawner.counted c.serve_store-home.new.spawner) c.args.self.terms.port (links_of c.args.self.terms.sessions) (listening c.args.net.now) (listening c.serve_store-home.new.net) end_.served end_.outcome) c.requires.rules c.serve_store-home.ensures.serves in
     served_keeps past counted terms lawful (many c.args.self) g.M.Home.tells old store.home end_.home store.durable c.args.before c.in-Ok.ensures.valid held ours c.in-Ok.ensures.keeps (g.L.Listener.counted c.args.net.now) (g.L.Listener.counted c.serve_store-home.new.net) (g.P.Spawner.counted c.args.spawner.now) (g.P.Spawner.counted c.serve_store-home.new.spawner) c.args.self.terms.port (links_of c.args.self.terms.sessions) (listening c.args.net.now) (listening c.serve_store-home.new.net) end_.served c.served_status.result end_.outcome has
 
-pub returns-in-Ok-clause-end : goal.returns-in-Ok-clause-end
-returns-in-Ok-clause-end g c =
+pub returns-clause-end : goal.returns-clause-end
+returns-clause-end g c =
     let terms = service_for c.args.self in
     let past = g.M.Home.past in
     let counted = g.M.Home.counted in
@@ -86,11 +86,11 @@ returns-in-Ok-clause-end g c =
     subst (λ (r : Meaning). IsUnserved store.home end_.home end_.served end_.outcome ⊎ IsServedOn (served_on r store.durable) g.M.Home.tells (past store.home) (past end_.home) c.args.before (counted end_.home) (g.L.Listener.counted c.args.net.now) (g.L.Listener.counted c.serve_store-home.new.net) (g.P.Spawner.counted c.args.spawner.now) (g.P.Spawner.counted c.serve_store-home.new.spawner) c.args.self.terms.port (links_of c.args.self.terms.sessions) (listening c.args.net.now) (listening c.serve_store-home.new.net) end_.served end_.outcome) c.requires.rules c.serve_store-home.ensures.serves in
     subst (IsServeEnd terms (passage g.M.Home.tells old (past end_.home) c.args.before (counted end_.home))) (sym c.served_status.ensures) (served_end past counted terms lawful (many c.args.self) g.M.Home.tells old store.home end_.home store.durable c.args.before c.in-Ok.ensures.valid held ours c.in-Ok.ensures.keeps (g.L.Listener.counted c.args.net.now) (g.L.Listener.counted c.serve_store-home.new.net) (g.P.Spawner.counted c.args.spawner.now) (g.P.Spawner.counted c.serve_store-home.new.spawner) c.args.self.terms.port (links_of c.args.self.terms.sessions) (listening c.args.net.now) (listening c.serve_store-home.new.net) end_.served end_.outcome has)
 
-pub returns-in-Ok-clause-complete : goal.returns-in-Ok-clause-complete
-returns-in-Ok-clause-complete g c told d may = subst IsServedOrLimit (sym c.served_status.ensures) (served_limit c.serve_store-home.result.outcome)
+pub returns-clause-complete : goal.returns-clause-complete
+returns-clause-complete g c told d may = subst IsServedOrLimit (sym c.served_status.ensures) (served_limit c.serve_store-home.result.outcome)
 
-pub returns-in-Ok-clause-disk_cause : goal.returns-in-Ok-clause-disk_cause
-returns-in-Ok-clause-disk_cause g c is =
+pub returns-clause-disk_cause : goal.returns-clause-disk_cause
+returns-clause-disk_cause g c is =
     let terms = service_for c.args.self in
     let past = g.M.Home.past in
     let counted = g.M.Home.counted in
@@ -105,8 +105,8 @@ returns-in-Ok-clause-disk_cause g c is =
     subst (λ (r : Meaning). IsUnserved store.home end_.home end_.served end_.outcome ⊎ IsServedOn (served_on r store.durable) g.M.Home.tells (past store.home) (past end_.home) c.args.before (counted end_.home) (g.L.Listener.counted c.args.net.now) (g.L.Listener.counted c.serve_store-home.new.net) (g.P.Spawner.counted c.args.spawner.now) (g.P.Spawner.counted c.serve_store-home.new.spawner) c.args.self.terms.port (links_of c.args.self.terms.sessions) (listening c.args.net.now) (listening c.serve_store-home.new.net) end_.served end_.outcome) c.requires.rules c.serve_store-home.ensures.serves in
     served_disk past counted terms lawful (many c.args.self) g.M.Home.tells old store.home end_.home store.durable c.args.before c.in-Ok.ensures.valid held ours c.in-Ok.ensures.keeps (g.L.Listener.counted c.args.net.now) (g.L.Listener.counted c.serve_store-home.new.net) (g.P.Spawner.counted c.args.spawner.now) (g.P.Spawner.counted c.serve_store-home.new.spawner) c.args.self.terms.port (links_of c.args.self.terms.sessions) (listening c.args.net.now) (listening c.serve_store-home.new.net) end_.served end_.outcome has (sym c.served_status.ensures ∙ is)
 
-pub returns-in-Ok-clause-net_cause : goal.returns-in-Ok-clause-net_cause
-returns-in-Ok-clause-net_cause g c is =
+pub returns-clause-net_cause : goal.returns-clause-net_cause
+returns-clause-net_cause g c is =
     let terms = service_for c.args.self in
     let past = g.M.Home.past in
     let counted = g.M.Home.counted in
