@@ -46,7 +46,9 @@ impl Verdict {
     }
 
     /// The listener or the spawner failed.
-    pub(crate) fn net_fault() -> Verdict {
+    pub(crate) fn net_fault() -> Verdict
+        ensures { result.fault ≡ Some ServeFault.NetFault }
+    {
         Verdict {
             fault: Some(ServeFault::NetFault),
         }
