@@ -4,6 +4,9 @@ use Rattle.dk_edge.specs.Listening.{Listening}
 use Rattle.dk_edge.specs.declared.listener.Binding.TheVariants.{Bound}
 use Rattle.dk_pump.specs.declared.arrivals.Accepting.{Accepting}
 use Rattle.dk_pump.specs.declared.arrivals.Accepting.TheVariants as accepting
+use Rattle.dk_pump.specs.declared.arrivals.NoLink.{NoLink}
+use Rattle.dk_pump.specs.declared.arrivals.NoLink.TheVariants as none
+use Rattle.dk_types.specs.declared.limits.TheConstants.{NUMBERS_END}
 
 -- a link without faults
 abbrev pub IsFresh : ℕ → ℕ → Type 0
@@ -19,3 +22,13 @@ pub record HasGiven (port first counted : ℕ) (course : Accepting) (now : Liste
 -- as many links were given as there were to be; or the listener said that no more come
 abbrev pub AreAll : ℕ → ℕ → Listening → Type 0
 AreAll most given now = ((0 < most) × (given ≡ most)) ⊎ (now.ended ≡ true)
+
+-- as many links were given as there were to be; or the listener was heard to say that no more come
+abbrev pub KnowsAll : ℕ → ℕ → Accepting → Type 0
+KnowsAll most given course = ((0 < most) × (given ≡ most)) ⊎ (course ≡ accepting.Ended)
+
+-- Why no link is given, whatever the door says of the server: all were given, or as many as can be counted; or the listener failed, now or before.
+abbrev pub IsWhy : NoLink → ℕ → ℕ → Accepting → Type 0
+IsWhy none.Over most given course = KnowsAll most given course ⊎ (given ≡ NUMBERS_END)
+IsWhy none.Failed most given course = course ≡ accepting.Failed
+IsWhy none.Ending most given course = ⊥

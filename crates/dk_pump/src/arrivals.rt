@@ -2,9 +2,9 @@
 //!
 //! A listener is lent to its arrivals, which lie behind a lock: whoever takes a link has a share of a ledger, and the share
 //! rises by one. So all shares together are as many as the listener gave links.
-ghost use Rattle.std.specs.Prelude.{◌≡◌, ◌↔◌, ◌+◌, ◌<◌, ◌≤◌, ℕ, IfOk, IsTrue, OnOk, OnErr};
+ghost use Rattle.std.specs.Prelude.{◌≡◌, ◌↔◌, ◌+◌, ◌<◌, ◌≤◌, ℕ, IfErr, IfOk, IsTrue, OnOk, OnErr};
 ghost use Rattle.dk_types.specs.declared.limits.TheConstants.{NUMBERS_END};
-ghost use Rattle.dk_pump.specs.Arrivals.{AreAll, HasGiven, IsFresh};
+ghost use Rattle.dk_pump.specs.Arrivals.{AreAll, HasGiven, IsFresh, IsWhy, KnowsAll};
 
 use crate::link_count::LinkCount;
 use dk_edge::{Binding, Listener};
@@ -107,6 +107,7 @@ impl<'n, L: Listener, D: Doorway> Arrivals<'n, L, D> {
         ensures few { OnOk result (share.old.amount < NUMBERS_END) }
         ensures fresh { IfOk result (λ link. IsFresh (L.Whole.take_counted link) (L.Whole.put_counted link)) }
         ensures refused { OnErr result (share.new.amount ≡ share.old.amount) }
+        ensures why { IfErr result (λ why. IsWhy why D.most self.new.given self.new.accepting) }
         ensures parts { share.new.parts ≡ share.old.parts }
     {
         self.check()?;
@@ -139,6 +140,7 @@ impl<'n, L: Listener, D: Doorway> Arrivals<'n, L, D> {
     fn check(&self) -> Result<(), NoLink>
         ensures awaits { OnOk result (self.now.accepting ≡ Accepting.Open) }
         ensures few { OnOk result (self.now.given < NUMBERS_END) }
+        ensures why { IfErr result (λ why. IsWhy why D.most self.now.given self.now.accepting) }
     {
         match self.accepting {
             Accepting::Ended => return Err(NoLink::Over),
@@ -160,7 +162,8 @@ impl<'n, L: Listener, D: Doorway> Arrivals<'n, L, D> {
 
     /// Whether as many links were given as there were to be, or it was said that no more come.
     pub fn is_over(&self) -> bool
-        ensures { IsTrue result → AreAll D.most self.now.given (L.listening self.now.net.now) }
+        ensures over { IsTrue result → AreAll D.most self.now.given (L.listening self.now.net.now) }
+        ensures known { IsTrue result ↔ KnowsAll D.most self.now.given self.now.accepting }
     {
         self.is_full() || matches!(self.accepting, Accepting::Ended)
     }
