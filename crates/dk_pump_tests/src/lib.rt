@@ -1,7 +1,8 @@
 //! Tests of sessions over a shared host of SwordWorld, as rows.
 //!
 //! A row is a client's stream and how its session ends, read whole and byte by byte, by the blocking calls and by a session
-//! that is polled, with another session on the same host each time. A worker runs what was posted between two calls.
+//! that is polled, with another session on the same host each time. A worker runs what was posted between two calls. Places
+//! serve the peers of a listener in memory, and a ticker ticks.
 //! Nothing stands on this crate.
 #![tactic(auto)]
 
@@ -21,6 +22,10 @@ mod polling;
 mod reading;
 #[cfg(test)]
 mod rows;
+#[cfg(test)]
+mod served;
+#[cfg(test)]
+mod serving;
 #[cfg(test)]
 mod untaken;
 #[cfg(test)]
