@@ -1,34 +1,25 @@
 //! What recovering two files gives.
+ghost use Rattle.dk_disk.specs.Opening.{IsOpen};
 
-use dk_disk::{Home, MemoryHome};
+use crate::open_home::OpenHome;
+use crate::pieces::Pieces;
 use dk_recover::{OpenFault, Recovered, recover};
-use dk_types::{GameId, RunNo, Side};
-use std::alloc::{AllocError, Global};
+use dk_rows::Words;
+use dk_types::{GameId, RunNo};
+use std::alloc::Global;
+use std::str::from_utf8;
 
-/// What two files hold for a game.
-#[derive(Clone, Copy, Debug, PartialEq, Eq)]
-pub enum Answer {
-    NoStore,
-    Holds(Held),
-    NotAStore(Side, u64),
-    OfOther(GameId),
-    Damaged(Side, u64),
-    NoMemory,
-    DiskFault,
+/// What a file's own bytes say, which an answer calls its own.
+#[derive(Clone, Copy)]
+pub struct Own {
+    /// One more than its greatest run.
+    pub next: u64,
+    pub game: GameId,
 }
 
-/// A store by its numbers: the file that stands, its format and epoch, where its journal ends, and what its world has.
-#[derive(Clone, Copy, Debug, PartialEq, Eq)]
-pub struct Held {
-    pub side: Side,
-    pub format: u16,
-    pub epoch: u64,
-    pub length: u64,
-    pub commits: u64,
-    /// One more than the largest committed run, or 0.
-    pub next: u64,
-    pub objects: usize,
-    pub names: usize,
+/// The game of the worked stores.
+pub fn worked_game() -> Option<GameId> {
+    GameId::new(b"sword-world").ok()
 }
 
 fn next_of(last: Option<RunNo>) -> u64 {
@@ -38,62 +29,88 @@ fn next_of(last: Option<RunNo>) -> u64 {
     }
 }
 
-fn answer_of(found: &Recovered) -> Answer {
-    match &found.store {
-        None => Answer::NoStore,
-        Some(journal) => Answer::Holds(Held {
-            side: found.side,
-            format: found.format,
-            epoch: journal.epoch(),
-            length: journal.length(),
-            commits: found.durable.commits,
-            next: next_of(found.durable.last),
-            objects: found.durable.objects.as_slice().len(),
-            names: found.durable.names.as_slice().len(),
-        }),
+/// One more than the largest committed run, or 0.
+fn next_run(alloc: Global, last: Option<RunNo>, own: u64) -> Option<String> {
+    let next = next_of(last);
+    if next == own {
+        String::from_str(alloc, "own").ok()
+    } else {
+        format!(in alloc; "{next}").ok()
     }
 }
 
-fn refusal_of(fault: OpenFault) -> Answer {
-    match fault {
-        OpenFault::NoMemory => Answer::NoMemory,
-        OpenFault::DiskFault => Answer::DiskFault,
-        OpenFault::NotAStore { side, at } => Answer::NotAStore(side, at),
-        OpenFault::WrongGame { found } => Answer::OfOther(found),
-        OpenFault::Damaged { side, at } => Answer::Damaged(side, at),
-    }
-}
-
-/// What these two files hold for this game where this call fails, and how many calls were made. The calls have numbers
-/// from 1 on.
-pub fn calls_of(
-    alloc: Global,
-    zero: &[u8],
-    one: &[u8],
-    game: &GameId,
-    failing: u64,
-) -> Result<(Answer, u64), AllocError> {
-    let zero = Vec::from_slice(alloc, zero)?;
-    let one = Vec::from_slice(alloc, one)?;
-    let failing = vec![in alloc; failing]?;
-    let mut home = MemoryHome::new(alloc, zero, one, failing, false);
-    if home.open("").is_err() {
-        return Ok((Answer::DiskFault, 0));
-    }
-    let answer = match recover(alloc, &mut home, game) {
-        Ok(found) => answer_of(&found),
-        Err(fault) => refusal_of(fault),
+/// A store by its numbers: the file that stands, its format and epoch, where its journal ends, and what its world has.
+fn held(alloc: Global, found: &Recovered, own: u64) -> Option<String> {
+    let Some(journal) = &found.store else {
+        return String::from_str(alloc, "no store yet").ok();
     };
-    Ok((answer, home.calls()))
+    let durable = &found.durable;
+    let next = next_run(alloc, durable.last, own)?;
+    let mut text = format!(in alloc; "{:?} format {}", found.side, found.format).ok()?;
+    write!(text, " epoch {} end {}", journal.epoch(), journal.length()).ok()?;
+    write!(text, " commits {} next {next}", durable.commits).ok()?;
+    let (objects, names) = (durable.objects.as_slice(), durable.names.as_slice());
+    write!(text, " objects {} names {}", objects.len(), names.len()).ok()?;
+    Some(text)
 }
 
-/// What these two files hold for this game.
-pub fn recovered(
-    alloc: Global,
-    zero: &[u8],
-    one: &[u8],
-    game: &GameId,
-) -> Result<Answer, AllocError> {
-    let (answer, _) = calls_of(alloc, zero, one, game, 0)?;
-    Ok(answer)
+/// A store of another game, with its id.
+fn other(alloc: Global, game: &GameId, own: &GameId) -> Option<String> {
+    if game.as_slice() == own.as_slice() {
+        String::from_str(alloc, "of its own game").ok()
+    } else {
+        format!(in alloc; "of {}", from_utf8(game.as_slice()).ok()?).ok()
+    }
+}
+
+fn refused(alloc: Global, fault: &OpenFault, own: &GameId) -> Option<String> {
+    match fault {
+        OpenFault::WrongGame { found } => other(alloc, found, own),
+        _ => format!(in alloc; "{fault:?}").ok(),
+    }
+}
+
+/// What a home's files hold for this game.
+pub fn told(alloc: Global, home: &mut OpenHome, game: &GameId, own: &Own) -> Option<String>
+    requires { IsOpen home.old.inner.opening }
+{
+    match recover(alloc, home, game) {
+        Ok(found) => held(alloc, &found, own.next),
+        Err(fault) => refused(alloc, &fault, &own.game),
+    }
+}
+
+/// `recovers GAME ZERO ONE`: what these two files hold for this game.
+pub fn recovers(alloc: Global, pieces: &Pieces, call: &mut Words<'_>) -> Option<String> {
+    let game = GameId::new(call.word()?.as_bytes()).ok()?;
+    let zero = pieces.next(alloc, call)?;
+    let one = pieces.next(alloc, call)?;
+    let mut home = OpenHome::of(alloc, &zero, &one, 0)?;
+    let next = u64::MAX;
+    told(alloc, &mut home, &game, &Own { next, game })
+}
+
+/// What two files hold for the worked game where this call fails, and how many calls are made.
+fn failed(alloc: Global, zero: &[u8], one: &[u8], failing: u64) -> Option<(String, u64)> {
+    let game = worked_game()?;
+    let mut home = OpenHome::of(alloc, zero, one, failing)?;
+    let next = u64::MAX;
+    let text = told(alloc, &mut home, &game, &Own { next, game })?;
+    Some((text, home.calls()))
+}
+
+/// `fails ZERO ONE`: what they hold, and in how many calls of recovering them one that fails is not a disk fault behind which no call
+/// is made.
+pub fn fails(alloc: Global, pieces: &Pieces, call: &mut Words<'_>) -> Option<String> {
+    let zero = pieces.next(alloc, call)?;
+    let one = pieces.next(alloc, call)?;
+    let (text, calls) = failed(alloc, &zero, &one, 0)?;
+    let mut others = 0u64;
+    for failing in 1..=calls {
+        let (fault, made) = failed(alloc, &zero, &one, failing)?;
+        if fault.as_str() != "DiskFault" || made != failing {
+            others = others.saturating_add(1);
+        }
+    }
+    format!(in alloc; "{text}, {others} told otherwise").ok()
 }

@@ -1,209 +1,65 @@
-//! A store that is made, filled and written anew, and what a stop after each call leaves of it.
-ghost use Rattle.std.specs.Prelude.{◌≡◌};
-ghost use Rattle.dk_disk.specs.Opening.{IsOpen};
+//! What a stop after each call leaves of a store that is made, filled and written anew.
 
-use crate::quiet_home::QuietHome;
-use crate::vectors::{image, payload};
+use crate::journals::found_in;
+use crate::open_home::OpenHome;
+use crate::pieces::Pieces;
+use crate::seen::Seen;
+use crate::stores::{Played, world_after};
 use dk_checkpoint::checkpoint;
-use dk_disk::{Home, MemoryHome, Torn};
-use dk_entry::encode_entries;
-use dk_image::decode_image;
-use dk_journal::{Journal, create};
+use dk_image::encode_image;
+use dk_journal::Journal;
 use dk_recover::recover;
-use dk_types::{Blob, Durable, Effects, Entry, GameId, Listed, RunNo, Side};
-use std::alloc::{AllocError, Global};
+use dk_rows::Words;
+use dk_types::{GameId, Side};
+use std::alloc::Global;
 
-/// What is done to a store.
-#[derive(Clone, Copy, Debug)]
-pub enum Step {
-    Commit,
-    Checkpoint,
+/// `plays GAME START PAYLOADS STEPS ZERO ONE`: whether the files are these after the steps.
+pub fn plays(alloc: Global, pieces: &Pieces, call: &mut Words<'_>) -> Option<String> {
+    let played = Played::of(alloc, pieces, call, 0)?;
+    let zero = pieces.next(alloc, call)?;
+    let one = pieces.next(alloc, call)?;
+    let is_zero = played.home.contents(Side::Zero) == zero.as_slice();
+    let is_one = played.home.contents(Side::One) == one.as_slice();
+    format!(in alloc; "{is_zero} {is_one}").ok()
 }
 
-/// A store's journal, how many commits it has, and by which call each was acknowledged.
-#[derive(Drop)]
-struct Store {
-    journal: Journal,
-    side: Side,
-    commits: u64,
-    marks: Vec<u64>,
-}
-
-/// A home, and by which call each of its commits was acknowledged.
-#[derive(Drop)]
-pub struct Played {
-    pub home: QuietHome,
-    pub marks: Vec<u64>,
-}
-
-fn nothing(alloc: Global) -> Effects {
-    Effects {
-        written: Listed::from_vec(Vec::new(alloc)),
-        removed: Listed::from_vec(Vec::new(alloc)),
-        bound: Listed::from_vec(Vec::new(alloc)),
-        unbound: Listed::from_vec(Vec::new(alloc)),
-        added: Listed::from_vec(Vec::new(alloc)),
-        dropped: Listed::from_vec(Vec::new(alloc)),
-        requeued: Listed::from_vec(Vec::new(alloc)),
+/// Adds what each image of the first file is at each moment.
+fn add_images(alloc: Global, home: &OpenHome, seen: &mut Seen) -> Option<()> {
+    for moment in 0..=home.calls() {
+        for (zero, _) in &home.images_at(alloc, moment)? {
+            seen.add(found_in(alloc, zero)?)?;
+        }
     }
-}
-
-// The payload of the commit of this number: the first makes the worked world, and the others change nothing.
-fn commit(alloc: Global, seq: u64) -> Option<Blob> {
-    if seq == 1 {
-        return Some(Blob::from_vec(payload(alloc).ok()?));
-    }
-    let entry = Entry {
-        seq,
-        run: RunNo(seq.saturating_sub(1)),
-        effects: nothing(alloc),
-    };
-    let entries = [entry];
-    encode_entries(alloc, &entries).ok()
-}
-
-/// The world after so many commits.
-pub fn world_after(alloc: Global, commits: u64) -> Option<Durable> {
-    if commits == 0 {
-        return Some(Durable {
-            commits: 0,
-            last: None,
-            objects: Listed::from_vec(Vec::new(alloc)),
-            names: Listed::from_vec(Vec::new(alloc)),
-            tasks: Listed::from_vec(Vec::new(alloc)),
-        });
-    }
-    let bytes = Blob::from_vec(image(alloc).ok()?);
-    let mut durable = decode_image(alloc, &bytes, 2).ok()?;
-    durable.commits = commits;
-    durable.last = Some(RunNo(commits - 1));
-    Some(durable)
-}
-
-// The game whose store it is.
-fn worked_game() -> Option<GameId> {
-    GameId::new(b"sword-world").ok()
-}
-
-// The world that these files hold, if they hold one; no store yet has the empty world.
-fn world_in(alloc: Global, zero: Vec<u8>, one: Vec<u8>) -> Option<Durable> {
-    let inner = MemoryHome::new(alloc, zero, one, Vec::new(alloc), false);
-    let mut home = QuietHome { inner };
-    home.open("").ok()?;
-    let found = recover(alloc, &mut home, &worked_game()?).ok()?;
-    Some(found.durable)
-}
-
-// The store of a home, made where there is none yet.
-fn opened(alloc: Global, home: &mut QuietHome, game: &GameId) -> Option<Store>
-    requires { IsOpen home.old.inner.opening }
-    ensures { home.new.inner.opening ≡ home.old.inner.opening }
-{
-    let found = recover(alloc, home, game).ok()?;
-    let journal = match found.store {
-        Some(journal) => journal,
-        None => create(alloc, home, found.side, game, 0).ok()?,
-    };
-    Some(Store {
-        journal,
-        side: found.side,
-        commits: found.durable.commits,
-        marks: Vec::new(alloc),
-    })
-}
-
-// Puts the next commit behind the others.
-fn put_commit(alloc: Global, home: &mut QuietHome, store: &mut Store) -> Option<()>
-    requires { IsOpen home.old.inner.opening }
-    ensures { home.new.inner.opening ≡ home.old.inner.opening }
-{
-    let seq = store.commits.saturating_add(1);
-    let payload = commit(alloc, seq)?;
-    if payload.as_slice().len() > 4096 || store.journal.format() != 2 {
-        return None;
-    }
-    store.journal.append(home, &payload).ok()?;
-    store.commits = seq;
-    store.marks.push(home.inner.calls()).ok()
-}
-
-// Writes the store anew.
-fn put_checkpoint(
-    alloc: Global,
-    home: &mut QuietHome,
-    game: &GameId,
-    store: &mut Store,
-) -> Option<()>
-    requires { IsOpen home.old.inner.opening }
-    ensures { home.new.inner.opening ≡ home.old.inner.opening }
-{
-    let world = world_after(alloc, store.commits)?;
-    let (journal, side) = checkpoint(alloc, home, game, &world, &store.journal, store.side).ok()?;
-    store.journal = journal;
-    store.side = side;
     Some(())
 }
 
-// Does the steps, until one fails.
-fn run(alloc: Global, home: &mut QuietHome, game: &GameId, store: &mut Store, steps: &[Step])
-    requires { IsOpen home.old.inner.opening }
-{
-    'steps: for step in steps.iter() {
-        let done = match step {
-            Step::Commit => put_commit(alloc, home, store),
-            Step::Checkpoint => put_checkpoint(alloc, home, game, store),
-        };
-        if done.is_none() {
-            return;
-        }
+/// `images GAME START PAYLOADS STEPS`: what the images of the first file are as files, with no call of the steps failing and with each.
+pub fn images(alloc: Global, pieces: &Pieces, call: &mut Words<'_>) -> Option<String> {
+    let steps = call.rest();
+    let calls = Played::of(alloc, pieces, call, 0)?.home.calls();
+    let mut seen = Seen::new(alloc);
+    for failing in 0..=calls {
+        let played = Played::of(alloc, pieces, &mut Words::of(steps), failing)?;
+        add_images(alloc, &played.home, &mut seen)?;
     }
+    seen.told(alloc)
 }
 
-/// A home whose first file held these bytes, after the steps, unless a call failed.
-pub fn play(
-    alloc: Global,
-    start: &[u8],
-    steps: &[Step],
-    failing: u64,
-) -> Result<Option<Played>, AllocError> {
-    let zero = Vec::from_slice(alloc, start)?;
-    let failing = vec![in alloc; failing]?;
-    let mut inner = MemoryHome::new(alloc, zero, Vec::new(alloc), failing, false);
-    let _ = inner.reserve(128, 8192);
-    let mut home = QuietHome { inner };
-    let Some(game) = worked_game() else {
-        return Ok(None);
-    };
-    if home.open("").is_err() {
-        return Ok(None);
-    }
-    let mut marks = Vec::new(alloc);
-    if let Some(mut store) = opened(alloc, &mut home, &game) {
-        run(alloc, &mut home, &game, &mut store, steps);
-        marks = store.marks;
-    }
-    Ok(Some(Played { home, marks }))
+/// How many commits these files hold, and the image of their world, if they hold one; no store yet has the empty world.
+fn world_in(alloc: Global, game: &GameId, zero: &[u8], one: &[u8]) -> Option<(u64, Vec<u8>)> {
+    let mut home = OpenHome::of(alloc, zero, one, 0)?;
+    let found = recover(alloc, &mut home, game).ok()?;
+    let image = encode_image(alloc, &found.durable).ok()?;
+    Some((found.durable.commits, image.into_vec()))
 }
 
-// How many commits were acknowledged by this moment, after those from before.
-fn acknowledged(played: &Played, before: u64, moment: u64) -> u64 {
-    let count = played.marks.iter().filter(|mark| **mark <= moment).count();
-    before.saturating_add(count as u64)
-}
-
-// The least number of commits that an image at this moment has, if each has the world of the acknowledged commits or of
-// one more.
-fn held(alloc: Global, played: &Played, before: u64, moment: u64) -> Option<u64> {
-    let known = acknowledged(played, before, moment);
+/// The least number of commits that an image at this moment has, if each has the world of the known commits or of one more.
+fn held(alloc: Global, pieces: &Pieces, played: &Played, known: u64, moment: u64) -> Option<u64> {
     let mut least = u64::MAX;
-    for torn in [Torn::Old, Torn::New, Torn::Zeros, Torn::Ones] {
-        let (zero, one) = played.home.inner.crash_at(moment, torn).ok()?;
-        let world = world_in(alloc, zero, one)?;
-        let commits = world.commits;
-        if commits < known || commits > known.saturating_add(1) {
-            return None;
-        }
-        if world != world_after(alloc, commits)? {
+    for (zero, one) in &played.home.images_at(alloc, moment)? {
+        let (commits, world) = world_in(alloc, &played.game, zero, one)?;
+        let is_either = commits == known || commits == known.saturating_add(1);
+        if !is_either || world != pieces.numbered(alloc, "image", commits)? {
             return None;
         }
         least = least.min(commits);
@@ -211,15 +67,61 @@ fn held(alloc: Global, played: &Played, before: u64, moment: u64) -> Option<u64>
     Some(least)
 }
 
-/// Whether each image from this moment on has the world of the commits that were acknowledged by then, or of one more,
-/// and what all images have does not fall.
-pub fn is_kept(alloc: Global, played: &Played, before: u64, from: u64) -> bool {
+/// How many commits were acknowledged by this moment.
+fn acknowledged(played: &Played, moment: u64) -> u64 {
+    let mut count = 0u64;
+    for mark in &played.marks {
+        if *mark <= moment {
+            count = count.saturating_add(1);
+        }
+    }
+    count
+}
+
+/// Whether each image from this moment on has the world of the commits that were acknowledged by then, or of one more, and what all
+/// images have does not fall. `before` were acknowledged before the first moment.
+fn is_kept(alloc: Global, pieces: &Pieces, played: &Played, before: u64, from: u64) -> bool {
     let mut least = before;
-    for moment in from..=played.home.inner.calls() {
-        match held(alloc, played, before, moment) {
-            Some(n) if n >= least => least = n,
+    for moment in from..=played.home.calls() {
+        let known = before.saturating_add(acknowledged(played, moment));
+        match held(alloc, pieces, played, known, moment) {
+            Some(commits) if commits >= least => least = commits,
             _ => return false,
         }
     }
     true
+}
+
+/// `stops GAME START PAYLOADS STEPS BEFORE`: how many commits are acknowledged where no call fails; and with how many failing calls, or
+/// none, an image after some call lacks what is acknowledged, or has more than one commit more.
+pub fn stops(alloc: Global, pieces: &Pieces, call: &mut Words<'_>) -> Option<String> {
+    let steps = call.rest();
+    let whole = Played::of(alloc, pieces, call, 0)?;
+    let before = call.number()?;
+    let mut lost = 0u64;
+    for failing in 0..=whole.home.calls() {
+        let played = Played::of(alloc, pieces, &mut Words::of(steps), failing)?;
+        if !is_kept(alloc, pieces, &played, before, failing.saturating_sub(1)) {
+            lost = lost.saturating_add(1);
+        }
+    }
+    format!(in alloc; "{} commits, lost by {lost}", whole.marks.len()).ok()
+}
+
+/// `epoch EPOCH`: what writing an empty store of this epoch anew answers, and how many calls it makes.
+pub fn epoch(alloc: Global, pieces: &Pieces, call: &mut Words<'_>) -> Option<String> {
+    let game = GameId::new(b"g").ok()?;
+    let world = world_after(alloc, pieces, 0)?;
+    let epoch = call.number()?;
+    if epoch >= 1 << 62 {
+        return None;
+    }
+    let journal = Journal::standing(Side::Zero, epoch, 65);
+    let mut home = OpenHome::of(alloc, b"", b"", 0)?;
+    let outcome = checkpoint(alloc, &mut home, &game, &world, &journal, Side::Zero);
+    let calls = home.calls();
+    match outcome {
+        Ok(_) => format!(in alloc; "written by {calls} calls").ok(),
+        Err(refused) => format!(in alloc; "{refused}, {calls} calls").ok(),
+    }
 }
