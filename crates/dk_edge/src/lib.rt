@@ -6,6 +6,7 @@
 #![tactic(auto)]
 
 pub use activity::Activity;
+pub use bells::{BELLS_COUNT, Bells};
 pub use clock::Clock;
 pub use crew::Crew;
 pub use fixed_clock::FixedClock;
@@ -26,6 +27,7 @@ pub use tcp_listen::{TcpListen, TcpSink, TcpSource};
 pub use thread_spawner::ThreadSpawner;
 
 pub mod activity;
+pub mod bells;
 pub mod clock;
 pub mod crew;
 pub mod fixed_clock;

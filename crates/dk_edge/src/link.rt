@@ -5,7 +5,7 @@ ghost use Rattle.futures.specs.Task.{IsArmed, Keeps};
 ghost use Rattle.dk_types.specs.Faults.{COUNT_END};
 ghost use Rattle.dk_edge.specs.Links.{PollTakes, PollPuts, Counts};
 
-use dk_types::Failed;
+use dk_types::{ConnNo, Failed};
 use futures::task::{Context, Poll};
 
 /// A link to a peer. A poll that is pending has registered with the link, or has asked for another poll.
@@ -50,6 +50,11 @@ pub trait Link {
         ensures take_count { take_counted self.new ≡ take_counted self.old }
         ensures armed { OnPending result (IsArmed context.new) }
         ensures kept { Keeps context.old context.new };
+
+    /// The link is of this connection from now on. Who has something for the connection may wake who waits for the link.
+    fn belong_to(&mut self, conn: ConnNo)
+        ensures take { (remaining self.new ≡ remaining self.old) × (take_counted self.new ≡ take_counted self.old) }
+        ensures put { (contents self.new ≡ contents self.old) × (put_counted self.new ≡ put_counted self.old) };
 
     /// How often taking has failed.
     fn take_faults(&self) -> u64

@@ -12,7 +12,7 @@ use crate::memory_sink::MemorySink;
 use crate::memory_source::MemorySource;
 use crate::sink::Sink;
 use crate::source::Source;
-use dk_types::Failed;
+use dk_types::{ConnNo, Failed};
 use futures::task::{Context, Poll};
 
 /// Takes from a source in memory and puts to a sink in memory, which say at which calls they fail. It puts at most
@@ -104,6 +104,7 @@ impl Link for MemoryLink {
 
         // What it does beyond what each link does.
         ensures waits { OnPending result ((self.old.waits ≡ true) × (self.old.take_is_due ≡ false) × (self.new.take_is_due ≡ true)) }
+        ensures due { IfReady result (λ _. ((self.old.waits ≡ false) ⊎ (self.old.take_is_due ≡ true)) × (self.new.take_is_due ≡ false)) }
         ensures fails { IfReady result (λ r. IsErr r ↔ IsTrue (fails_next self.old.source.plan)) }
         ensures amount { IfReady result (λ r. IfOk r (λ n. n ≡ given_count self.old.source (length into.old))) }
         ensures same { (self.new.waits ≡ self.old.waits) × (self.new.piece ≡ self.old.piece) × (self.new.sink ≡ self.old.sink) × (self.new.put_is_due ≡ self.old.put_is_due) }
@@ -127,6 +128,7 @@ impl Link for MemoryLink {
 
         // What it does beyond what each link does.
         ensures waits { OnPending result ((self.old.waits ≡ true) × (self.old.put_is_due ≡ false) × (self.new.put_is_due ≡ true)) }
+        ensures due { IfReady result (λ _. ((self.old.waits ≡ false) ⊎ (self.old.put_is_due ≡ true)) × (self.new.put_is_due ≡ false)) }
         ensures fails { IfReady result (λ r. IsTrue (fails_next self.old.sink.plan) → IsErr r) }
         ensures refused { IfReady result (λ r. OnErr r (IsTrue (fails_next self.old.sink.plan) ⊎ (self.old.sink.room < min (length bytes.now) self.old.piece))) }
         ensures amount { IfReady result (λ r. IfOk r (λ n. n ≡ min (length bytes.now) self.old.piece)) }
@@ -143,6 +145,14 @@ impl Link for MemoryLink {
             Err(failed) => Poll::Ready(Err(failed)),
         }
     }
+
+    fn belong_to(&mut self, _conn: ConnNo)
+        ensures take { (Some self.new.source.left ≡ Some self.old.source.left) × (self.new.source.plan.faults ≡ self.old.source.plan.faults) }
+        ensures put { (Some self.new.sink.contents ≡ Some self.old.sink.contents) × (self.new.sink.plan.faults ≡ self.old.sink.plan.faults) }
+
+        // What it does beyond what each link does.
+        ensures same { self.new ≡ self.old }
+    {}
 
     fn take_faults(&self) -> u64 {
         self.source.faults()

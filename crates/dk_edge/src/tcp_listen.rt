@@ -1,16 +1,18 @@
 //! A listener of the system.
-ghost use Rattle.std.specs.Prelude.{◌≡◌, ◌≤◌, false};
+ghost use Rattle.std.specs.Prelude.{◌≡◌, ◌≤◌, false, IfOk};
 ghost use Rattle.dk_types.specs.declared.limits.TheConstants.{NUMBERS_END};
 ghost use Rattle.dk_edge.specs.Listening.{listening_at};
 
+use crate::bells::Bells;
 use crate::listener::{Binding, Listener};
 use crate::std_streams::{StdSink, StdSource};
-use crate::tcp_link::{TcpLink, WAIT_MS};
+use crate::tcp_link::TcpLink;
 use dk_types::limits::NUMBERS_END;
 use dk_types::{Failed, FaultCount};
+use std::alloc::Global;
 use std::io;
 use std::net::{Ipv4Addr, Net, OpenListener, OpenStream, TcpListener};
-use std::time::Duration;
+use std::sync::{Arc, Wait};
 
 /// A source over one handle of a connection.
 pub type TcpSource<S> = StdSource<S>;
@@ -18,10 +20,12 @@ pub type TcpSource<S> = StdSource<S>;
 /// A sink over another handle of it.
 pub type TcpSink<S> = StdSink<S>;
 
-/// Listens at a port of 127.0.0.1. It gives links for as long as they come, up to 2^62 of them.
+/// Listens at a port of 127.0.0.1. It gives links for as long as they come, up to 2^62 of them. Each link has a bell.
 #[derive(Drop)]
-pub struct TcpListen<'a, R: Net> {
+pub struct TcpListen<'a, R: Net + Wait> {
     rt: &'a R,
+    alloc: Global,
+    bells: Arc<Bells>,
     listener: Option<R::Listener>,
     binding: Binding,
     given: u64,
@@ -30,9 +34,9 @@ pub struct TcpListen<'a, R: Net> {
     ghost few: { given ≤ NUMBERS_END },
 }
 
-impl<'a, R: Net> TcpListen<'a, R> {
+impl<'a, R: Net + Wait> TcpListen<'a, R> {
     /// A listener of this runtime's system, which does not listen yet.
-    pub fn new(rt: &'a R) -> TcpListen<'a, R>
+    pub fn new(rt: &'a R, alloc: Global, bells: Arc<Bells>) -> TcpListen<'a, R>
         ensures binding { result.binding ≡ Binding.NotCalled }
         ensures given { result.given ≡ 0 }
         ensures ended { result.ended ≡ false }
@@ -40,6 +44,8 @@ impl<'a, R: Net> TcpListen<'a, R> {
     {
         TcpListen {
             rt,
+            alloc,
+            bells,
             listener: None,
             binding: Binding::NotCalled,
             given: 0,
@@ -63,17 +69,19 @@ impl<'a, R: Net> TcpListen<'a, R> {
         Ok((stream, other))
     }
 
-    // The next connection, set not to block, nor to gather what is put; a read that waits does so for a little.
-    fn next_whole(&self) -> io::Result<R::Stream> {
+    // The next connection, set not to block, nor to gather what is put.
+    fn next_whole(&self) -> io::Result<TcpLink<R::Stream>>
+        ensures fresh { IfOk result (λ link. (link.take_faults.count ≡ 0) × (link.put_faults.count ≡ 0)) }
+    {
         let stream = self.next()?;
         stream.set_nodelay(true)?;
-        stream.set_read_timeout(Some(Duration::from_millis(WAIT_MS)))?;
         stream.set_nonblocking(true)?;
-        Ok(stream)
+        let bells = Arc::try_clone(&self.bells)?;
+        TcpLink::new(self.rt, self.alloc, bells, stream)
     }
 }
 
-impl<'a, R: Net> Listener for TcpListen<'a, R> {
+impl<'a, R: Net + Wait> Listener for TcpListen<'a, R> {
     type In = TcpSource<R::Stream>;
 
     type Out = TcpSink<R::Stream>;
@@ -117,12 +125,12 @@ impl<'a, R: Net> Listener for TcpListen<'a, R> {
             self.ended = true;
             return Ok(None);
         }
-        let Ok(stream) = self.next_whole() else {
+        let Ok(link) = self.next_whole() else {
             self.faults.rise();
             return Err(Failed);
         };
         self.given += 1;
-        Ok(Some(TcpLink::new(stream)))
+        Ok(Some(link))
     }
 
     fn faults(&self) -> u64 {

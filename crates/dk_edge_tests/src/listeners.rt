@@ -1,7 +1,7 @@
 //! Listeners.
 
 use crate::links::{put, take};
-use dk_edge::{Listener, MemoryListener, Peer, Sink, Source, TcpListen};
+use dk_edge::{Bells, Link, Listener, MemoryListener, Peer, Sink, Source, TcpListen};
 use std::alloc::Global;
 use std::io::{Read, Write};
 use std::net::{Ipv4Addr, TcpStream};
@@ -54,9 +54,13 @@ const PAIR_PORT: u16 = 47_811;
 
 const LINK_PORT: u16 = 47_812;
 
+fn bells(alloc: Global) -> Result<Arc<Bells>, Fail> {
+    Ok(Arc::new(alloc, Bells::new(alloc)?)?)
+}
+
 #[test]
 fn a_listener_of_the_system_gives_both_directions(rt: HostRuntime) -> Result<(), Fail> {
-    let mut listener = TcpListen::new(&rt);
+    let mut listener = TcpListen::new(&rt, rt.alloc(), bells(rt.alloc())?);
     listener.bind(PAIR_PORT)?;
     let mut client = TcpStream::connect(&rt, (Ipv4Addr::LOCALHOST, PAIR_PORT))?;
     client.write_all(b"look")?;
@@ -73,7 +77,7 @@ fn a_listener_of_the_system_gives_both_directions(rt: HostRuntime) -> Result<(),
 
 #[test]
 fn a_link_of_the_system_waits_for_its_peer(rt: HostRuntime) -> Result<(), Fail> {
-    let mut listener = TcpListen::new(&rt);
+    let mut listener = TcpListen::new(&rt, rt.alloc(), bells(rt.alloc())?);
     listener.bind(LINK_PORT)?;
     let mut client = TcpStream::connect(&rt, (Ipv4Addr::LOCALHOST, LINK_PORT))?;
     let mut link = listener.accept_link()?.ok_or("a link")?;

@@ -165,6 +165,7 @@ impl<W: Hosting, J: Naming, K: Link + Drop> Session<W, J, K> {
             Ok(conn) => {
                 self.course.conn = Some(conn);
                 self.post(rt, host, conn, frames);
+                self.link.belong_to(conn);
             }
             Err(refused) => self.end_reading(rt, host, SessionEnd::from(refused)),
         }

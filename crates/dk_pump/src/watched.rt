@@ -7,7 +7,7 @@ ghost use Rattle.dk_edge.specs.Links.{Counts, PollPuts, PollTakes};
 ghost use Rattle.dk_pump.specs.Sessions.{CountsWaits, KeepsPut, KeepsTake};
 
 use dk_edge::Link;
-use dk_types::Failed;
+use dk_types::{ConnNo, Failed};
 use futures::task::{Context, Poll};
 use std::marker::Model;
 
@@ -58,6 +58,13 @@ impl<K: Link + Drop> Watched<K> {
             put_waits: _,
         } = self;
         link
+    }
+
+    /// As the link's.
+    pub(crate) fn belong_to(&mut self, conn: ConnNo)
+        ensures { self.new ≡ self.old }
+    {
+        self.link.belong_to(conn);
     }
 
     /// As the link's poll.

@@ -11,6 +11,7 @@
 
 mod gate;
 mod play;
+mod recipients;
 mod row;
 mod running;
 mod serving;
@@ -21,6 +22,7 @@ mod worker;
 
 pub use gate::{Gate, OpenGate};
 pub use play::{PlayFault, Played, drain, play_store};
+pub use recipients::{RECIPIENTS_MOST_COUNT, Recipients};
 pub use running::run_claimed;
 pub use serving::serve_jobs;
 pub use team::work_all;

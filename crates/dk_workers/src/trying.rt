@@ -7,6 +7,7 @@ ghost use Rattle.dk_workers.specs.Refused.{WasRefused, end_by};
 ghost use Rattle.dk_workers.specs.Tries.{EndsRefused, EndsTry};
 
 use crate::gate::Gate;
+use crate::recipients::Recipients;
 use crate::running::run_claimed;
 use crate::worked::Worked;
 use dk_core::Claimed;
@@ -48,10 +49,11 @@ pub(crate) fn try_run<G: Game, W: Hosting, J: Naming, M: Home, T: Gate, R: Wait>
         return Tried::GivenUp(Worked::NoMemory);
     };
     let run = claimed.run();
+    let recipients = Recipients::of(finished.outs());
     gate.before_commit(worker, run);
     match host.commit(rt, pass, claimed, finished) {
         Ok(_) => {
-            gate.after_commit(worker, run);
+            gate.after_commit(worker, run, &recipients);
             Tried::Committed
         }
         Err(refused) => after_refusal(rt, host, pass, refused),

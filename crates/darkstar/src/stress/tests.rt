@@ -4,7 +4,7 @@ use super::stress;
 use dk_edge::MemorySink;
 use dk_status::Status;
 use dk_types::RunNo;
-use dk_workers::{Gate, OpenGate};
+use dk_workers::{Gate, OpenGate, Recipients};
 use std::alloc::{AllocError, Global};
 use std::sync::atomic::{AtomicU64, Ordering};
 use std::test::Fail;
@@ -22,7 +22,7 @@ struct CountingGate {
 impl Gate for CountingGate {
     fn before_commit(&self, _worker: u32, _run: RunNo) {}
 
-    fn after_commit(&self, _worker: u32, run: RunNo) {
+    fn after_commit(&self, _worker: u32, run: RunNo, _recipients: &Recipients) {
         self.commits.fetch_add(1, Ordering::SeqCst);
         if run.0 < 64 {
             self.runs.fetch_or(1 << run.0, Ordering::SeqCst);

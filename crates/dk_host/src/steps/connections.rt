@@ -150,4 +150,9 @@ impl<W: Hosting> Step<WorldBook<W>> for Hand {
             );
         reply
     }
+
+    // A hand makes nothing runnable that another pass may wait for.
+    fn wakes(_reply: &Result<Handed, NoMemory>) -> bool {
+        false
+    }
 }

@@ -28,9 +28,10 @@ returns-in-Ok-clause-goes g c =
     let rest = map frame_of c.remove.new.self.items in
     let name = c.in-Login.name in
     let last = c.post.new.self in
-    subst (λ (fs : List Frame). GoesOn g.W.Hosting.opened g.W.Hosting.keeps g.J.Naming.name.passes s.pass s.link s.course fs last.pass last.link last.course [])
+    subst (λ l. GoesOn g.W.Hosting.opened g.W.Hosting.keeps g.J.Naming.name.passes s.pass s.link s.course (map frame_of c.args.frames.items) last.pass l last.course []) (sym c.belong_to.ensures)
+    (subst (λ (fs : List Frame). GoesOn g.W.Hosting.opened g.W.Hosting.keeps g.J.Naming.name.passes s.pass s.link s.course fs last.pass last.link last.course [])
     (sym (first_is c.args.frames.items c.remove.result name c.remove.new.self.items c.requires.some c.remove.ensures.value c.remove.ensures.items c.in-Login.is))
-    (λ began given session. c.post.ensures.goes began given (connects g.W.Hosting.opened g.W.Hosting.keeps g.J.Naming.name.passes s.pass c.connect.new.pass s.link s.course c.in-Ok.conn name rest c.requires.new c.requires.reads c.in-Ok.ensures.number c.in-Ok.ensures.entered c.in-Ok.ensures.named began given session))
+    (λ began given session. c.post.ensures.goes began given (connects g.W.Hosting.opened g.W.Hosting.keeps g.J.Naming.name.passes s.pass c.connect.new.pass s.link s.course c.in-Ok.conn name rest c.requires.new c.requires.reads c.in-Ok.ensures.number c.in-Ok.ensures.entered c.in-Ok.ensures.named began given session)))
 
 pub returns-in-Err-clause-goes : goal.returns-in-Err-clause-goes
 returns-in-Err-clause-goes g c =

@@ -1,0 +1,129 @@
+//! Bells: whoever has something for a connection wakes the thread that waits for its link.
+//!
+//! A thread that polls a link over a socket sleeps until the socket is ready. What comes for its session from elsewhere, a
+//! message that another session's task sent, would find it asleep. So each such link hangs a bell, and whoever committed a
+//! message for its connection rings it. A bell that is rung too often costs a poll, and one that is not rung is made up for
+//! by the next poll; so no contract speaks of them.
+
+use dk_types::ConnNo;
+use mio::Waker;
+use std::alloc::{AllocError, Global};
+use std::sync::atomic::{AtomicU64, Ordering};
+use std::sync::{Arc, Mutex, Wait};
+
+/// How many bells there are, and so for how many links at one time one can be hung.
+pub const BELLS_COUNT: usize = 256;
+
+// What stands for the connection of a bell that no link has, and of one whose link has no connection yet. Connections have
+// numbers below 2^62.
+const FREE: u64 = u64::MAX;
+
+const UNNAMED: u64 = u64::MAX - 1;
+
+// Of which connection a bell is, and what wakes its thread.
+#[derive(Drop)]
+struct Bell {
+    conn: AtomicU64,
+    waker: Mutex<Option<Waker>>,
+}
+
+impl Bell {
+    // Wakes who waits for the link.
+    fn ring<R: Wait>(&self, rt: &R) {
+        if let Some(waker) = &*self.waker.lock(rt) {
+            // One that the system refuses is made up for by the next poll.
+            let _ = waker.wake();
+        }
+    }
+
+    // Takes it, if no link has it.
+    fn take(&self) -> bool {
+        self.conn
+            .compare_exchange(FREE, UNNAMED, Ordering::SeqCst, Ordering::SeqCst)
+            .is_ok()
+    }
+}
+
+/// The bells of a server.
+#[derive(Drop)]
+pub struct Bells {
+    bells: Vec<Bell>,
+    // How many of them links have.
+    hung: AtomicU64,
+}
+
+impl Bells {
+    /// Bells that no link has.
+    pub fn new(alloc: Global) -> Result<Bells, AllocError> {
+        let mut bells = Vec::new(alloc);
+        for _bell in 0..BELLS_COUNT {
+            bells.push(Bell {
+                conn: AtomicU64::new(FREE),
+                waker: Mutex::new(None),
+            })?;
+        }
+        Ok(Bells {
+            bells,
+            hung: AtomicU64::new(0),
+        })
+    }
+
+    /// Wakes who waits for the links of these connections.
+    pub fn ring<R: Wait>(&self, rt: &R, conns: &[ConnNo]) {
+        if conns.is_empty() {
+            return;
+        }
+        for bell in &self.bells {
+            if conns.contains(&ConnNo(bell.conn.load(Ordering::SeqCst))) {
+                bell.ring(rt);
+            }
+        }
+    }
+
+    /// Wakes who waits for any link.
+    pub fn ring_all<R: Wait>(&self, rt: &R) {
+        for bell in &self.bells {
+            if bell.conn.load(Ordering::SeqCst) < UNNAMED {
+                bell.ring(rt);
+            }
+        }
+    }
+}
+
+/// A bell of a link, which nobody has once it is dropped.
+pub(crate) struct HungBell {
+    bells: Arc<Bells>,
+    at: usize,
+}
+
+impl HungBell {
+    // A bell that wakes by this waker, if there is one that no link has.
+    pub(crate) fn hang<R: Wait>(rt: &R, bells: Arc<Bells>, waker: Waker) -> Option<HungBell> {
+        let at = bells.bells.iter().position(Bell::take)?;
+        *bells.bells.get(at)?.waker.lock(rt) = Some(waker);
+        bells.hung.fetch_add(1, Ordering::SeqCst);
+        Some(HungBell { bells, at })
+    }
+
+    // How many links have a bell, this one among them.
+    pub(crate) fn count(&self) -> u64 {
+        self.bells.hung.load(Ordering::SeqCst)
+    }
+
+    // From now on it is of this connection.
+    pub(crate) fn name(&self, conn: ConnNo) {
+        if let Some(bell) = self.bells.bells.get(self.at) {
+            bell.conn.store(conn.0, Ordering::SeqCst);
+        }
+    }
+}
+
+impl Drop for HungBell {
+    fn drop(self) {
+        let HungBell { bells, at } = self;
+        bells.hung.fetch_sub(1, Ordering::SeqCst);
+        if let Some(bell) = bells.bells.get(at) {
+            bell.conn.store(FREE, Ordering::SeqCst);
+        }
+    }
+}
