@@ -4,10 +4,10 @@ use Rattle.dk_command.specs.declared.command.Command.{Command}
 use Rattle.dk_command.specs.declared.parse.CommandRefused.{CommandRefused}
 use Rattle.dk_command.specs.declared.parse.CommandRefused.TheVariants.{Usage, NoMemory}
 use Rattle.dk_command.specs.Commands.{IsCommandLine, IsCommandOf}
-use Rattle.dk_command.specs.Requests.{AreFew, Asks, Playing, Plays, Report, Reports, Request, Stresses, Stressing, request_of}
-use Rattle.darkstar.specs.Asked.{IsAsked}
+use Rattle.dk_command.specs.Requests.{AreFew, Asks, Playing, Plays, Report, Reports, Request, Serves, Serving, Stresses, Stressing, request_of}
 use Rattle.darkstar.specs.Reports.{ForReport}
 use Rattle.darkstar.specs.Runs.{ForPlay}
+use Rattle.darkstar.specs.Serves.{ForServe}
 use Rattle.darkstar.specs.StressText.{ForStress}
 use Rattle.dk_command.specs.declared.command.Command.TheVariants as command
 use Rattle.dk_types.specs.declared.limits.TheConstants.{TASKS_MOST_COUNT}
@@ -25,29 +25,17 @@ for_report words mine command one is P has report asks = let e : Reports mine �
 pub for_play : (words : List (List ℕ)) (mine : Playing) (command : Command) → ((request : Request) → Asks words request → request_of command ≡ request) → request_of command ≡ Plays mine → (P : Playing → Type 0) → P mine → ForPlay words P
 for_play words mine command one is P has play asks = let e : Plays mine ≡ Plays play = sym is ∙ one (Plays play) asks in let same : mine ≡ play = cc in subst P same has
 
--- words that ask for a play ask for no report, and the other way round
-pub play_alone : (words : List (List ℕ)) (mine : Playing) (command : Command) → ((request : Request) → Asks words request → request_of command ≡ request) → request_of command ≡ Plays mine → (report : Report) → Asks words (Reports report) → ⊥
-play_alone words mine command one is report asks = let e : Plays mine ≡ Reports report = sym is ∙ one (Reports report) asks in cc
-
-pub report_alone : (words : List (List ℕ)) (mine : Report) (command : Command) → ((request : Request) → Asks words request → request_of command ≡ request) → request_of command ≡ Reports mine → (play : Playing) → Asks words (Plays play) → ⊥
-report_alone words mine command one is play asks = let e : Reports mine ≡ Plays play = sym is ∙ one (Plays play) asks in cc
-
 -- the one `stress` that the words ask for
 pub for_stress : (words : List (List ℕ)) (mine : Stressing) (command : Command) → ((request : Request) → Asks words request → request_of command ≡ request) → request_of command ≡ Stresses mine → (P : Stressing → Type 0) → P mine → ForStress words P
 for_stress words mine command one is P has stress asks = let e : Stresses mine ≡ Stresses stress = sym is ∙ one (Stresses stress) asks in let same : mine ≡ stress = cc in subst P same has
 
--- words that ask for a play or a report ask for no `stress`, and the other way round
-pub play_no_stress : (words : List (List ℕ)) (mine : Playing) (command : Command) → ((request : Request) → Asks words request → request_of command ≡ request) → request_of command ≡ Plays mine → (stress : Stressing) → Asks words (Stresses stress) → ⊥
-play_no_stress words mine command one is stress asks = let e : Plays mine ≡ Stresses stress = sym is ∙ one (Stresses stress) asks in cc
+-- the one server that the words ask for
+pub for_serve : (words : List (List ℕ)) (mine : Serving) (command : Command) → ((request : Request) → Asks words request → request_of command ≡ request) → request_of command ≡ Serves mine → (P : Serving → Type 0) → P mine → ForServe words P
+for_serve words mine command one is P has serve asks = let e : Serves mine ≡ Serves serve = sym is ∙ one (Serves serve) asks in let same : mine ≡ serve = cc in subst P same has
 
-pub report_no_stress : (words : List (List ℕ)) (mine : Report) (command : Command) → ((request : Request) → Asks words request → request_of command ≡ request) → request_of command ≡ Reports mine → (stress : Stressing) → Asks words (Stresses stress) → ⊥
-report_no_stress words mine command one is stress asks = let e : Reports mine ≡ Stresses stress = sym is ∙ one (Stresses stress) asks in cc
-
-pub stress_no_play : (words : List (List ℕ)) (mine : Stressing) (command : Command) → ((request : Request) → Asks words request → request_of command ≡ request) → request_of command ≡ Stresses mine → (play : Playing) → Asks words (Plays play) → ⊥
-stress_no_play words mine command one is play asks = let e : Stresses mine ≡ Plays play = sym is ∙ one (Plays play) asks in cc
-
-pub stress_no_report : (words : List (List ℕ)) (mine : Stressing) (command : Command) → ((request : Request) → Asks words request → request_of command ≡ request) → request_of command ≡ Stresses mine → (report : Report) → Asks words (Reports report) → ⊥
-stress_no_report words mine command one is report asks = let e : Stresses mine ≡ Reports report = sym is ∙ one (Reports report) asks in cc
+-- words ask for one thing: where it is this, they ask for no play that is another, and so on
+pub ask_once : (words : List (List ℕ)) (mine other : Request) (command : Command) → ((request : Request) → Asks words request → request_of command ≡ request) → request_of command ≡ mine → Asks words other → mine ≡ other
+ask_once words mine other command one is asks = sym is ∙ one other asks
 
 -- a `stress` asks for few tasks
 pub few_of : (given : Command) (mine : Stressing) → AreFew given → request_of given ≡ Stresses mine → mine.tasks ≤ TASKS_MOST_COUNT
@@ -62,18 +50,8 @@ few_of (command.Stress seed tasks workers) mine few is =
     subst (λ (s : Stressing). s.tasks ≤ TASKS_MOST_COUNT) same few
 
 -- words that are no command line ask for nothing
-pub no_play : (words : List (List ℕ)) → ¬ IsCommandLine words → (play : Playing) → Asks words (Plays play) → ⊥
-no_play words outside play asks = outside (asks_line words (Plays play) asks)
-
-pub no_report : (words : List (List ℕ)) → ¬ IsCommandLine words → (report : Report) → Asks words (Reports report) → ⊥
-no_report words outside report asks = outside (asks_line words (Reports report) asks)
-
-pub no_stress : (words : List (List ℕ)) → ¬ IsCommandLine words → (stress : Stressing) → Asks words (Stresses stress) → ⊥
-no_stress words outside stress asks = outside (asks_line words (Stresses stress) asks)
-
-pub not_asked : (words : List (List ℕ)) → ((play : Playing) → Asks words (Plays play) → ⊥) → ((report : Report) → Asks words (Reports report) → ⊥)
-    → ((stress : Stressing) → Asks words (Stresses stress) → ⊥) → IsAsked words → ⊥
-not_asked words play report stress is = ⊎_elim (λ asks. play asks.0 asks.1) (λ other. ⊎_elim (λ asks. report asks.0 asks.1) (λ asks. stress asks.0 asks.1) other) is
+pub no_request : (words : List (List ℕ)) → ¬ IsCommandLine words → (request : Request) → Asks words request → ⊥
+no_request words outside request asks = outside (asks_line words request asks)
 
 -- words that were refused as no command
 pub refused_line : (words : List (List ℕ)) (e : CommandRefused) → e ≡ Usage

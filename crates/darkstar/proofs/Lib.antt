@@ -12,3 +12,5 @@ pub mod PlayAfter
 pub mod Resting
 pub mod Tallying
 pub mod FreshStores
+pub mod Serving
+pub mod Crossing

@@ -104,7 +104,7 @@ module _ (tells : Bool) (old mid new : DiskHistory) (time : IsTrue tells → Ela
         → IsWritten W terms (passage tells mid new before after) s script contents contents' → IsWritten W terms (passage tells old new begun after) s script contents contents'
     written_before W s script contents contents' w = record { text = w.text; told = told_before s script w.text w.told; written = w.written }
 
-    openable_before : IsOpenable terms (passage tells mid new before after) → IsOpenable terms (passage tells old new begun after)
+    pub openable_before : IsOpenable terms (passage tells mid new before after) → IsOpenable terms (passage tells old new begun after)
     openable_before is told = let it = is told in (backward (λ z o. IsOurs z o terms.game) old mid (stays told) it.0, (it.1.0, backward (λ z o. HasDurable z o it.1.0) old mid (stays told) it.1.1))
 
     pub end_before : (s : Status) → IsPlayEnd terms (passage tells mid new before after) s → IsPlayEnd terms (passage tells old new begun after) s

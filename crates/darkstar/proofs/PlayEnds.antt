@@ -24,7 +24,7 @@ use Rattle.dk_host.specs.OpenedStores.{IsLeft, IsOpenAnswer, KeepsWorld}
 use Rattle.dk_host.specs.Stores.{StandsAs}
 use Rattle.dk_host.specs.declared.standing.Stood.{Stood}
 use Rattle.dk_play_laws.specs.BudgetLaw.{IsBudgetSpent}
-use Rattle.dk_workers.specs.Played.{IsPlayCause, IsPlayOn, IsSaved, IsToldPlay, IsUnopened, opened_on}
+use Rattle.dk_workers.specs.Played.{IsPlayCause, IsPlayOn, IsSaved, IsToldPlay, IsUnopened}
 use Rattle.dk_workers.specs.declared.play.fault.PlayFault.{PlayFault}
 use Rattle.dk_workers.specs.declared.play.fault.PlayFault.TheVariants as fault
 use Rattle.dk_status.specs.declared.status.Status.{Status}
@@ -57,7 +57,7 @@ is_standing past d quiet all = let it = settled_read (IsWorld d) past quiet all 
 module _ (terms : PlayTerms) (lawful : AreLawful terms.rules) (s : Status) (script : List (List Line)) (tells : Bool) (old mid new : DiskHistory) (durable : Durable) (stood : Stood) (before after : ℕ) (text : Result (List ℕ) PlayFault)
     (held : IsTrue tells → Holds old (world_of durable)) (ours : IsTrue tells → IsOurs (bytes_of old Zero) (bytes_of old One) terms.game) (left : IsTrue tells → IsLeft (standing (bytes_of old Zero) (bytes_of old One)) stood)
     (keeps : IsTrue tells → KeepsWorld (world_of durable) old mid)
-    (p : IsPlayOn (opened_on terms.rules durable terms.budget) terms.workers terms.checkpoint script tells mid new stood.journal.epoch before after text)
+    (p : IsPlayOn (opened_with terms (world_of durable)) terms.workers terms.checkpoint script tells mid new stood.journal.epoch before after text)
     (ends : text ≡ Err fault.DiskFault → s ≡ status.DiskFault) where
   abbrev o : Opened
   o = opened_with terms (world_of durable)
@@ -162,20 +162,24 @@ same_fault f g is = cc
 not_faulty : (t : List ℕ) (f : PlayFault) → ◌≡◌ {A = Result (List ℕ) PlayFault} (Ok t) (Err f) → ⊥
 not_faulty t f is = cc
 
+-- what the host is opened with, by these rules
+abbrev pub opened_by : Meaning → Durable → Option ℕ → Opened
+opened_by r d budget = record { rules = r; durable = world_of d; budget = budget }
+
 -- a play whose text is told, and the store that it was played on
 module _ {H : Type 0} (past : H → DiskHistory) (counted : H → ℕ) (terms : PlayTerms) (lawful : AreLawful terms.rules) (s : Status) (script : List (List Line)) (tells : Bool) (old : DiskHistory) (store home : H) (durable : Durable) (stood : Stood) (before : ℕ)
     (valid : IsValid (world_of durable)) (held : IsTrue tells → Holds old (world_of durable)) (ours : IsTrue tells → IsOurs (bytes_of old Zero) (bytes_of old One) terms.game) (left : IsTrue tells → IsLeft (standing (bytes_of old Zero) (bytes_of old One)) stood)
     (keeps : IsTrue tells → KeepsWorld (world_of durable) old (past store)) where
   -- what is said of the play that was made on it
   abbrev pub HasPlayed : Result (List ℕ) PlayFault → Type 0
-  HasPlayed text = IsUnopened store home text ⊎ IsPlayOn (opened_on terms.rules durable terms.budget) terms.workers terms.checkpoint script tells (past store) (past home) stood.journal.epoch before (counted home) text
+  HasPlayed text = IsUnopened store home text ⊎ IsPlayOn (opened_with terms (world_of durable)) terms.workers terms.checkpoint script tells (past store) (past home) stood.journal.epoch before (counted home) text
 
   -- by other names of its parts
   pub played_as : (rules : Meaning) (workers : ℕ) (told text : Result (List ℕ) PlayFault) → rules ≡ terms.rules → workers ≡ terms.workers → told ≡ text
-      → IsUnopened store home told ⊎ IsPlayOn (opened_on rules durable terms.budget) workers terms.checkpoint script tells (past store) (past home) stood.journal.epoch before (counted home) told → HasPlayed text
+      → IsUnopened store home told ⊎ IsPlayOn (opened_by rules durable terms.budget) workers terms.checkpoint script tells (past store) (past home) stood.journal.epoch before (counted home) told → HasPlayed text
   played_as rules workers told text same count is played =
-      let by_rules = subst (λ (r : Meaning). IsUnopened store home told ⊎ IsPlayOn (opened_on r durable terms.budget) workers terms.checkpoint script tells (past store) (past home) stood.journal.epoch before (counted home) told) same played in
-      let by_workers = subst (λ (n : ℕ). IsUnopened store home told ⊎ IsPlayOn (opened_on terms.rules durable terms.budget) n terms.checkpoint script tells (past store) (past home) stood.journal.epoch before (counted home) told) count by_rules in
+      let by_rules = subst (λ (r : Meaning). IsUnopened store home told ⊎ IsPlayOn (opened_by r durable terms.budget) workers terms.checkpoint script tells (past store) (past home) stood.journal.epoch before (counted home) told) same played in
+      let by_workers = subst (λ (n : ℕ). IsUnopened store home told ⊎ IsPlayOn (opened_with terms (world_of durable)) n terms.checkpoint script tells (past store) (past home) stood.journal.epoch before (counted home) told) count by_rules in
       subst HasPlayed is by_workers
 
   abbrev pub gone : Passage
@@ -183,7 +187,7 @@ module _ {H : Type 0} (past : H → DiskHistory) (counted : H → ℕ) (terms : 
 
   -- with a text
   module _ (t : List ℕ) (played : HasPlayed (Ok t)) where
-    the_play : IsPlayOn (opened_on terms.rules durable terms.budget) terms.workers terms.checkpoint script tells (past store) (past home) stood.journal.epoch before (counted home) (Ok t)
+    the_play : IsPlayOn (opened_with terms (world_of durable)) terms.workers terms.checkpoint script tells (past store) (past home) stood.journal.epoch before (counted home) (Ok t)
     the_play = ⊎_elim (λ (u : IsUnopened store home (Ok t)). absurd (not_faulty t fault.NoMemory u.1)) (λ p. p) played
 
     pub text_told : IsToldRun terms gone s script t
@@ -215,7 +219,7 @@ module _ {H : Type 0} (past : H → DiskHistory) (counted : H → ℕ) (terms : 
     pub fault_risen : status_of_playing f ≡ status.DiskFault → HasRisen before (counted home)
     fault_risen is = ⊎_elim
         (λ (u : IsUnopened store home (Err f)). absurd (no_fault (ap status_of_playing (sym (same_fault f fault.NoMemory u.1)) ∙ is)))
-        (λ p. risen_of (opened_on terms.rules durable terms.budget) p.history before (counted home) f p.text_of.cause is)
+        (λ p. risen_of (opened_with terms (world_of durable)) p.history before (counted home) f p.text_of.cause is)
         played
       where
         no_fault : status.NoMemory ≡ status.DiskFault → ⊥

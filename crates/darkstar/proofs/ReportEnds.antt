@@ -54,7 +54,7 @@ module _ {T : Type 0} where
   pub disk_ended : (r : Result T ReportFault) → IsErrOf r fault.DiskFault → status_of_report r ≡ status.DiskFault
   disk_ended r is = ap status_of_report is
 
-  -- a report never ends as words that are no command, and never reads the source
+  -- a report never ends as words that are no command, and never reads the source, nor has it to do with a listener
   pub never_usage : (r : Result T ReportFault) → status_of_report r ≡ status.Usage → ⊥
   never_usage (Ok done) is = cc
   never_usage (Err fault.NoMemory) is = cc
@@ -72,6 +72,15 @@ module _ {T : Type 0} where
   never_read (Err (fault.NotAStore side at)) is = cc
   never_read (Err (fault.WrongGame found)) is = cc
   never_read (Err (fault.Damaged side at)) is = cc
+
+  pub never_net : (r : Result T ReportFault) → status_of_report r ≡ status.NetFault → ⊥
+  never_net (Ok done) is = cc
+  never_net (Err fault.NoMemory) is = cc
+  never_net (Err fault.DiskFault) is = cc
+  never_net (Err fault.WriteFault) is = cc
+  never_net (Err (fault.NotAStore side at)) is = cc
+  never_net (Err (fault.WrongGame found)) is = cc
+  never_net (Err (fault.Damaged side at)) is = cc
 
   -- nothing is written of a report that was not, but where the sink failed
   pub ended_unwritten : (A : Type 0) (r : Result T ReportFault) → OnErr r ((IsErrOf r fault.WriteFault → ⊥) → A) → (status_of_report r ≡ status.Ok → ⊥) → (status_of_report r ≡ status.WriteFault → ⊥) → A

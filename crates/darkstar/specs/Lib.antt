@@ -8,3 +8,5 @@ pub mod Ends
 pub mod Reading
 pub mod StressText
 pub mod Tallies
+pub mod Served
+pub mod Serves

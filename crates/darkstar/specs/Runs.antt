@@ -45,17 +45,17 @@ use Rattle.darkstar.specs.Reports.{Holds, bytes_of}
 abbrev pub ForPlay : List (List ℕ) → (Playing → Type 0) → Type 0
 ForPlay words P = (play : Playing) → Asks words (Plays play) → P play
 
--- how a play goes: the id of its game and what the game means, how many claims it may make, its workers, and whether the store is written anew behind the last phase
+-- how a play or a server goes: the id of its game and what the game means, how many claims it may make, if there is an end of them, its workers, and whether the store is written anew behind the last phase
 pub record PlayTerms : Type 0 where
   pub game : List ℕ
   pub rules : Meaning
-  pub budget : ℕ
+  pub budget : Option ℕ
   pub workers : ℕ
   pub checkpoint : Bool
 
 -- as the words ask for it
 abbrev pub terms_of : Playing → PlayTerms
-terms_of play = record { game = word_of play.game; rules = rules_of play.game; budget = play.budget; workers = play.workers; checkpoint = play.checkpoint }
+terms_of play = record { game = word_of play.game; rules = rules_of play.game; budget = Some play.budget; workers = play.workers; checkpoint = play.checkpoint }
 
 -- what becomes of a home: whether it tells its content, the past of its files before and after, and how often it had failed
 pub record Passage : Type 0 where
@@ -69,9 +69,9 @@ pub record Passage : Type 0 where
 abbrev pub passage : Bool → DiskHistory → DiskHistory → ℕ → ℕ → Passage
 passage tells old new before after = record { tells = tells; old = old; new = new; before = before; after = after }
 
--- what a play's server is opened with, on a store that holds this world
+-- what the host is opened with, on a store that holds this world
 abbrev pub opened_with : PlayTerms → DurableWorld → Opened
-opened_with terms d = record { rules = terms.rules; durable = d; budget = Some terms.budget }
+opened_with terms d = record { rules = terms.rules; durable = d; budget = terms.budget }
 
 -- none of the once-tasks whose runs these events committed is pending in this world
 abbrev pub AreEnded : Opened → List Event → DurableWorld → Type 0

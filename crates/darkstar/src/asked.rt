@@ -1,28 +1,28 @@
-//! What a command asks for, of what the program does.
-ghost use Rattle.std.specs.Prelude.{◌≡◌, IfNone, IfSome};
-ghost use Rattle.dk_command.specs.Requests.{Plays, Reports, Stresses, request_of};
-ghost use Rattle.dk_command.specs.Requests as requests;
+//! What a command asks for.
+ghost use Rattle.std.specs.Prelude.{◌≡◌};
+ghost use Rattle.dk_command.specs.Requests.{AreFew, request_of};
 ghost use Rattle.darkstar.specs.Asked.{request_for};
 
 use crate::play_command::Terms;
 use crate::report::{Kind, Report};
+use crate::serve::ServeTerms;
+use crate::serve_command::Service;
 use dk_command::Command;
 
-/// A play on the store in the folder `dir`, a report, or a run of so many tasks by so many workers.
+/// A play on the store in the folder `dir`, a server on it, a report, or a run of so many tasks by so many workers.
 #[derive(Drop)]
 pub enum Asked {
     Play { dir: String, terms: Terms },
+    Serve { dir: String, service: Service },
     Tell(Report),
     Stress { seed: u32, tasks: u32, workers: u8 },
 }
 
 impl Asked {
-    /// What the command asks for, if the program does it.
-    pub fn of(command: Command) -> Option<Asked>
-        ensures some { IfSome result (λ asked. request_of command ≡ request_for asked) }
-        ensures no_play { IfNone result ((play : requests.Playing) → request_of command ≡ Plays play → ⊥) }
-        ensures no_report { IfNone result ((report : requests.Report) → request_of command ≡ Reports report → ⊥) }
-        ensures no_stress { IfNone result ((stress : requests.Stressing) → request_of command ≡ Stresses stress → ⊥) }
+    /// What the command asks for.
+    pub fn of(command: Command) -> Asked
+        requires { AreFew command }
+        ensures { request_of command ≡ request_for result }
     {
         match command {
             Command::Play {
@@ -38,22 +38,36 @@ impl Asked {
                     budget,
                     checkpoint,
                 };
-                Some(Asked::Play { dir, terms })
+                Asked::Play { dir, terms }
             }
-            Command::Check { dir, game } => Some(Asked::Tell(Report::new(Kind::Check, dir, game))),
-            Command::Inspect { dir, game } => {
-                Some(Asked::Tell(Report::new(Kind::Inspect, dir, game)))
+            Command::Serve {
+                dir,
+                port,
+                game,
+                workers,
+                clients,
+                sessions,
+            } => {
+                let terms = ServeTerms {
+                    port,
+                    workers,
+                    clients,
+                    sessions,
+                };
+                let service = Service { game, terms };
+                Asked::Serve { dir, service }
             }
-            Command::Serve { .. } => None,
+            Command::Check { dir, game } => Asked::Tell(Report::new(Kind::Check, dir, game)),
+            Command::Inspect { dir, game } => Asked::Tell(Report::new(Kind::Inspect, dir, game)),
             Command::Stress {
                 seed,
                 tasks,
                 workers,
-            } => Some(Asked::Stress {
+            } => Asked::Stress {
                 seed,
                 tasks,
                 workers,
-            }),
+            },
         }
     }
 }

@@ -5,42 +5,75 @@
 //! fault to standard error, and exits with the status.
 #![tactic(auto)]
 
+mod announcing;
 mod asked;
+mod ended;
 mod input;
 mod output;
 mod play_command;
 mod program;
 mod report;
+mod ringing;
+mod serve;
+mod serve_command;
 mod stress;
+#[cfg(test)]
+mod tests;
 
+use announcing::Announcing;
 use dk_disk::FolderHome;
-use dk_edge::{StdSink, StdSource};
+use dk_edge::{Bells, StdSink, StdSource, SystemClock, TcpListen, ThreadSpawner};
 use dk_status::Status;
 use dk_types::Words;
-use dk_workers::OpenGate;
 use program::run;
+use ringing::RingingGate;
+use std::alloc::{AllocError, AllocGlobal};
 use std::io::ErrorKind;
 use std::process::ExitCode;
 use std::rt::Env;
+use std::sync::Arc;
 use std::{env, io};
 
 fn main(rt: HostRuntime) -> ExitCode {
     let system: Result<_, _> = rt.clone();
-    let status = match (words(&rt), system) {
-        (Ok(words), Ok(system)) => {
+    let status = match (words(&rt), system, bells(&rt)) {
+        (Ok(words), Ok(system), Ok((ours, theirs))) => {
             let mut input = StdSource::new(rt.reader());
             let mut out = StdSink::new(io::writer(&rt));
             let home = FolderHome::new(rt.alloc(), system);
-            let gate = OpenGate;
-            run(&rt, rt.alloc(), &words, &mut input, &mut out, home, &gate).status
+            let mut net = Announcing::new(&rt, TcpListen::new(&rt, rt.alloc(), theirs));
+            let clock = SystemClock::new(&rt);
+            let mut spawner = ThreadSpawner::new(&rt);
+            let gate = RingingGate::new(&rt, ours);
+            let ran = run(
+                &rt,
+                rt.alloc(),
+                &words,
+                &mut input,
+                &mut out,
+                home,
+                &mut net,
+                &clock,
+                &mut spawner,
+                &gate,
+            );
+            net.tell_served(ran.served.number());
+            ran.status
         }
-        (Err(status), _) => status,
-        (_, Err(_)) => Status::NoMemory,
+        (Err(status), _, _) => status,
+        (_, Err(_), _) | (_, _, Err(_)) => Status::NoMemory,
     };
     if status != Status::Ok {
         let _ = eprintln!(rt; "{status}");
     }
     ExitCode::from(status.code())
+}
+
+/// The bells of a server, twice: for whoever rings, and for its links.
+fn bells<R: AllocGlobal>(rt: &R) -> Result<(Arc<Bells>, Arc<Bells>), AllocError> {
+    let bells = Arc::new(rt.alloc(), Bells::new(rt.alloc())?)?;
+    let links = Arc::try_clone(&bells)?;
+    Ok((bells, links))
 }
 
 /// The words after the program's name. Bytes that are no text are no words of any command.

@@ -16,9 +16,9 @@ ghost use Rattle.darkstar.specs.Headline.{IsPlayable, ReadsFew};
 ghost use Rattle.darkstar.specs.Runs.{IsPlayEnd, IsReadAndWritten, IsWritten, Keeps, MayOpen, passage};
 ghost use Rattle.darkstar.specs.Statuses.{ComesForBadLine, IfBadScript, IsOfOpened, IsOkOrLimit, IsUnread};
 
+use crate::ended::Ended;
 use crate::input::{Refused, read_script};
 use crate::output::put_all;
-use crate::program::Ran;
 use dk_command::GameName;
 use dk_demos::{Channels, Timer};
 use dk_disk::Home;
@@ -55,7 +55,7 @@ impl Terms {
         out: &mut K,
         home: M,
         gate: &G,
-    ) -> Ran<M>
+    ) -> Ended<M>
         requires { M.opening home ≡ NotCalled }
         ensures done { result.status ≡ Status.Ok → IsReadAndWritten Appends (terms_for self) (passage M.tells (M.past home) (M.past result.home) (M.counted home) (M.counted result.home)) result.status (S.remaining input.old) (S.remaining input.new) (K.contents out.old) (K.contents out.new) }
         ensures torn { result.status ≡ Status.WriteFault → IsReadAndWritten AppendsPrefix (terms_for self) (passage M.tells (M.past home) (M.past result.home) (M.counted home) (M.counted result.home)) result.status (S.remaining input.old) (S.remaining input.new) (K.contents out.old) (K.contents out.new) }
@@ -79,7 +79,7 @@ impl Terms {
         let script = match read_script(alloc, input) {
             Ok(script) => script,
             Err(refused) => {
-                return Ran {
+                return Ended {
                     status: unread_status(refused),
                     home,
                 };
@@ -88,7 +88,7 @@ impl Terms {
         let mut home = home;
         match home.open(dir) {
             Ok(()) => self.play_game(rt, alloc, &script, out, home, before, gate),
-            Err(_) => Ran {
+            Err(_) => Ended {
                 status: Status::DiskFault,
                 home,
             },
@@ -105,7 +105,7 @@ impl Terms {
         home: M,
         before: u64,
         gate: &G,
-    ) -> Ran<M>
+    ) -> Ended<M>
         requires is_open { IsOpen (M.opening home) }
         requires stand { AllStand sets.empty script.now.phases }
         requires counted { M.counted home ≡ before }
@@ -149,7 +149,7 @@ impl Terms {
         home: M,
         before: u64,
         gate: &G,
-    ) -> Ran<M>
+    ) -> Ended<M>
         requires is_open { IsOpen (M.opening home) }
         requires stand { AllStand sets.empty script.now.phases }
         requires counted { M.counted home ≡ before }
@@ -170,7 +170,7 @@ impl Terms {
         let store = match open_store(alloc, home, &game.id()) {
             Ok(store) => store,
             Err(refused) => {
-                return Ran {
+                return Ended {
                     status: unopened_status(refused.fault),
                     home: refused.home,
                 };
@@ -192,12 +192,12 @@ impl Terms {
         match text {
             Ok(text) => {
                 let put = put_all(out, text.as_slice());
-                Ran {
+                Ended {
                     status: put_status(put),
                     home,
                 }
             }
-            Err(fault) => Ran {
+            Err(fault) => Ended {
                 status: unplayed_status(fault),
                 home,
             },
@@ -217,7 +217,7 @@ fn unread_status(refused: Refused) -> Status
 }
 
 /// How the program ends where no store was opened.
-fn unopened_status(fault: OpenFault) -> Status
+pub(crate) fn unopened_status(fault: OpenFault) -> Status
     ensures { result ≡ status_of_opening fault }
 {
     match fault {

@@ -10,7 +10,7 @@ ghost use Rattle.darkstar.specs.Asked.{asked, kind_of};
 ghost use Rattle.darkstar.specs.Reports.{AppendsOne, AppendsPart, Holds, IsCauseOf, IsLine, IsOfGame, status_of_fault, status_of_report};
 ghost use Rattle.darkstar.specs.Statuses.{IsOkOrOfDevice};
 
-use crate::program::Ran;
+use crate::ended::Ended;
 use dk_command::GameName;
 use dk_disk::Home;
 use dk_edge::Sink;
@@ -45,7 +45,7 @@ impl Report {
     }
 
     /// Opens the home in the report's folder, recovers the store that its files hold, and appends one line of it to the sink.
-    pub fn write<M: Home, K: Sink>(self, alloc: Global, home: M, out: &mut K) -> Ran<M>
+    pub fn write<M: Home, K: Sink>(self, alloc: Global, home: M, out: &mut K) -> Ended<M>
         requires { M.opening home ≡ NotCalled }
         ensures done { IsTrue M.tells → result.status ≡ Status.Ok → AppendsOne (IsLine (asked self) (M.past home)) (K.contents out.old) (K.contents out.new) }
         ensures torn { IsTrue M.tells → result.status ≡ Status.WriteFault → AppendsPart (IsLine (asked self) (M.past home)) (K.contents out.old) (K.contents out.new) }
@@ -61,20 +61,21 @@ impl Report {
         ensures sink_steady { result.status ≢ Status.WriteFault → K.counted out.new ≡ K.counted out.old }
         ensures no_usage { result.status ≢ Status.Usage }
         ensures no_read { result.status ≢ Status.ReadFault }
+        ensures no_net { result.status ≢ Status.NetFault }
     {
         let mut home = home;
         let game = id_of(self.game);
         match self.kind {
             Kind::Check => {
                 let checked = check(alloc, &mut home, self.dir.as_str(), &game, out);
-                Ran {
+                Ended {
                     status: status_of(checked),
                     home,
                 }
             }
             Kind::Inspect => {
                 let inspected = inspect(alloc, &mut home, self.dir.as_str(), &game, out);
-                Ran {
+                Ended {
                     status: status_of(inspected),
                     home,
                 }

@@ -1,0 +1,153 @@
+//! What the members of a server's crew share.
+ghost use Rattle.std.specs.Prelude.{◌≡◌};
+
+use super::counting::MemberDone;
+use super::verdict::Verdict;
+use dk_disk::Home;
+use dk_edge::{Clock, Link, Listener};
+use dk_game::Game;
+use dk_host::{Host, Hosting, WorldBook};
+use dk_pump::{Door, Doorway, Place, keep_time};
+use dk_turn::{Naming, Pass};
+use dk_workers::{Gate, serve_jobs};
+use std::alloc::{AllocGlobal, Global};
+use std::marker::Model;
+use std::random::RandomSource;
+use std::sync::Wait;
+
+/// A host and the door of its server, with the game, the clock and the gate.
+#[derive(Drop)]
+pub(crate) struct Server<
+    'a,
+    'n,
+    W: Hosting,
+    J: Naming,
+    M: Home,
+    L: Listener,
+    D: Doorway,
+    C: Clock,
+    G: Game,
+    T: Gate,
+    R: Wait,
+> {
+    pub(crate) rt: &'a R,
+    pub(crate) alloc: Global,
+    pub(crate) host: &'a Host<W, J, M>,
+    pub(crate) door: Door<'n, L, D>,
+    pub(crate) clock: &'a C,
+    pub(crate) game: &'a G,
+    pub(crate) gate: &'a T,
+}
+
+impl<
+    'a,
+    'n,
+    W: Hosting,
+    J: Naming,
+    M: Home,
+    L: Listener,
+    D: Doorway,
+    C: Clock,
+    G: Game,
+    T: Gate,
+    R: Wait,
+> Model for Server<'a, 'n, W, J, M, L, D, C, G, T, R> {
+    ghost use Rattle.std.specs.Prelude.{◌≡◌};
+
+    ghost Value = { Unit {0} };
+
+    ghost view = { λ _. tt };
+
+    ghost invariant = { λ s. W.opened.rules ≡ G.rules s.game.now };
+}
+
+impl<
+    'a,
+    'n,
+    W: Hosting,
+    J: Naming,
+    M: Home,
+    L: Listener,
+    D: Doorway,
+    C: Clock,
+    G: Game,
+    T: Gate,
+    R: Wait,
+> Server<'a, 'n, W, J, M, L, D, C, G, T, R> {
+    /// Ticks until the server is ending.
+    pub(crate) fn tick(&self, mut pass: Pass<WorldBook<W>, J>) -> MemberDone<D, L::Whole> {
+        let ticked = keep_time(
+            self.rt,
+            self.host,
+            &mut pass,
+            self.clock,
+            self.door.ending(),
+        );
+        let verdict = match ticked {
+            Ok(()) => Verdict::good(),
+            Err(_) => {
+                self.door.end();
+                Verdict::no_memory()
+            }
+        };
+        MemberDone {
+            verdict,
+            count: None,
+        }
+    }
+
+    /// Works until the server is ending.
+    pub(crate) fn work(
+        &self,
+        number: u32,
+        mut pass: Pass<WorldBook<W>, J>,
+    ) -> MemberDone<D, L::Whole> {
+        let worked = serve_jobs(
+            self.rt,
+            self.alloc,
+            self.host,
+            &mut pass,
+            self.game,
+            self.gate,
+            number,
+            self.door.ending(),
+        );
+        MemberDone {
+            verdict: Verdict::of_worker(worked),
+            count: None,
+        }
+    }
+}
+
+impl<
+    'a,
+    'n,
+    W: Hosting,
+    J: Naming,
+    M: Home,
+    K: Link + Drop,
+    L: Listener<Whole = K>,
+    D: Doorway,
+    C: Clock,
+    G: Game,
+    T: Gate,
+    R: Wait + RandomSource + AllocGlobal,
+> Server<'a, 'n, W, J, M, L, D, C, G, T, R> {
+    /// Serves sessions, as long as there are links for them.
+    pub(crate) fn serve(&self, place: Place<W, J, D, K>) -> MemberDone<D, K> {
+        match place.serve(self.rt, self.alloc, self.host, &self.door) {
+            Some(done) => {
+                let verdict = Verdict::of_place(done.end);
+                let (_, count) = done.place.into_parts();
+                MemberDone {
+                    verdict,
+                    count: Some(count),
+                }
+            }
+            None => MemberDone {
+                verdict: Verdict::no_memory(),
+                count: None,
+            },
+        }
+    }
+}
