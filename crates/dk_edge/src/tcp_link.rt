@@ -17,6 +17,9 @@ use std::time::Duration;
 /// How many polls in a row of all links together may find nothing before they are waited for.
 const QUICK_POLLS_COUNT: u64 = 64;
 
+/// How many of one link may at least. Behind a ring the first poll finds what was handed, and the next puts it.
+const LEAST_QUICK_POLLS_COUNT: u64 = 2;
+
 /// How long a stream or a bell is waited for at most, in ms.
 const WAIT_MS: u64 = 100;
 
@@ -80,6 +83,7 @@ impl<S: Read + Write + OpenStream + AsRawFd + Drop> TcpLink<S> {
         QUICK_POLLS_COUNT
             .checked_div(self.bell.count())
             .unwrap_or(QUICK_POLLS_COUNT)
+            .max(LEAST_QUICK_POLLS_COUNT)
     }
 
     // Behind some polls that found nothing, waits a little for the stream or the bell.
