@@ -1,10 +1,11 @@
 //! Listeners.
 
 use crate::links::{put, take};
-use dk_edge::{Bells, Link, Listener, MemoryListener, Peer, Sink, Source, TcpListen};
+use dk_edge::{Bells, Listener, MemoryListener, Peer, Sink, Source, TcpListen};
 use std::alloc::Global;
 use std::io::{Read, Write};
 use std::net::{Ipv4Addr, TcpStream};
+use std::sync::Arc;
 use std::test::*;
 
 // A peer that sends one byte.
