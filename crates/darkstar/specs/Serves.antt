@@ -15,7 +15,7 @@ use Rattle.darkstar.specs.Served.{IsAllServed, IsBoundAt, links_of}
 abbrev pub ForServe : List (List ℕ) → (Serving → Type 0) → Type 0
 ForServe words P = (serve : Serving) → Asks words (Serves serve) → P serve
 
--- how it goes: with any number of runs; two more than its workers run jobs or tell the time
+-- how it goes: with any number of runs, and as by several workers, since beside them others run jobs at first and tell the time, and a fault of theirs may be told first
 abbrev pub service_of : Serving → PlayTerms
 service_of serve = record { game = word_of serve.game; rules = rules_of serve.game; budget = None; workers = serve.workers + 2; checkpoint = false }
 

@@ -1,5 +1,4 @@
-//! The program by its top call, over streams and homes in memory: rows of commands, files that are no store, and devices that
-//! fail.
+//! The program by its top call, over streams and homes in memory: rows of commands, and a server.
 ghost use Rattle.std.specs.Prelude.{◌≡◌, IfOk};
 ghost use Rattle.dk_disk.specs.Opening.{NotCalled};
 ghost use Rattle.dk_edge.specs.Listening.{IsUncalled};
