@@ -21,7 +21,7 @@ use Rattle.dk_reports.proofs.Reading.{backward, onward, stays_then_reads}
 use Rattle.dk_host.specs.OpenedStores.{IsAtLastEpoch, IsImageTooLarge, MayBeAnew}
 use Rattle.dk_status.specs.declared.status.Status.{Status}
 use Rattle.dk_status.specs.declared.status.Status.TheVariants as status
-use Rattle.darkstar.specs.Runs.{IsOpenable, IsOpenedEpoch, IsPlayEnd, IsSpent, IsToldRun, IsWritten, IsWrittenAnew, Keeps, KeepsCommits, MayOpen, PlayTerms, RecoversFrom, Run, RunsOn, passage}
+use Rattle.darkstar.specs.Runs.{IsOpenable, IsOpenedEpoch, IsPlayEnd, IsSpent, IsReportedRun, IsWritten, IsWrittenAnew, Keeps, KeepsCommits, MayOpen, PlayTerms, RecoversFrom, Run, RunsOn, passage}
 use Rattle.darkstar.proofs.RunLaws.{from_begun}
 
 module _ (tells : Bool) (old mid new : DiskHistory) (time : IsTrue tells → Elapses old mid) (stays : IsTrue tells → Stays old mid) where
@@ -88,7 +88,7 @@ module _ (tells : Bool) (old mid new : DiskHistory) (time : IsTrue tells → Ela
       epoch = a.epoch;
     }
 
-    told_before : (s : Status) (script : List (List Line)) (text : List ℕ) → IsToldRun terms (passage tells mid new before after) s script text → IsToldRun terms (passage tells old new begun after) s script text
+    told_before : (s : Status) (script : List (List Line)) (text : List ℕ) → IsReportedRun terms (passage tells mid new before after) s script text → IsReportedRun terms (passage tells old new begun after) s script text
     unfolding run_before runs_before
     told_before s script text t = record {
       run = run_before s t.run;

@@ -24,14 +24,14 @@ use Rattle.dk_host.specs.OpenedStores.{IsLeft, IsOpenAnswer, KeepsWorld}
 use Rattle.dk_host.specs.Stores.{StandsAs}
 use Rattle.dk_host.specs.declared.standing.Stood.{Stood}
 use Rattle.dk_play_laws.specs.BudgetLaw.{IsBudgetSpent}
-use Rattle.dk_workers.specs.Played.{IsPlayCause, IsPlayOn, IsSaved, IsToldPlay, IsUnopened}
+use Rattle.dk_workers.specs.Played.{IsPlayCause, IsPlayOn, IsSaved, IsReportedPlay, IsUnopened}
 use Rattle.dk_workers.specs.declared.play.fault.PlayFault.{PlayFault}
 use Rattle.dk_workers.specs.declared.play.fault.PlayFault.TheVariants as fault
 use Rattle.dk_status.specs.declared.status.Status.{Status}
 use Rattle.dk_status.specs.declared.status.Status.TheVariants as status
 use Rattle.darkstar.specs.Ends.{status_of_playing, status_of_put}
 use Rattle.darkstar.specs.Reports.{Holds, bytes_of}
-use Rattle.darkstar.specs.Runs.{IsNextEpoch, IsOpenable, IsOpenedEpoch, IsPlayEnd, IsSpent, IsStanding, IsToldRun, IsWrittenAnew, Keeps, HoldsNone, Passage, PlayTerms, Run, opened_with, passage}
+use Rattle.darkstar.specs.Runs.{IsNextEpoch, IsOpenable, IsOpenedEpoch, IsPlayEnd, IsSpent, IsStanding, IsReportedRun, IsWrittenAnew, Keeps, HoldsNone, Passage, PlayTerms, Run, opened_with, passage}
 use Rattle.darkstar.specs.Statuses.{IsOfOpened, IsOkOrEnd, IsOkOrLimit}
 use Rattle.darkstar.proofs.RunLaws.{runs_history, runs_none, runs_on, runs_untailed}
 
@@ -88,10 +88,10 @@ module _ (terms : PlayTerms) (lawful : AreLawful terms.rules) (s : Status) (scri
   }
 
   -- the run is told where there is a text
-  pub told_of : (t : List ℕ) → text ≡ Ok t → IsToldRun terms (passage tells old new before after) s script t
+  pub reported_of : (t : List ℕ) → text ≡ Ok t → IsReportedRun terms (passage tells old new before after) s script t
   unfolding run_of
-  told_of t is =
-      let told : IsToldPlay o terms.workers script p.history t = subst (λ (r : Result (List ℕ) PlayFault). IfOk r (IsToldPlay o terms.workers script p.history)) is p.text_of.told in
+  reported_of t is =
+      let told : IsReportedPlay o terms.workers script p.history t = subst (λ (r : Result (List ℕ) PlayFault). IfOk r (IsReportedPlay o terms.workers script p.history)) is p.text_of.told in
       let running : p.faults ≡ None = subst (λ (r : Result (List ℕ) PlayFault). IfOk r (λ x. p.faults ≡ None)) is p.text_of.whole in
       let saved : IsTrue terms.checkpoint → IsSaved o p.history stood.journal.epoch p.epoch = λ asked. subst (λ (r : Result (List ℕ) PlayFault). IfOk r (λ x. IsSaved o p.history stood.journal.epoch p.epoch)) is (p.text_of.is_saved asked) in
       let world_is : (world_after o p.history).durable ≡ (world_after o run_of.on.history).durable = ap (λ (es : List Event). (world_after o es).durable) same_history in
@@ -190,8 +190,8 @@ module _ {H : Type 0} (past : H → DiskHistory) (counted : H → ℕ) (terms : 
     the_play : IsPlayOn (opened_with terms (world_of durable)) terms.workers terms.checkpoint script tells (past store) (past home) stood.journal.epoch before (counted home) (Ok t)
     the_play = ⊎_elim (λ (u : IsUnopened store home (Ok t)). absurd (not_faulty t fault.NoMemory u.1)) (λ p. p) played
 
-    pub text_told : IsToldRun terms gone s script t
-    text_told = told_of terms lawful s script tells old (past store) (past home) durable stood before (counted home) (Ok t) held ours left keeps the_play (λ is. absurd (not_faulty t fault.DiskFault is)) t refl
+    pub text_told : IsReportedRun terms gone s script t
+    text_told = reported_of terms lawful s script tells old (past store) (past home) durable stood before (counted home) (Ok t) held ours left keeps the_play (λ is. absurd (not_faulty t fault.DiskFault is)) t refl
 
     pub text_keeps : Keeps terms gone s
     text_keeps = inr (run_of terms lawful s script tells old (past store) (past home) durable stood before (counted home) (Ok t) held ours left keeps the_play (λ is. absurd (not_faulty t fault.DiskFault is)))

@@ -32,7 +32,7 @@ use Rattle.darkstar.specs.declared.serve.verdict.ServeFault.TheVariants as fault
 use Rattle.darkstar.specs.Ends.{status_of_opening}
 use Rattle.darkstar.specs.Reports.{Holds, bytes_of}
 use Rattle.darkstar.specs.Runs.{IsOpenable, IsPlayEnd, Keeps, Passage, PlayTerms, opened_with, passage}
-use Rattle.darkstar.specs.Served.{HasWorkCause, IsAllServed, IsBoundAt, IsOutcome, IsServedOn, IsSoundDrain, IsTold, IsUnserved, links_of}
+use Rattle.darkstar.specs.Served.{HasWorkCause, IsAllServed, IsBoundAt, IsOutcome, IsServedOn, IsSoundDrain, HasCause, IsUnserved, links_of}
 use Rattle.darkstar.specs.Serves.{HasServedAll, IsServeEnd, IsServedOrEnd, IsServedOrLimit, status_of_serving}
 use Rattle.darkstar.proofs.PlayAfter.{end_before, openable_before}
 use Rattle.darkstar.proofs.PlayEnds.{keeps_none}
@@ -105,17 +105,17 @@ module _ {H : Type 0} (past : H → DiskHistory) (counted : H → ℕ) (terms : 
   openable told = (ours told, (world_of durable, held told))
 
   -- a fault other than want of memory is told of a server that was run
-  told_of : (f : ServeFault) → (f ≡ fault.NoMemory → ⊥) → HasServed (Err f) → IsTold before (counted home) net net' crews crews' f
-  told_of f other has = ⊎_elim (λ (u : IsUnserved store home served (Err f)). absurd (other (never f u.want))) (λ p. p.cause) has
+  reported_of : (f : ServeFault) → (f ≡ fault.NoMemory → ⊥) → HasServed (Err f) → HasCause before (counted home) net net' crews crews' f
+  reported_of f other has = ⊎_elim (λ (u : IsUnserved store home served (Err f)). absurd (other (never f u.want))) (λ p. p.cause) has
 
   -- why the program ends so
   pub served_end : (outcome : Result (Unit {0}) ServeFault) → HasServed outcome → IsServeEnd terms left (status_of_serving outcome)
   served_end (Ok done) has = openable
   served_end (Err fault.NoMemory) has = tt
   served_end (Err fault.DiskFault) has = tt
-  served_end (Err (fault.JournalFull n)) has = (openable, told_of (fault.JournalFull n) (full_is_none n) has)
+  served_end (Err (fault.JournalFull n)) has = (openable, reported_of (fault.JournalFull n) (full_is_none n) has)
   served_end (Err fault.NetFault) has = openable
-  served_end (Err (fault.Exhausted n)) has = (openable, told_of (fault.Exhausted n) (end_is_none n) has)
+  served_end (Err (fault.Exhausted n)) has = (openable, reported_of (fault.Exhausted n) (end_is_none n) has)
 
   -- where all is well, all links were served
   pub served_done : (outcome : Result (Unit {0}) ServeFault) → HasServed outcome → status_of_serving outcome ≡ status.Ok → (sessions : Option ℕ) → most ≡ links_of sessions → HasServedAll port sessions served listening listening'
@@ -133,7 +133,7 @@ module _ {H : Type 0} (past : H → DiskHistory) (counted : H → ℕ) (terms : 
   pub served_disk : (outcome : Result (Unit {0}) ServeFault) → HasServed outcome → status_of_serving outcome ≡ status.DiskFault → HasRisen before (counted home)
   served_disk (Ok done) has is = absurd cc
   served_disk (Err fault.NoMemory) has is = absurd cc
-  served_disk (Err fault.DiskFault) has is = told_of fault.DiskFault disk_is_none has
+  served_disk (Err fault.DiskFault) has is = reported_of fault.DiskFault disk_is_none has
   served_disk (Err (fault.JournalFull n)) has is = absurd cc
   served_disk (Err fault.NetFault) has is = absurd cc
   served_disk (Err (fault.Exhausted n)) has is = absurd cc
@@ -144,7 +144,7 @@ module _ {H : Type 0} (past : H → DiskHistory) (counted : H → ℕ) (terms : 
   served_net (Err fault.NoMemory) has is = absurd cc
   served_net (Err fault.DiskFault) has is = absurd cc
   served_net (Err (fault.JournalFull n)) has is = absurd cc
-  served_net (Err fault.NetFault) has is = told_of fault.NetFault net_is_none has
+  served_net (Err fault.NetFault) has is = reported_of fault.NetFault net_is_none has
   served_net (Err (fault.Exhausted n)) has is = absurd cc
 
 -- however a server ends, no more than these come

@@ -155,7 +155,7 @@ pub record IsStanding (new : DiskHistory) (d : DurableWorld) : Type 0 where
   pub images : AllRecover (IsWorld d) new new.clock
 
 -- A RUN THAT IS TOLD: the text is the transcript of the script in the order that the text itself tells, on the world that was held, and ends in the world after the history. One worker commits each run before the next is claimed. There is no tail, and the store stands with that world.
-pub record IsToldRun (terms : PlayTerms) (home : Passage) (s : Status) (script : List (List Line)) (text : List ℕ) : Type 0 where
+pub record IsReportedRun (terms : PlayTerms) (home : Passage) (s : Status) (script : List (List Line)) (text : List ℕ) : Type 0 where
   pub run : Run terms home s
   pub transcript : IsTranscript terms.rules (opening_of (opened_with terms run.world)) script (order_of text) text
   pub ended : transcript.end.world ≡ world_after (opened_with terms run.world) run.on.history
@@ -167,7 +167,7 @@ pub record IsToldRun (terms : PlayTerms) (home : Passage) (s : Status) (script :
 -- a run's text went to the sink so
 pub record IsWritten (W : Option (List ℕ) → Option (List ℕ) → List ℕ → Type 0) (terms : PlayTerms) (home : Passage) (s : Status) (script : List (List Line)) (contents contents' : Option (List ℕ)) : Type 0 where
   pub text : List ℕ
-  pub told : IsToldRun terms home s script text
+  pub told : IsReportedRun terms home s script text
   pub written : W contents contents' text
 
 -- the source was read to its end as a script, and the text of its run went to the sink so

@@ -28,7 +28,7 @@ impl<'a, R: Eprint, L: Listener> Announcing<'a, R, L> {
     }
 
     /// Says how many sessions were served, if it listened.
-    pub fn tell_served(&self, number: u64) {
+    pub fn report_served(&self, number: u64) {
         if self.port.is_some() {
             let _ = eprintln!(self.rt; "darkstar: {number} sessions served");
         }

@@ -57,7 +57,7 @@ fn main(rt: HostRuntime) -> ExitCode {
                 &mut spawner,
                 &gate,
             );
-            net.tell_served(ran.served.number());
+            net.report_served(ran.served.number());
             ran.status
         }
         (Err(status), _, _) => status,

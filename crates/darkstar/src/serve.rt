@@ -20,7 +20,7 @@ use dk_edge::{Clock, Link, Listener, Sink, Source, Spawner};
 use dk_game::Game;
 use dk_host::{Hosting, OpenedStore};
 use dk_pump::Tally;
-use dk_turn::Blank;
+use dk_turn::TurnBuilder;
 use dk_workers::Gate;
 use std::alloc::{AllocGlobal, Global};
 use std::marker::Brand;
@@ -110,7 +110,7 @@ fn serve_on_ledgers<
     ensures serves { IsUnserved store.home result.home result.served result.outcome ⊎ IsServedOn W.opened M.tells W.began (M.past result.home) before (M.counted result.home) (L.counted net.old) (L.counted net.new) (P.counted spawner.old) (P.counted spawner.new) terms.port (links_of terms.sessions) (L.listening net.old) (L.listening net.new) result.served result.outcome }
     ensures opening { M.opening result.home ≡ W.opening }
 {
-    match Blank::new(alloc, terms.passes()) {
+    match TurnBuilder::new(alloc, terms.passes()) {
         Ok(blank) => serve_on_turn::<W, Brand, M, K, _, _, L, C, P, G, T, R>(
             rt, alloc, blank, commits, places, game, store, before, net, clock, spawner, gate,
             terms,

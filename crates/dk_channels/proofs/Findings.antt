@@ -17,7 +17,7 @@ use Rattle.dk_model.specs.Runs as act
 use Rattle.dk_model.specs.Runs.{Run, Act}
 use Rattle.dk_model.specs.Records.{CHANNEL_KIND, session_of, session_name, channel_of, channel_name}
 use Rattle.dk_model.specs.Platforms.{channel_under, record_if_connected, drop_channel}
-use Rattle.dk_overlay.specs.Logged.{Logged}
+use Rattle.dk_overlay.specs.ReadsAndWrites.{ReadsAndWrites}
 use Rattle.dk_txn.specs.Current.{current}
 use Rattle.dk_txn.specs.declared.refusal.Refusal.{Refusal}
 use Rattle.dk_txn.specs.declared.refusal.Refusal.TheVariants as refusal
@@ -36,130 +36,130 @@ use Rattle.dk_channels.proofs.Looks.{IsSaved, IsDropped, save_ok, save_long, kin
 use Rattle.dk_txn.specs.Sights.{Sights}
 
 -- the mode has no part in it
-pub found_moded : {A : Type 0} (r : Result A Refusal) (t b c u : Logged) (first last : Mode) (sort : ℕ → Refusal) (found : DurableWorld → Option ℕ) → b ≡ record t { mode = first } → u ≡ record c { mode = last }
+pub found_moded : {A : Type 0} (r : Result A Refusal) (t b c u : ReadsAndWrites) (first last : Mode) (sort : ℕ → Refusal) (found : DurableWorld → Option ℕ) → b ≡ record t { mode = first } → u ≡ record c { mode = last }
     → IfErr r (TellsFound sort b c found) → IfErr r (TellsFound sort t u found)
 found_moded (Ok x) t b c u first last sort found is was told = tt
-found_moded (Err e) t b c u first last sort found is was told = rw was (λ n same d agrees. subst (λ (l : Logged). found (current l d).world ≡ Some n) is (told n same d agrees))
+found_moded (Err e) t b c u first last sort found is was told = rw was (λ n same d agrees. subst (λ (l : ReadsAndWrites). found (current l d).world ≡ Some n) is (told n same d agrees))
 
 -- where the length that is told is found in the world, a world of short objects has none
-pub never_long : {A : Type 0} (r : Result A Refusal) (before after : Logged) (name : List ℕ) → IfErr r (TellsFound refusal.TooLong before after (length_of_all name)) → IfErr r (NeverTooLong before after)
+pub never_long : {A : Type 0} (r : Result A Refusal) (before after : ReadsAndWrites) (name : List ℕ) → IfErr r (TellsFound refusal.TooLong before after (length_of_all name)) → IfErr r (NeverTooLong before after)
 never_long r before after name told = IfErr-weaker r _ (NeverTooLong before after) (λ e told n is d agrees short.
     let none : None ≡ Some n = sym (none_long name (current before d).world short (members_in name (current before d).world)) ∙ told n is d agrees in absurd cc) told
 
 -- at the first member all is found as it was
-pub later_start : (find : Session → DurableWorld → Option ℕ) (t : Logged) (members : List Session) → FoundLater find t t members 0
+pub later_start : (find : Session → DurableWorld → Option ℕ) (t : ReadsAndWrites) (members : List Session) → FoundLater find t t members 0
 later_start find t members d agrees = refl
 
 -- at a member all is found as of it and of those behind it
-found_at : (before after : Logged) (members : List Session) (i : ℕ) (m : Session) → i < length members → m ≡ get_or members i m → (find : Session → DurableWorld → Option ℕ) → FoundLater find before after members i
+found_at : (before after : ReadsAndWrites) (members : List Session) (i : ℕ) (m : Session) → i < length members → m ≡ get_or members i m → (find : Session → DurableWorld → Option ℕ) → FoundLater find before after members i
     → (d : DurableWorld) → Agrees d after.reads → first_of find members (current before d).world ≡ option_or (find m (current after d).world) (first_of find (drop (i + 1) members) (current after d).world)
 found_at before after members i m more at find later d agrees = later d agrees ∙ ap (λ ms. first_of find ms (current after d).world) (rest_is members i m more at)
 
 module _ {S : Type 0} {sights : Sights S} where
   -- a refusal by another number tells nothing
-  found_never : {a b : Txn S Logged} {A : Type 0} {f : Act A} {e : Refusal} (k : ℕ) (sort : ℕ → Refusal) (before : Logged) (found : DurableWorld → Option ℕ) → ((n : ℕ) → refusal_fault (sort n) ≡ Some (Refused k)) → Avoids k f
-      → Does sights refusal_fault a b f (Err e) → TellsFound sort before b.log found e
-  found_never {a = a} {b = b} k sort before found number never p n is d agrees = absurd (never (current a.log d) (current b.log d) (p.does (Err (Refused k)) (ap (λ (h : Refusal). failure (refusal_fault h)) is ∙ ap failure (number n)) d agrees))
+  found_never : {a b : Txn S ReadsAndWrites} {A : Type 0} {f : Act A} {e : Refusal} (k : ℕ) (sort : ℕ → Refusal) (before : ReadsAndWrites) (found : DurableWorld → Option ℕ) → ((n : ℕ) → refusal_fault (sort n) ≡ Some (Refused k)) → Avoids k f
+      → Does sights refusal_fault a b f (Err e) → TellsFound sort before b.set found e
+  found_never {a = a} {b = b} k sort before found number never p n is d agrees = absurd (never (current a.set d) (current b.set d) (p.does (Err (Refused k)) (ap (λ (h : Refusal). failure (refusal_fault h)) is ∙ ap failure (number n)) d agrees))
 
   -- one that is none over a kind, or none over a length, and is passed on
-  pub kind_unfound : {a b : Txn S Logged} {A B : Type 0} {f : Act A} {e : Refusal} (r : Result B Refusal) (before : Logged) (found : DurableWorld → Option ℕ) → Avoids 3 f
-      → Does sights refusal_fault a b f (Err e) → IsErrAnd r (λ h. h ≡ e) → IfErr r (TellsFound refusal.WrongKind before b.log found)
-  kind_unfound {b = b} {e = e} r before found never p is = passed (TellsFound refusal.WrongKind before b.log found) e r is (found_never 3 refusal.WrongKind before found (λ n. refl) never p)
+  pub kind_unfound : {a b : Txn S ReadsAndWrites} {A B : Type 0} {f : Act A} {e : Refusal} (r : Result B Refusal) (before : ReadsAndWrites) (found : DurableWorld → Option ℕ) → Avoids 3 f
+      → Does sights refusal_fault a b f (Err e) → IsErrAnd r (λ h. h ≡ e) → IfErr r (TellsFound refusal.WrongKind before b.set found)
+  kind_unfound {b = b} {e = e} r before found never p is = passed (TellsFound refusal.WrongKind before b.set found) e r is (found_never 3 refusal.WrongKind before found (λ n. refl) never p)
 
-  pub length_unfound : {a b : Txn S Logged} {A B : Type 0} {f : Act A} {e : Refusal} (r : Result B Refusal) (before : Logged) (found : DurableWorld → Option ℕ) → Avoids 4 f
-      → Does sights refusal_fault a b f (Err e) → IsErrAnd r (λ h. h ≡ e) → IfErr r (TellsFound refusal.TooLong before b.log found)
-  length_unfound {b = b} {e = e} r before found never p is = passed (TellsFound refusal.TooLong before b.log found) e r is (found_never 4 refusal.TooLong before found (λ n. refl) never p)
+  pub length_unfound : {a b : Txn S ReadsAndWrites} {A B : Type 0} {f : Act A} {e : Refusal} (r : Result B Refusal) (before : ReadsAndWrites) (found : DurableWorld → Option ℕ) → Avoids 4 f
+      → Does sights refusal_fault a b f (Err e) → IsErrAnd r (λ h. h ≡ e) → IfErr r (TellsFound refusal.TooLong before b.set found)
+  length_unfound {b = b} {e = e} r before found never p is = passed (TellsFound refusal.TooLong before b.set found) e r is (found_never 4 refusal.TooLong before found (λ n. refl) never p)
 
   -- the record of a member is of another kind
-  pub member_kind : {a b : Txn S Logged} {A : Type 0} {e : Refusal} (r : Result A Refusal) (m : Session) → Does sights refusal_fault a b (record_if_connected m) (Err e) → SameChanges a.log b.log
-      → TellsKindOf b.log (kind_under (session_name m.name)) e → IsErrAnd r (λ h. h ≡ e) → IfErr r (TellsFound refusal.WrongKind a.log b.log (wrong_kind_of m))
-  member_kind {a = a} {b = b} {e = e} r m p same told is = passed (TellsFound refusal.WrongKind a.log b.log (wrong_kind_of m)) e r is by
+  pub member_kind : {a b : Txn S ReadsAndWrites} {A : Type 0} {e : Refusal} (r : Result A Refusal) (m : Session) → Does sights refusal_fault a b (record_if_connected m) (Err e) → SameChanges a.set b.set
+      → TellsKindOf b.set (kind_under (session_name m.name)) e → IsErrAnd r (λ h. h ≡ e) → IfErr r (TellsFound refusal.WrongKind a.set b.set (wrong_kind_of m))
+  member_kind {a = a} {b = b} {e = e} r m p same told is = passed (TellsFound refusal.WrongKind a.set b.set (wrong_kind_of m)) e r is by
     where
-      by : TellsFound refusal.WrongKind a.log b.log (wrong_kind_of m) e
+      by : TellsFound refusal.WrongKind a.set b.set (wrong_kind_of m) e
       by n is d agrees =
-          let refused : record_if_connected m (current a.log d) ≡ (Err (Refused 3), current b.log d) = p.does (Err (Refused 3)) (ap (λ (h : Refusal). failure (refusal_fault h)) is) d agrees in
-          let told_here = subst (TellsKindOf b.log (kind_under (session_name m.name))) is told in
-          let has : kind_under (session_name m.name) (current a.log d).world ≡ Some n = subst (λ (s : Run). kind_under (session_name m.name) s.world ≡ Some n) (current_same a.log b.log d same) (told_here d agrees) in
-          not_session_is (kind_under (session_name m.name) (current a.log d).world) n has (look_other m (current a.log d) (current b.log d) refused)
+          let refused : record_if_connected m (current a.set d) ≡ (Err (Refused 3), current b.set d) = p.does (Err (Refused 3)) (ap (λ (h : Refusal). failure (refusal_fault h)) is) d agrees in
+          let told_here = subst (TellsKindOf b.set (kind_under (session_name m.name))) is told in
+          let has : kind_under (session_name m.name) (current a.set d).world ≡ Some n = subst (λ (s : Run). kind_under (session_name m.name) s.world ≡ Some n) (current_same a.set b.set d same) (told_here d agrees) in
+          not_session_is (kind_under (session_name m.name) (current a.set d).world) n has (look_other m (current a.set d) (current b.set d) refused)
 
   -- a save is refused over no kind
-  pub saving_kind : {a b : Txn S Logged} {r : Result (Unit {0}) Refusal} (id : ObjectId) (bytes : List ℕ) (before : Logged) (found : DurableWorld → Option ℕ) → Does sights refusal_fault a b (act.save id bytes) r → IfErr r (TellsFound refusal.WrongKind before b.log found)
+  pub saving_kind : {a b : Txn S ReadsAndWrites} {r : Result (Unit {0}) Refusal} (id : ObjectId) (bytes : List ℕ) (before : ReadsAndWrites) (found : DurableWorld → Option ℕ) → Does sights refusal_fault a b (act.save id bytes) r → IfErr r (TellsFound refusal.WrongKind before b.set found)
   saving_kind {r = Ok u} id bytes before found p = tt
   saving_kind {r = Err e} id bytes before found p = found_never 3 refusal.WrongKind before found (λ n. refl) (save_avoids id bytes) p
 
   -- the record of a member is too long without the channel
-  pub member_length : {a b c : Txn S Logged} {r : Result (Unit {0}) Refusal} (name : List ℕ) (m : Session) (x : ObjectId × SessionRecord) → Does sights refusal_fault a b (record_if_connected m) (Ok (Some x))
-      → Does sights refusal_fault b c (act.save x.0 (bytes_without name x.1)) r → IfErr r (TellsLength (bytes_without name x.1)) → IfErr r (TellsFound refusal.TooLong a.log c.log (long_record_of name m))
+  pub member_length : {a b c : Txn S ReadsAndWrites} {r : Result (Unit {0}) Refusal} (name : List ℕ) (m : Session) (x : ObjectId × SessionRecord) → Does sights refusal_fault a b (record_if_connected m) (Ok (Some x))
+      → Does sights refusal_fault b c (act.save x.0 (bytes_without name x.1)) r → IfErr r (TellsLength (bytes_without name x.1)) → IfErr r (TellsFound refusal.TooLong a.set c.set (long_record_of name m))
   member_length {r = Ok u} name m x p q told = tt
   member_length {a = a} {b = b} {c = c} {r = Err e} name m x p q told = λ n is d agrees.
-      let l = looked name m (Some x) (current a.log d) (current b.log d) (p.does (Ok (Some x)) refl d (agreed q.keeps d agrees)) in
-      let long = save_long x.0 (bytes_without name x.1) (current b.log d) (current c.log d) (q.does (Err (Refused 4)) (ap (λ (h : Refusal). failure (refusal_fault h)) is) d agrees) in
+      let l = looked name m (Some x) (current a.set d) (current b.set d) (p.does (Ok (Some x)) refl d (agreed q.keeps d agrees)) in
+      let long = save_long x.0 (bytes_without name x.1) (current b.set d) (current c.set d) (q.does (Err (Refused 4)) (ap (λ (h : Refusal). failure (refusal_fault h)) is) d agrees) in
       let len : n ≡ length (bytes_without name x.1) = subst (TellsLength (bytes_without name x.1)) is told in
       l.found.1 ∙ ap (λ b. if b then Some (length (bytes_without name x.1)) else None) long ∙ ap (λ k. Some k) (sym len)
 
-  module _ {b c : Txn S Logged} (name : List ℕ) (before : Logged) (members : List Session) (i : ℕ) (m : Session) (more : i < length members) (at : m ≡ get_or members i m) where
+  module _ {b c : Txn S ReadsAndWrites} (name : List ℕ) (before : ReadsAndWrites) (members : List Session) (i : ℕ) (m : Session) (more : i < length members) (at : m ≡ get_or members i m) where
     next : (find : Session → DurableWorld → Option ℕ) → ((a b : DurableWorld) → IsDropped name m a b → find m a ≡ None) → ((a b : DurableWorld) → IsDropped name m a b → (k : Session) → find k b ≡ find k a)
-        → FoundLater find before b.log members i → Does sights refusal_fault b c (drop_channel name m) (Ok tt) → FoundLater find before c.log members (i + 1)
+        → FoundLater find before b.set members i → Does sights refusal_fault b c (drop_channel name m) (Ok tt) → FoundLater find before c.set members (i + 1)
     next find none alike later q d agrees =
-        let done = dropped name m (current b.log d) (current c.log d) (q.does (Ok tt) refl d agrees) in
-        found_at before b.log members i m more at find later d (agreed q.keeps d agrees) ∙ ap (λ o. option_or o (first_of find (drop (i + 1) members) (current b.log d).world)) (none _ _ done) ∙ sym (first_alike find (drop (i + 1) members) _ _ (alike _ _ done))
+        let done = dropped name m (current b.set d) (current c.set d) (q.does (Ok tt) refl d agrees) in
+        found_at before b.set members i m more at find later d (agreed q.keeps d agrees) ∙ ap (λ o. option_or o (first_of find (drop (i + 1) members) (current b.set d).world)) (none _ _ done) ∙ sym (first_alike find (drop (i + 1) members) _ _ (alike _ _ done))
 
     -- behind a member that was dropped
-    pub later_kinds : FoundLater wrong_kind_of before b.log members i → Does sights refusal_fault b c (drop_channel name m) (Ok tt) → FoundLater wrong_kind_of before c.log members (i + 1)
+    pub later_kinds : FoundLater wrong_kind_of before b.set members i → Does sights refusal_fault b c (drop_channel name m) (Ok tt) → FoundLater wrong_kind_of before c.set members (i + 1)
     later_kinds later q = next wrong_kind_of (λ _ _ done. done.kind) (λ _ _ done. done.kinds) later q
 
-    pub later_lengths : FoundLater (long_record_of name) before b.log members i → Does sights refusal_fault b c (drop_channel name m) (Ok tt) → FoundLater (long_record_of name) before c.log members (i + 1)
+    pub later_lengths : FoundLater (long_record_of name) before b.set members i → Does sights refusal_fault b c (drop_channel name m) (Ok tt) → FoundLater (long_record_of name) before c.set members (i + 1)
     later_lengths later q = next (long_record_of name) (λ _ _ done. done.length) (λ _ _ done. done.lengths) later q
 
     -- what the refusal over this member tells, it tells of the first of all
-    pub later_tells : {A : Type 0} {e : Refusal} (r : Result A Refusal) (find : Session → DurableWorld → Option ℕ) (sort : ℕ → Refusal) → FoundLater find before b.log members i → Does sights refusal_fault b c (drop_channel name m) (Err e)
-        → TellsFound sort b.log c.log (find m) e → IsErrAnd r (λ h. h ≡ e) → IfErr r (TellsFound sort before c.log (first_of find members))
-    later_tells {e = e} r find sort later q told is = passed (TellsFound sort before c.log (first_of find members)) e r is (λ n is d agrees.
-        found_at before b.log members i m more at find later d (agreed q.keeps d agrees) ∙ ap (λ o. option_or o (first_of find (drop (i + 1) members) (current b.log d).world)) (told n is d agrees))
+    pub later_tells : {A : Type 0} {e : Refusal} (r : Result A Refusal) (find : Session → DurableWorld → Option ℕ) (sort : ℕ → Refusal) → FoundLater find before b.set members i → Does sights refusal_fault b c (drop_channel name m) (Err e)
+        → TellsFound sort b.set c.set (find m) e → IsErrAnd r (λ h. h ≡ e) → IfErr r (TellsFound sort before c.set (first_of find members))
+    later_tells {e = e} r find sort later q told is = passed (TellsFound sort before c.set (first_of find members)) e r is (λ n is d agrees.
+        found_at before b.set members i m more at find later d (agreed q.keeps d agrees) ∙ ap (λ o. option_or o (first_of find (drop (i + 1) members) (current b.set d).world)) (told n is d agrees))
 
-  module _ {a b c : Txn S Logged} (id : ObjectId) (bytes : List ℕ) (members : List Session) (p : Does sights refusal_fault a b (act.save id bytes) (Ok tt)) (k : Keeps sights b c) where
-    saved : (d : DurableWorld) → Agrees d c.log.reads → IsSaved id bytes (current a.log d) (current b.log d)
-    saved d agrees = save_ok id bytes (current a.log d) (current b.log d) (p.does (Ok tt) refl d (agreed k d agrees))
+  module _ {a b c : Txn S ReadsAndWrites} (id : ObjectId) (bytes : List ℕ) (members : List Session) (p : Does sights refusal_fault a b (act.save id bytes) (Ok tt)) (k : Keeps sights b c) where
+    saved : (d : DurableWorld) → Agrees d c.set.reads → IsSaved id bytes (current a.set d) (current b.set d)
+    saved d agrees = save_ok id bytes (current a.set d) (current b.set d) (p.does (Ok tt) refl d (agreed k d agrees))
 
     -- the channel's record was saved, and all is found of the members as it was before
-    pub emptied_kind : (r : Result (Unit {0}) Refusal) → IfErr r (TellsFound refusal.WrongKind b.log c.log (first_of wrong_kind_of members)) → IfErr r (TellsFound refusal.WrongKind a.log c.log (first_of wrong_kind_of members))
-    emptied_kind r told = IfErr-weaker r _ (TellsFound refusal.WrongKind a.log c.log (first_of wrong_kind_of members)) (λ e told n is d agrees. sym (first_alike wrong_kind_of members _ _ (kinds_saved id bytes _ _ (saved d agrees))) ∙ told n is d agrees) told
+    pub emptied_kind : (r : Result (Unit {0}) Refusal) → IfErr r (TellsFound refusal.WrongKind b.set c.set (first_of wrong_kind_of members)) → IfErr r (TellsFound refusal.WrongKind a.set c.set (first_of wrong_kind_of members))
+    emptied_kind r told = IfErr-weaker r _ (TellsFound refusal.WrongKind a.set c.set (first_of wrong_kind_of members)) (λ e told n is d agrees. sym (first_alike wrong_kind_of members _ _ (kinds_saved id bytes _ _ (saved d agrees))) ∙ told n is d agrees) told
 
-    pub emptied_length : (r : Result (Unit {0}) Refusal) (name : List ℕ) → IsChannel a.log c.log id → IfErr r (TellsFound refusal.TooLong b.log c.log (first_of (long_record_of name) members)) → IfErr r (TellsFound refusal.TooLong a.log c.log (first_of (long_record_of name) members))
-    emptied_length r name channel told = IfErr-weaker r _ (TellsFound refusal.TooLong a.log c.log (first_of (long_record_of name) members)) (λ e told n is d agrees.
-        let none = λ (conn : ConnNo). ap (λ k. long_without name conn (if_session k (value_at session_of (Some id) (current a.log d).world))) (channel d agrees) in
+    pub emptied_length : (r : Result (Unit {0}) Refusal) (name : List ℕ) → IsChannel a.set c.set id → IfErr r (TellsFound refusal.TooLong b.set c.set (first_of (long_record_of name) members)) → IfErr r (TellsFound refusal.TooLong a.set c.set (first_of (long_record_of name) members))
+    emptied_length r name channel told = IfErr-weaker r _ (TellsFound refusal.TooLong a.set c.set (first_of (long_record_of name) members)) (λ e told n is d agrees.
+        let none = λ (conn : ConnNo). ap (λ k. long_without name conn (if_session k (value_at session_of (Some id) (current a.set d).world))) (channel d agrees) in
         sym (first_alike (long_record_of name) members _ _ (lengths_saved id bytes _ _ (saved d agrees) name none)) ∙ told n is d agrees) told
 
   -- the channel's record is of another kind
-  pub channel_kind : {a b : Txn S Logged} {A : Type 0} {e : Refusal} (r : Result A Refusal) (name : List ℕ) → Does sights refusal_fault a b (channel_under name) (Err e) → TellsKindOf b.log (kind_under (channel_name name)) e → IsErrAnd r (λ h. h ≡ e)
-      → IfErr r (TellsFound refusal.WrongKind a.log b.log (kind_of_all name))
-  channel_kind {a = a} {b = b} {e = e} r name p told is = passed (TellsFound refusal.WrongKind a.log b.log (kind_of_all name)) e r is by
+  pub channel_kind : {a b : Txn S ReadsAndWrites} {A : Type 0} {e : Refusal} (r : Result A Refusal) (name : List ℕ) → Does sights refusal_fault a b (channel_under name) (Err e) → TellsKindOf b.set (kind_under (channel_name name)) e → IsErrAnd r (λ h. h ≡ e)
+      → IfErr r (TellsFound refusal.WrongKind a.set b.set (kind_of_all name))
+  channel_kind {a = a} {b = b} {e = e} r name p told is = passed (TellsFound refusal.WrongKind a.set b.set (kind_of_all name)) e r is by
     where
-      by : TellsFound refusal.WrongKind a.log b.log (kind_of_all name) e
+      by : TellsFound refusal.WrongKind a.set b.set (kind_of_all name) e
       by n is d agrees =
-          let refused : channel_under name (current a.log d) ≡ (Err (Refused 3), current b.log d) = p.does (Err (Refused 3)) (ap (λ (h : Refusal). failure (refusal_fault h)) is) d agrees in
-          let o = is_other CHANNEL_KIND channel_of (current a.log d) (current b.log d) (channel_name name) refused in
-          let told_here = subst (TellsKindOf b.log (kind_under (channel_name name))) is told in
-          first_is (kind_under (channel_name name) (current a.log d).world) _ n (subst (λ (s : Run). kind_under (channel_name name) s.world ≡ Some n) o.same (told_here d agrees)) o.other
+          let refused : channel_under name (current a.set d) ≡ (Err (Refused 3), current b.set d) = p.does (Err (Refused 3)) (ap (λ (h : Refusal). failure (refusal_fault h)) is) d agrees in
+          let o = is_other CHANNEL_KIND channel_of (current a.set d) (current b.set d) (channel_name name) refused in
+          let told_here = subst (TellsKindOf b.set (kind_under (channel_name name))) is told in
+          first_is (kind_under (channel_name name) (current a.set d).world) _ n (subst (λ (s : Run). kind_under (channel_name name) s.world ≡ Some n) o.same (told_here d agrees)) o.other
 
-  module _ {a b c : Txn S Logged} (name : List ℕ) (x : ObjectId × ChannelRecord) (p : Does sights refusal_fault a b (channel_under name) (Ok x)) (k : Keeps sights b c) where
+  module _ {a b c : Txn S ReadsAndWrites} (name : List ℕ) (x : ObjectId × ChannelRecord) (p : Does sights refusal_fault a b (channel_under name) (Ok x)) (k : Keeps sights b c) where
     -- the record that was found is a channel's
-    pub found_channel : IsChannel b.log c.log x.0
+    pub found_channel : IsChannel b.set c.set x.0
     found_channel d agrees =
         let is = p.does (Ok x) refl d (agreed k d agrees) in
-        let own = stands CHANNEL_KIND channel_of (current a.log d) (current b.log d) (channel_name name) x is in
-        subst (λ (s : Run). kind_at (Some x.0) s.world ≡ Some CHANNEL_KIND) (sym own.same) (ap (λ o. kind_at o (current a.log d).world) (sym (channel_stands name x (current a.log d) (current b.log d) is)) ∙ own.has_kind)
+        let own = stands CHANNEL_KIND channel_of (current a.set d) (current b.set d) (channel_name name) x is in
+        subst (λ (s : Run). kind_at (Some x.0) s.world ≡ Some CHANNEL_KIND) (sym own.same) (ap (λ o. kind_at o (current a.set d).world) (sym (channel_stands name x (current a.set d) (current b.set d) is)) ∙ own.has_kind)
 
     -- what is found of its members is found of all
-    found_members : (find : Session → DurableWorld → Option ℕ) (d : DurableWorld) → Agrees d c.log.reads → first_of find (members_in name (current a.log d).world) (current a.log d).world ≡ first_of find x.1.members (current b.log d).world
+    found_members : (find : Session → DurableWorld → Option ℕ) (d : DurableWorld) → Agrees d c.set.reads → first_of find (members_in name (current a.set d).world) (current a.set d).world ≡ first_of find x.1.members (current b.set d).world
     found_members find d agrees =
-        let own = stands CHANNEL_KIND channel_of (current a.log d) (current b.log d) (channel_name name) x (p.does (Ok x) refl d (agreed k d agrees)) in
-        ap (λ v. first_of find (members_of v) (current a.log d).world) own.has_value ∙ ap (λ (s : Run). first_of find x.1.members s.world) (sym own.same)
+        let own = stands CHANNEL_KIND channel_of (current a.set d) (current b.set d) (channel_name name) x (p.does (Ok x) refl d (agreed k d agrees)) in
+        ap (λ v. first_of find (members_of v) (current a.set d).world) own.has_value ∙ ap (λ (s : Run). first_of find x.1.members s.world) (sym own.same)
 
-    pub all_kind : (r : Result (Unit {0}) Refusal) → IfErr r (TellsFound refusal.WrongKind b.log c.log (first_of wrong_kind_of x.1.members)) → IfErr r (TellsFound refusal.WrongKind a.log c.log (kind_of_all name))
-    all_kind r told = IfErr-weaker r _ (TellsFound refusal.WrongKind a.log c.log (kind_of_all name)) (λ e told n is d agrees.
-        let own = stands CHANNEL_KIND channel_of (current a.log d) (current b.log d) (channel_name name) x (p.does (Ok x) refl d (agreed k d agrees)) in
-        second_is (kind_under (channel_name name) (current a.log d).world) _ own.has_kind ∙ found_members wrong_kind_of d agrees ∙ told n is d agrees) told
+    pub all_kind : (r : Result (Unit {0}) Refusal) → IfErr r (TellsFound refusal.WrongKind b.set c.set (first_of wrong_kind_of x.1.members)) → IfErr r (TellsFound refusal.WrongKind a.set c.set (kind_of_all name))
+    all_kind r told = IfErr-weaker r _ (TellsFound refusal.WrongKind a.set c.set (kind_of_all name)) (λ e told n is d agrees.
+        let own = stands CHANNEL_KIND channel_of (current a.set d) (current b.set d) (channel_name name) x (p.does (Ok x) refl d (agreed k d agrees)) in
+        second_is (kind_under (channel_name name) (current a.set d).world) _ own.has_kind ∙ found_members wrong_kind_of d agrees ∙ told n is d agrees) told
 
-    pub all_length : (r : Result (Unit {0}) Refusal) → IfErr r (TellsFound refusal.TooLong b.log c.log (first_of (long_record_of name) x.1.members)) → IfErr r (TellsFound refusal.TooLong a.log c.log (length_of_all name))
-    all_length r told = IfErr-weaker r _ (TellsFound refusal.TooLong a.log c.log (length_of_all name)) (λ e told n is d agrees. found_members (long_record_of name) d agrees ∙ told n is d agrees) told
+    pub all_length : (r : Result (Unit {0}) Refusal) → IfErr r (TellsFound refusal.TooLong b.set c.set (first_of (long_record_of name) x.1.members)) → IfErr r (TellsFound refusal.TooLong a.set c.set (length_of_all name))
+    all_length r told = IfErr-weaker r _ (TellsFound refusal.TooLong a.set c.set (length_of_all name)) (λ e told n is d agrees. found_members (long_record_of name) d agrees ∙ told n is d agrees) told

@@ -12,7 +12,7 @@ use Rattle.dk_types.specs.declared.fault.AppFault.TheVariants.{Refused}
 use Rattle.dk_model.specs.Runs as act
 use Rattle.dk_model.specs.Runs.{refuse, is_too_long, body_of, TOO_LONG}
 use Rattle.dk_model.specs.Platforms.{send_each}
-use Rattle.dk_overlay.specs.Logged.{Logged}
+use Rattle.dk_overlay.specs.ReadsAndWrites.{ReadsAndWrites}
 use Rattle.dk_txn.specs.declared.refusal.Refusal.{Refusal}
 use Rattle.dk_txn.specs.declared.refusal.Refusal.TheVariants as refusal
 use Rattle.dk_txn.specs.declared.txn.Txn.{Txn}
@@ -47,16 +47,16 @@ letters_more message members i m letters h is so_far =
     ∙ ap (letters_of message) (sym (take_more members i m h))
 
 -- a body is too long
-pub refuses_long : {S A : Type 0} {sights : Sights S} {a : Txn S Logged} {e : Refusal} → refusal_fault e ≡ Some (Refused TOO_LONG) → Does sights refusal_fault a a (refuse {A = A} TOO_LONG) (Err e)
+pub refuses_long : {S A : Type 0} {sights : Sights S} {a : Txn S ReadsAndWrites} {e : Refusal} → refusal_fault e ≡ Some (Refused TOO_LONG) → Does sights refusal_fault a a (refuse {A = A} TOO_LONG) (Err e)
 refuses_long {A = A} told = refused_here {f = refuse {A = A} TOO_LONG} (Refused TOO_LONG) told (λ d. refl)
 
 module _ {S : Type 0} {sights : Sights S} (members : List Session) (message : Out) where
   -- where there is no room for all, it is refused
-  pub each_full : {a : Txn S Logged} → nat_lt MESSAGES_MOST_COUNT (length a.log.outs + length members) ≡ true → Does sights refusal_fault a a (send_each members message) (Err refusal.TooMany)
+  pub each_full : {a : Txn S ReadsAndWrites} → nat_lt MESSAGES_MOST_COUNT (length a.set.outs + length members) ≡ true → Does sights refusal_fault a a (send_each members message) (Err refusal.TooMany)
   each_full full = refused_here (Refused 8) refl (λ d. rw full refl)
 
   -- all were sent it
-  pub each_does : {a b : Txn S Logged} {r : Result (Unit {0}) Refusal} (letters : List (ConnNo × Out)) → letters ≡ letters_of message members → nat_lt MESSAGES_MOST_COUNT (length a.log.outs + length members) ≡ false
+  pub each_does : {a b : Txn S ReadsAndWrites} {r : Result (Unit {0}) Refusal} (letters : List (ConnNo × Out)) → letters ≡ letters_of message members → nat_lt MESSAGES_MOST_COUNT (length a.set.outs + length members) ≡ false
       → Does sights refusal_fault a b (send_all letters) r → Does sights refusal_fault a b (send_each members message) r
   unfolding send_all
   each_does {a = a} {b = b} {r = r} letters is fits p =

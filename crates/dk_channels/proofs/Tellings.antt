@@ -18,7 +18,7 @@ use Rattle.dk_model.specs.Runs.{Run, Act, and_then, give, refuse, carry_on}
 use Rattle.dk_model.specs.Records.{SESSION_KIND, CHANNEL_KIND, session_of, channel_of, session_name, channel_name, session_bytes, channel_bytes}
 use Rattle.dk_model.specs.Platforms as platform
 use Rattle.dk_model.specs.Platforms.{platform_bound, channel_under, session_under, own_record, send_each, save_both}
-use Rattle.dk_overlay.specs.Logged.{Logged}
+use Rattle.dk_overlay.specs.ReadsAndWrites.{ReadsAndWrites}
 use Rattle.dk_txn.specs.Current.{current}
 use Rattle.dk_txn.specs.declared.refusal.Refusal.{Refusal}
 use Rattle.dk_txn.specs.declared.refusal.Refusal.TheVariants as refusal
@@ -78,7 +78,7 @@ pub second_is : (o second : Option ℕ) → o ≡ Some CHANNEL_KIND → other_ki
 second_is o second e = ap (λ (o : Option ℕ). other_kind o second) e
 
 -- what a refusal tells of a kind is told so too
-kinds_as : (t : Logged) (old new : DurableWorld → Option ℕ) (e : Refusal)
+kinds_as : (t : ReadsAndWrites) (old new : DurableWorld → Option ℕ) (e : Refusal)
     → ((kind : ℕ) → e ≡ refusal.WrongKind kind → (d : DurableWorld) → Agrees d t.reads → old (current t d).world ≡ Some kind → new (current t d).world ≡ Some kind) → TellsKindOf t old e → TellsKindOf t new e
 kinds_as t old new (refusal.WrongKind kind) h told = λ d agrees. h kind refl d agrees (told d agrees)
 kinds_as t old new refusal.NameNotBound h told = tt
@@ -93,45 +93,45 @@ kinds_as t old new refusal.BadBytes h told = tt
 
 module _ {S : Type 0} {sights : Sights S} where
   -- the record is of another kind
-  pub record_kind : {a b c : Txn S Logged} {id : ObjectId} {A B : Type 0} {f : Act A} {e : Refusal} (r : Result B Refusal) (name : List ℕ) → Does sights refusal_fault a b (recorded name) (Ok (Some id))
-      → Does sights refusal_fault b c f (Err e) → SameChanges b.log c.log → TellsKind c.log id e → IsErrAnd r (λ h. h ≡ e) → IfErr r (TellsKindOf c.log (kind_under (channel_name name)))
+  pub record_kind : {a b c : Txn S ReadsAndWrites} {id : ObjectId} {A B : Type 0} {f : Act A} {e : Refusal} (r : Result B Refusal) (name : List ℕ) → Does sights refusal_fault a b (recorded name) (Ok (Some id))
+      → Does sights refusal_fault b c f (Err e) → SameChanges b.set c.set → TellsKind c.set id e → IsErrAnd r (λ h. h ≡ e) → IfErr r (TellsKindOf c.set (kind_under (channel_name name)))
   unfolding recorded
   record_kind r name p q same told is = kind_found r (channel_name name) p q same told is
 
   module _ (name : List ℕ) (session : Session) where
     -- the channel's record is of another kind
-    pub first_kind : {a b : Txn S Logged} {e : Refusal} (r : Result (Unit {0}) Refusal) → Does sights refusal_fault a b (channel_under name) (Err e) → TellsKindOf b.log (kind_under (channel_name name)) e
-        → IsErrAnd r (λ h. h ≡ e) → IfErr r (TellsKindOf b.log (kind_of_records name session))
-    first_kind {a = a} {b = b} {e = e} r p told is = passed (TellsKindOf b.log (kind_of_records name session)) e r is (kinds_as b.log (kind_under (channel_name name)) (kind_of_records name session) e by told)
+    pub first_kind : {a b : Txn S ReadsAndWrites} {e : Refusal} (r : Result (Unit {0}) Refusal) → Does sights refusal_fault a b (channel_under name) (Err e) → TellsKindOf b.set (kind_under (channel_name name)) e
+        → IsErrAnd r (λ h. h ≡ e) → IfErr r (TellsKindOf b.set (kind_of_records name session))
+    first_kind {a = a} {b = b} {e = e} r p told is = passed (TellsKindOf b.set (kind_of_records name session)) e r is (kinds_as b.set (kind_under (channel_name name)) (kind_of_records name session) e by told)
       where
-        by : (kind : ℕ) → e ≡ refusal.WrongKind kind → (d : DurableWorld) → Agrees d b.log.reads → kind_under (channel_name name) (current b.log d).world ≡ Some kind → kind_of_records name session (current b.log d).world ≡ Some kind
+        by : (kind : ℕ) → e ≡ refusal.WrongKind kind → (d : DurableWorld) → Agrees d b.set.reads → kind_under (channel_name name) (current b.set d).world ≡ Some kind → kind_of_records name session (current b.set d).world ≡ Some kind
         by kind is d agrees has =
-            let refused : channel_under name (current a.log d) ≡ (Err (Refused 3), current b.log d) = p.does (Err (Refused 3)) (ap (λ (h : Refusal). failure (refusal_fault h)) is) d agrees in
-            let o = is_other CHANNEL_KIND channel_of (current a.log d) (current b.log d) (channel_name name) refused in
-            first_is (kind_under (channel_name name) (current b.log d).world) _ kind has (λ same. o.other (subst (λ (s : Run). kind_under (channel_name name) s.world ≡ Some CHANNEL_KIND) o.same same))
+            let refused : channel_under name (current a.set d) ≡ (Err (Refused 3), current b.set d) = p.does (Err (Refused 3)) (ap (λ (h : Refusal). failure (refusal_fault h)) is) d agrees in
+            let o = is_other CHANNEL_KIND channel_of (current a.set d) (current b.set d) (channel_name name) refused in
+            first_is (kind_under (channel_name name) (current b.set d).world) _ kind has (λ same. o.other (subst (λ (s : Run). kind_under (channel_name name) s.world ≡ Some CHANNEL_KIND) o.same same))
 
-    module _ {a b : Txn S Logged} {x : ObjectId × ChannelRecord} (p : Does sights refusal_fault a b (channel_under name) (Ok x)) where
+    module _ {a b : Txn S ReadsAndWrites} {x : ObjectId × ChannelRecord} (p : Does sights refusal_fault a b (channel_under name) (Ok x)) where
       -- the session's record is of another kind
-      pub second_kind : {c : Txn S Logged} {e : Refusal} (r : Result (Unit {0}) Refusal) → Does sights refusal_fault b c (own_record session) (Err e) → SameChanges b.log c.log → TellsKindOf c.log (kind_under (session_name session.name)) e
-          → IsErrAnd r (λ h. h ≡ e) → IfErr r (TellsKindOf c.log (kind_of_records name session))
-      second_kind {c = c} {e = e} r q same told is = passed (TellsKindOf c.log (kind_of_records name session)) e r is (kinds_as c.log (kind_under (session_name session.name)) (kind_of_records name session) e by told)
+      pub second_kind : {c : Txn S ReadsAndWrites} {e : Refusal} (r : Result (Unit {0}) Refusal) → Does sights refusal_fault b c (own_record session) (Err e) → SameChanges b.set c.set → TellsKindOf c.set (kind_under (session_name session.name)) e
+          → IsErrAnd r (λ h. h ≡ e) → IfErr r (TellsKindOf c.set (kind_of_records name session))
+      second_kind {c = c} {e = e} r q same told is = passed (TellsKindOf c.set (kind_of_records name session)) e r is (kinds_as c.set (kind_under (session_name session.name)) (kind_of_records name session) e by told)
         where
-          by : (kind : ℕ) → e ≡ refusal.WrongKind kind → (d : DurableWorld) → Agrees d c.log.reads → kind_under (session_name session.name) (current c.log d).world ≡ Some kind → kind_of_records name session (current c.log d).world ≡ Some kind
+          by : (kind : ℕ) → e ≡ refusal.WrongKind kind → (d : DurableWorld) → Agrees d c.set.reads → kind_under (session_name session.name) (current c.set d).world ≡ Some kind → kind_of_records name session (current c.set d).world ≡ Some kind
           by kind is d agrees has =
-              let h = stands CHANNEL_KIND channel_of (current a.log d) (current b.log d) (channel_name name) x (p.does (Ok x) refl d (agreed q.keeps d agrees)) in
-              let now : current c.log d ≡ current a.log d = current_same b.log c.log d same ∙ h.same in
+              let h = stands CHANNEL_KIND channel_of (current a.set d) (current b.set d) (channel_name name) x (p.does (Ok x) refl d (agreed q.keeps d agrees)) in
+              let now : current c.set d ≡ current a.set d = current_same b.set c.set d same ∙ h.same in
               second_is _ _ (ap (λ (s : Run). kind_under (channel_name name) s.world) now ∙ h.has_kind) ∙ has
 
       -- both records were found, and one of them would be too long
-      pub both_length : {c d : Txn S Logged} {y : ObjectId × SessionRecord} {f : Act (Unit {0})} (r : Result (Unit {0}) Refusal) (after : List ℕ → Session → ChannelRecord → SessionRecord → List ℕ)
-          → Does sights refusal_fault b c (own_record session) (Ok y) → Does sights refusal_fault c d f r → IfErr r (TellsLengthIn d.log (after name session x.1 y.1)) → IfErr r (TellsLengthOf a.log d.log (records_after after name session))
+      pub both_length : {c d : Txn S ReadsAndWrites} {y : ObjectId × SessionRecord} {f : Act (Unit {0})} (r : Result (Unit {0}) Refusal) (after : List ℕ → Session → ChannelRecord → SessionRecord → List ℕ)
+          → Does sights refusal_fault b c (own_record session) (Ok y) → Does sights refusal_fault c d f r → IfErr r (TellsLengthIn d.set (after name session x.1 y.1)) → IfErr r (TellsLengthOf a.set d.set (records_after after name session))
       both_length (Ok u) after q h told = tt
       both_length {c = c} {d = d} {y = y} (Err e) after q h told = λ w agrees. subst (λ bytes. TellsLength bytes e) (sym (by w agrees)) (told w agrees)
         where
-          by : (w : DurableWorld) → Agrees w d.log.reads → records_after after name session (current a.log w).world ≡ after name session x.1 y.1
+          by : (w : DurableWorld) → Agrees w d.set.reads → records_after after name session (current a.set w).world ≡ after name session x.1 y.1
           by w agrees =
               let at_b = agreed q.keeps w (agreed h.keeps w agrees) in
-              let s = stands CHANNEL_KIND channel_of (current a.log w) (current b.log w) (channel_name name) x (p.does (Ok x) refl w at_b) in
-              let o = stands SESSION_KIND session_of (current b.log w) (current c.log w) (session_name session.name) y (own_stands session y (current b.log w) (current c.log w) (q.does (Ok y) refl w (agreed h.keeps w agrees))) in
-              let own : value_under session_of (session_name session.name) (current a.log w).world ≡ Some y.1 = ap (λ (t : Run). value_under session_of (session_name session.name) t.world) (sym s.same) ∙ o.has_value in
-              ap (λ v. of_both (after name session) v (value_under session_of (session_name session.name) (current a.log w).world)) s.has_value ∙ ap (λ v. of_both (after name session) (Some x.1) v) own
+              let s = stands CHANNEL_KIND channel_of (current a.set w) (current b.set w) (channel_name name) x (p.does (Ok x) refl w at_b) in
+              let o = stands SESSION_KIND session_of (current b.set w) (current c.set w) (session_name session.name) y (own_stands session y (current b.set w) (current c.set w) (q.does (Ok y) refl w (agreed h.keeps w agrees))) in
+              let own : value_under session_of (session_name session.name) (current a.set w).world ≡ Some y.1 = ap (λ (t : Run). value_under session_of (session_name session.name) t.world) (sym s.same) ∙ o.has_value in
+              ap (λ v. of_both (after name session) v (value_under session_of (session_name session.name) (current a.set w).world)) s.has_value ∙ ap (λ v. of_both (after name session) (Some x.1) v) own

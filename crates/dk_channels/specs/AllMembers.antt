@@ -12,7 +12,7 @@ use Rattle.dk_model.specs.DurableWorlds.{DurableWorld, Agrees}
 use Rattle.dk_model.specs.Runs.{is_too_long}
 use Rattle.dk_model.specs.Records.{SESSION_KIND, CHANNEL_KIND, session_bytes, session_of, session_name, channel_of, channel_name}
 use Rattle.dk_model.specs.Platforms.{without_channel}
-use Rattle.dk_overlay.specs.Logged.{Logged}
+use Rattle.dk_overlay.specs.ReadsAndWrites.{ReadsAndWrites}
 use Rattle.dk_txn.specs.Current.{current}
 use Rattle.dk_txn.specs.declared.refusal.Refusal.{Refusal}
 use Rattle.dk_txn.specs.declared.refusal.Refusal.TheVariants as refusal
@@ -77,7 +77,7 @@ abbrev pub length_of_all : List ℕ → DurableWorld → Option ℕ
 length_of_all name world = first_of (long_record_of name) (members_in name world) world
 
 -- a refusal of this sort tells what is so found in the world as it was before, in every agreeing one
-abbrev pub TellsFound : (ℕ → Refusal) → Logged → Logged → (DurableWorld → Option ℕ) → Refusal → Type 0
+abbrev pub TellsFound : (ℕ → Refusal) → ReadsAndWrites → ReadsAndWrites → (DurableWorld → Option ℕ) → Refusal → Type 0
 TellsFound sort before after found e = (n : ℕ) → e ≡ sort n → (d : DurableWorld) → Agrees d after.reads → found (current before d).world ≡ Some n
 
 -- no object is longer than an object may be
@@ -85,13 +85,13 @@ abbrev pub AreShort : DurableWorld → Type 0
 AreShort world = (id : ObjectId) (object : Object) → get world.objects id ≡ Some object → is_too_long object.bytes ≡ false
 
 -- no refusal is over a length, in a world where no object was too long before
-abbrev pub NeverTooLong : Logged → Logged → Refusal → Type 0
+abbrev pub NeverTooLong : ReadsAndWrites → ReadsAndWrites → Refusal → Type 0
 NeverTooLong before after e = (n : ℕ) → e ≡ refusal.TooLong n → (d : DurableWorld) → Agrees d after.reads → AreShort (current before d).world → ⊥
 
 -- the id names a channel's record, in every world that agrees with later reads
-abbrev pub IsChannel : Logged → Logged → ObjectId → Type 0
+abbrev pub IsChannel : ReadsAndWrites → ReadsAndWrites → ObjectId → Type 0
 IsChannel before after id = (d : DurableWorld) → Agrees d after.reads → kind_at (Some id) (current before d).world ≡ Some CHANNEL_KIND
 
 -- what is found of the members is found of those from this place on
-abbrev pub FoundLater : (Session → DurableWorld → Option ℕ) → Logged → Logged → List Session → ℕ → Type 0
+abbrev pub FoundLater : (Session → DurableWorld → Option ℕ) → ReadsAndWrites → ReadsAndWrites → List Session → ℕ → Type 0
 FoundLater find before after members i = (d : DurableWorld) → Agrees d after.reads → first_of find members (current before d).world ≡ first_of find (drop i members) (current after d).world

@@ -51,9 +51,9 @@ pub fn create_channel<V: View>(
     delivery: Delivery,
 ) -> Result<Channel, Refusal>
     ensures does { Does V.sights refusal_fault txn.old txn.new (acts.create_channel name.now listener delivery) result }
-    ensures refused { OnErr result (SameChanges txn.old.log txn.new.log) }
-    ensures same_mode { txn.new.log.mode ≡ txn.old.log.mode }
-    ensures length { IfErr result (TellsLengthIn txn.new.log (channel_name name.now)) }
+    ensures refused { OnErr result (SameChanges txn.old.set txn.new.set) }
+    ensures same_mode { txn.new.set.mode ≡ txn.old.set.mode }
+    ensures length { IfErr result (TellsLengthIn txn.new.set (channel_name name.now)) }
 {
     let channel = Channel {
         name: name.clone()?,
@@ -70,9 +70,9 @@ fn open_channel<V: View>(
     delivery: Delivery,
 ) -> Result<(), Refusal>
     ensures does { Does V.sights refusal_fault txn.old txn.new (platform.create_channel name.now listener delivery) result }
-    ensures refused { OnErr result (SameChanges txn.old.log txn.new.log) }
-    ensures same_mode { txn.new.log.mode ≡ txn.old.log.mode }
-    ensures length { IfErr result (TellsLengthIn txn.new.log (channel_name name.now)) }
+    ensures refused { OnErr result (SameChanges txn.old.set txn.new.set) }
+    ensures same_mode { txn.new.set.mode ≡ txn.old.set.mode }
+    ensures length { IfErr result (TellsLengthIn txn.new.set (channel_name name.now)) }
 {
     let before = txn.set_mode(Mode::Platform);
     let end = make_channel(alloc, txn, name, listener, delivery);
@@ -87,10 +87,10 @@ fn make_channel<V: View>(
     listener: bool,
     delivery: Delivery,
 ) -> Result<(), Refusal>
-    requires { txn.old.log.mode ≡ mode.Platform }
+    requires { txn.old.set.mode ≡ mode.Platform }
     ensures does { Does V.sights refusal_fault txn.old txn.new (platform.new_channel name.now listener delivery) result }
-    ensures refused { OnErr result (SameChanges txn.old.log txn.new.log) }
-    ensures length { IfErr result (TellsLengthIn txn.new.log (channel_name name.now)) }
+    ensures refused { OnErr result (SameChanges txn.old.set txn.new.set) }
+    ensures length { IfErr result (TellsLengthIn txn.new.set (channel_name name.now)) }
 {
     let key = match key_of(alloc, name)? {
         None => return Err(name_too_long(name)),
@@ -110,10 +110,10 @@ fn record_under<V: View>(
     listener: bool,
     delivery: Delivery,
 ) -> Result<(), Refusal>
-    requires { txn.old.log.mode ≡ mode.Platform }
+    requires { txn.old.set.mode ≡ mode.Platform }
     ensures does { Does V.sights refusal_fault txn.old txn.new (acts.recording key.now listener delivery) result }
-    ensures refused { OnErr result (SameChanges txn.old.log txn.new.log) }
-    ensures length { (bytes : List ℕ) → IfErr result (TellsLengthIn txn.new.log bytes) }
+    ensures refused { OnErr result (SameChanges txn.old.set txn.new.set) }
+    ensures length { (bytes : List ℕ) → IfErr result (TellsLengthIn txn.new.set bytes) }
 {
     let record = ChannelRecord {
         listener,
@@ -132,7 +132,7 @@ pub fn recorded<V: View>(
 ) -> Result<Option<ObjectId>, Refusal>
     ensures does { Does V.sights refusal_fault txn.old txn.new (acts.recorded name.now) result }
     ensures asks { Asks (ask.Bound (channel_name name.now)) V.sights txn.old txn.new }
-    ensures same_changes { SameChanges txn.old.log txn.new.log }
+    ensures same_changes { SameChanges txn.old.set txn.new.set }
 {
     match key_of(alloc, name)? {
         None => Ok(None),
@@ -148,8 +148,8 @@ pub fn get_channel<V: View>(
 ) -> Result<Channel, Refusal>
     ensures does { Does V.sights refusal_fault txn.old txn.new (acts.get_channel name.now) result }
     ensures asks { Asks (ask.Bound (channel_name name.now)) V.sights txn.old txn.new }
-    ensures refused { OnErr result (SameChanges txn.old.log txn.new.log) }
-    ensures length { IfErr result (TellsLengthIn txn.new.log (channel_name name.now)) }
+    ensures refused { OnErr result (SameChanges txn.old.set txn.new.set) }
+    ensures length { IfErr result (TellsLengthIn txn.new.set (channel_name name.now)) }
 {
     let channel = Channel {
         name: name.clone()?,
@@ -161,8 +161,8 @@ pub fn get_channel<V: View>(
 fn find_channel<V: View>(alloc: Global, txn: &mut Txn<'_, V>, name: &Name) -> Result<(), Refusal>
     ensures does { Does V.sights refusal_fault txn.old txn.new (platform.get_channel name.now) result }
     ensures asks { Asks (ask.Bound (channel_name name.now)) V.sights txn.old txn.new }
-    ensures refused { OnErr result (SameChanges txn.old.log txn.new.log) }
-    ensures length { IfErr result (TellsLengthIn txn.new.log (channel_name name.now)) }
+    ensures refused { OnErr result (SameChanges txn.old.set txn.new.set) }
+    ensures length { IfErr result (TellsLengthIn txn.new.set (channel_name name.now)) }
 {
     match key_of(alloc, name)? {
         None => Err(name_too_long(name)),
@@ -180,9 +180,9 @@ pub fn record_of<V: View>(
     name: &Name,
 ) -> Result<(ManagedRef<ChannelRecord>, ChannelRecord), Refusal>
     ensures does { Does V.sights refusal_fault txn.old txn.new (platform.channel_under name.now) result }
-    ensures asks { AsksOf (IsOfRecord txn.old.log txn.new.log (channel_name name.now)) V.sights txn.old txn.new }
-    ensures same_changes { SameChanges txn.old.log txn.new.log }
-    ensures kind { IfErr result (TellsKindOf txn.new.log (kind_under (channel_name name.now))) }
+    ensures asks { AsksOf (IsOfRecord txn.old.set txn.new.set (channel_name name.now)) V.sights txn.old txn.new }
+    ensures same_changes { SameChanges txn.old.set txn.new.set }
+    ensures kind { IfErr result (TellsKindOf txn.new.set (kind_under (channel_name name.now))) }
 {
     match recorded(alloc, txn, name)? {
         None => Err(Refusal::NameNotBound),
@@ -201,9 +201,9 @@ pub fn members<V: View>(
     channel: &Channel,
 ) -> Result<Listed<Session>, Refusal>
     ensures does { Does V.sights refusal_fault txn.old txn.new (platform.members channel.now.name) result }
-    ensures asks { AsksOf (IsOfRecord txn.old.log txn.new.log (channel_name channel.now.name)) V.sights txn.old txn.new }
-    ensures same_changes { SameChanges txn.old.log txn.new.log }
-    ensures kind { IfErr result (TellsKindOf txn.new.log (kind_under (channel_name channel.now.name))) }
+    ensures asks { AsksOf (IsOfRecord txn.old.set txn.new.set (channel_name channel.now.name)) V.sights txn.old txn.new }
+    ensures same_changes { SameChanges txn.old.set txn.new.set }
+    ensures kind { IfErr result (TellsKindOf txn.new.set (kind_under (channel_name channel.now.name))) }
 {
     let (_, record) = record_of(alloc, txn, &channel.name)?;
     Ok(record.members)

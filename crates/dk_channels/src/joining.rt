@@ -26,10 +26,10 @@ pub fn join<V: View>(
     session: &Session,
 ) -> Result<(), Refusal>
     ensures does { Does V.sights refusal_fault txn.old txn.new (platform.join channel.now.name session.now) result }
-    ensures refused { OnErr result (SameChanges txn.old.log txn.new.log) }
-    ensures same_mode { txn.new.log.mode ≡ txn.old.log.mode }
-    ensures kind { IfErr result (TellsKindOf txn.new.log (kind_of_records channel.now.name session.now)) }
-    ensures length { IfErr result (TellsLengthOf txn.old.log txn.new.log (records_after joined channel.now.name session.now)) }
+    ensures refused { OnErr result (SameChanges txn.old.set txn.new.set) }
+    ensures same_mode { txn.new.set.mode ≡ txn.old.set.mode }
+    ensures kind { IfErr result (TellsKindOf txn.new.set (kind_of_records channel.now.name session.now)) }
+    ensures length { IfErr result (TellsLengthOf txn.old.set txn.new.set (records_after joined channel.now.name session.now)) }
 {
     let before = txn.set_mode(Mode::Platform);
     let end = enter(alloc, txn, &channel.name, session);
@@ -43,11 +43,11 @@ fn enter<V: View>(
     name: &Name,
     session: &Session,
 ) -> Result<(), Refusal>
-    requires { txn.old.log.mode ≡ mode.Platform }
+    requires { txn.old.set.mode ≡ mode.Platform }
     ensures does { Does V.sights refusal_fault txn.old txn.new (act.and_then (platform.channel_under name.now) (λ c. act.and_then (platform.own_record session.now) (λ r. platform.join_records name.now session.now c r))) result }
-    ensures refused { OnErr result (SameChanges txn.old.log txn.new.log) }
-    ensures kind { IfErr result (TellsKindOf txn.new.log (kind_of_records name.now session.now)) }
-    ensures length { IfErr result (TellsLengthOf txn.old.log txn.new.log (records_after joined name.now session.now)) }
+    ensures refused { OnErr result (SameChanges txn.old.set txn.new.set) }
+    ensures kind { IfErr result (TellsKindOf txn.new.set (kind_of_records name.now session.now)) }
+    ensures length { IfErr result (TellsLengthOf txn.old.set txn.new.set (records_after joined name.now session.now)) }
 {
     let channel = record_of(alloc, txn, name)?;
     let own = own_record(alloc, txn, session)?;
@@ -62,11 +62,11 @@ fn join_records<V: View>(
     channel: (ManagedRef<ChannelRecord>, ChannelRecord),
     own: (ManagedRef<SessionRecord>, SessionRecord),
 ) -> Result<(), Refusal>
-    requires platform { txn.old.log.mode ≡ mode.Platform }
-    requires stand { Stands txn.old.log channel.0 × Stands txn.old.log own.0 }
+    requires platform { txn.old.set.mode ≡ mode.Platform }
+    requires stand { Stands txn.old.set channel.0 × Stands txn.old.set own.0 }
     ensures does { Does V.sights refusal_fault txn.old txn.new (platform.join_records name.now session.now channel own) result }
-    ensures refused { OnErr result (SameChanges txn.old.log txn.new.log) }
-    ensures length { IfErr result (TellsLengthIn txn.new.log (joined name.now session.now channel.1 own.1)) }
+    ensures refused { OnErr result (SameChanges txn.old.set txn.new.set) }
+    ensures length { IfErr result (TellsLengthIn txn.new.set (joined name.now session.now channel.1 own.1)) }
 {
     if is_member(session, channel.1.members.as_slice()) {
         return Ok(());

@@ -31,10 +31,10 @@ pub fn leave<V: View>(
     session: &Session,
 ) -> Result<(), Refusal>
     ensures does { Does V.sights refusal_fault txn.old txn.new (platform.leave channel.now.name session.now) result }
-    ensures refused { OnErr result (SameChanges txn.old.log txn.new.log) }
-    ensures same_mode { txn.new.log.mode ≡ txn.old.log.mode }
-    ensures kind { IfErr result (TellsKindOf txn.new.log (kind_of_records channel.now.name session.now)) }
-    ensures length { IfErr result (TellsLengthOf txn.old.log txn.new.log (records_after left channel.now.name session.now)) }
+    ensures refused { OnErr result (SameChanges txn.old.set txn.new.set) }
+    ensures same_mode { txn.new.set.mode ≡ txn.old.set.mode }
+    ensures kind { IfErr result (TellsKindOf txn.new.set (kind_of_records channel.now.name session.now)) }
+    ensures length { IfErr result (TellsLengthOf txn.old.set txn.new.set (records_after left channel.now.name session.now)) }
 {
     let before = txn.set_mode(Mode::Platform);
     let end = step_out(alloc, txn, &channel.name, session);
@@ -48,11 +48,11 @@ fn step_out<V: View>(
     name: &Name,
     session: &Session,
 ) -> Result<(), Refusal>
-    requires { txn.old.log.mode ≡ mode.Platform }
+    requires { txn.old.set.mode ≡ mode.Platform }
     ensures does { Does V.sights refusal_fault txn.old txn.new (act.and_then (platform.channel_under name.now) (λ c. act.and_then (platform.own_record session.now) (λ r. platform.leave_records name.now session.now c r))) result }
-    ensures refused { OnErr result (SameChanges txn.old.log txn.new.log) }
-    ensures kind { IfErr result (TellsKindOf txn.new.log (kind_of_records name.now session.now)) }
-    ensures length { IfErr result (TellsLengthOf txn.old.log txn.new.log (records_after left name.now session.now)) }
+    ensures refused { OnErr result (SameChanges txn.old.set txn.new.set) }
+    ensures kind { IfErr result (TellsKindOf txn.new.set (kind_of_records name.now session.now)) }
+    ensures length { IfErr result (TellsLengthOf txn.old.set txn.new.set (records_after left name.now session.now)) }
 {
     let channel = record_of(alloc, txn, name)?;
     let own = own_record(alloc, txn, session)?;
@@ -67,11 +67,11 @@ fn leave_records<V: View>(
     channel: (ManagedRef<ChannelRecord>, ChannelRecord),
     own: (ManagedRef<SessionRecord>, SessionRecord),
 ) -> Result<(), Refusal>
-    requires platform { txn.old.log.mode ≡ mode.Platform }
-    requires stand { Stands txn.old.log channel.0 × Stands txn.old.log own.0 }
+    requires platform { txn.old.set.mode ≡ mode.Platform }
+    requires stand { Stands txn.old.set channel.0 × Stands txn.old.set own.0 }
     ensures does { Does V.sights refusal_fault txn.old txn.new (platform.leave_records name.now session.now channel own) result }
-    ensures refused { OnErr result (SameChanges txn.old.log txn.new.log) }
-    ensures length { IfErr result (TellsLengthIn txn.new.log (left name.now session.now channel.1 own.1)) }
+    ensures refused { OnErr result (SameChanges txn.old.set txn.new.set) }
+    ensures length { IfErr result (TellsLengthIn txn.new.set (left name.now session.now channel.1 own.1)) }
 {
     if !is_member(session, channel.1.members.as_slice()) {
         return Ok(());
@@ -98,10 +98,10 @@ pub fn leave_all<V: View>(
     channel: &Channel,
 ) -> Result<(), Refusal>
     ensures does { Does V.sights refusal_fault txn.old txn.new (platform.leave_all channel.now.name) result }
-    ensures same_mode { txn.new.log.mode ≡ txn.old.log.mode }
-    ensures kind { IfErr result (TellsFound refusal.WrongKind txn.old.log txn.new.log (kind_of_all channel.now.name)) }
-    ensures length { IfErr result (TellsFound refusal.TooLong txn.old.log txn.new.log (length_of_all channel.now.name)) }
-    ensures never { IfErr result (NeverTooLong txn.old.log txn.new.log) }
+    ensures same_mode { txn.new.set.mode ≡ txn.old.set.mode }
+    ensures kind { IfErr result (TellsFound refusal.WrongKind txn.old.set txn.new.set (kind_of_all channel.now.name)) }
+    ensures length { IfErr result (TellsFound refusal.TooLong txn.old.set txn.new.set (length_of_all channel.now.name)) }
+    ensures never { IfErr result (NeverTooLong txn.old.set txn.new.set) }
 {
     let before = txn.set_mode(Mode::Platform);
     let end = empty_out(alloc, txn, &channel.name);
@@ -111,8 +111,8 @@ pub fn leave_all<V: View>(
 
 fn empty_out<V: View>(alloc: Global, txn: &mut Txn<'_, V>, name: &Name) -> Result<(), Refusal>
     ensures does { Does V.sights refusal_fault txn.old txn.new (act.and_then (platform.channel_under name.now) (λ c. platform.leave_members name.now c c.1.members)) result }
-    ensures kind { IfErr result (TellsFound refusal.WrongKind txn.old.log txn.new.log (kind_of_all name.now)) }
-    ensures length { IfErr result (TellsFound refusal.TooLong txn.old.log txn.new.log (length_of_all name.now)) }
+    ensures kind { IfErr result (TellsFound refusal.WrongKind txn.old.set txn.new.set (kind_of_all name.now)) }
+    ensures length { IfErr result (TellsFound refusal.TooLong txn.old.set txn.new.set (length_of_all name.now)) }
 {
     let channel = record_of(alloc, txn, name)?;
     leave_members(alloc, txn, name, channel)
@@ -137,8 +137,8 @@ fn leave_members<V: View>(
     channel: (ManagedRef<ChannelRecord>, ChannelRecord),
 ) -> Result<(), Refusal>
     ensures does { Does V.sights refusal_fault txn.old txn.new (platform.leave_members name.now channel channel.1.members) result }
-    ensures kind { IfErr result (TellsFound refusal.WrongKind txn.old.log txn.new.log (first_of wrong_kind_of channel.1.members)) }
-    ensures length { IsChannel txn.old.log txn.new.log channel.0 → IfErr result (TellsFound refusal.TooLong txn.old.log txn.new.log (first_of (long_record_of name.now) channel.1.members)) }
+    ensures kind { IfErr result (TellsFound refusal.WrongKind txn.old.set txn.new.set (first_of wrong_kind_of channel.1.members)) }
+    ensures length { IsChannel txn.old.set txn.new.set channel.0 → IfErr result (TellsFound refusal.TooLong txn.old.set txn.new.set (first_of (long_record_of name.now) channel.1.members)) }
 {
     let (place, record) = channel;
     let members = record.members;
@@ -157,8 +157,8 @@ fn drop_each<V: View>(
     members: &[Session],
 ) -> Result<(), Refusal>
     ensures does { Does V.sights refusal_fault txn.old txn.new (platform.drop_each name.now members.now) result }
-    ensures kind { IfErr result (TellsFound refusal.WrongKind txn.old.log txn.new.log (first_of wrong_kind_of members.now)) }
-    ensures length { IfErr result (TellsFound refusal.TooLong txn.old.log txn.new.log (first_of (long_record_of name.now) members.now)) }
+    ensures kind { IfErr result (TellsFound refusal.WrongKind txn.old.set txn.new.set (first_of wrong_kind_of members.now)) }
+    ensures length { IfErr result (TellsFound refusal.TooLong txn.old.set txn.new.set (first_of (long_record_of name.now) members.now)) }
 {
     for member in members {
         drop_channel(alloc, txn, name, member)?;
@@ -174,8 +174,8 @@ fn drop_channel<V: View>(
     session: &Session,
 ) -> Result<(), Refusal>
     ensures does { Does V.sights refusal_fault txn.old txn.new (platform.drop_channel name.now session.now) result }
-    ensures kind { IfErr result (TellsFound refusal.WrongKind txn.old.log txn.new.log (wrong_kind_of session.now)) }
-    ensures length { IfErr result (TellsFound refusal.TooLong txn.old.log txn.new.log (long_record_of name.now session.now)) }
+    ensures kind { IfErr result (TellsFound refusal.WrongKind txn.old.set txn.new.set (wrong_kind_of session.now)) }
+    ensures length { IfErr result (TellsFound refusal.TooLong txn.old.set txn.new.set (long_record_of name.now session.now)) }
 {
     match record_if_connected(alloc, txn, session)? {
         None => Ok(()),

@@ -40,11 +40,11 @@ pub(crate) fn save_both<V: View>(
     channel: (ManagedRef<ChannelRecord>, ChannelRecord),
     session: (ManagedRef<SessionRecord>, SessionRecord),
 ) -> Result<(), Refusal>
-    requires platform { txn.old.log.mode ≡ mode.Platform }
-    requires stand { Stands txn.old.log channel.0 × Stands txn.old.log session.0 }
+    requires platform { txn.old.set.mode ≡ mode.Platform }
+    requires stand { Stands txn.old.set channel.0 × Stands txn.old.set session.0 }
     ensures does { Does V.sights refusal_fault txn.old txn.new (platform.save_both channel.0 (channel_bytes channel.1) session.0 (session_bytes session.1)) result }
-    ensures refused { OnErr result (SameChanges txn.old.log txn.new.log) }
-    ensures length { IfErr result (TellsLengthIn txn.new.log (too_long_of (channel_bytes channel.1) (session_bytes session.1))) }
+    ensures refused { OnErr result (SameChanges txn.old.set txn.new.set) }
+    ensures length { IfErr result (TellsLengthIn txn.new.set (too_long_of (channel_bytes channel.1) (session_bytes session.1))) }
 {
     let first = channel.1.encode(alloc)?;
     let second = session.1.encode(alloc)?;

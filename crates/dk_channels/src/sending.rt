@@ -29,11 +29,11 @@ pub fn send<V: View>(
     body: &Blob,
 ) -> Result<(), Refusal>
     ensures does { Does V.sights refusal_fault txn.old txn.new (platform.channel_send channel.now.name (option_copied sender.entry) body.now) result }
-    ensures asks { AsksOf (IsOfRecord txn.old.log txn.new.log (channel_name channel.now.name)) V.sights txn.old txn.new }
-    ensures refused { OnErr result (SameChanges txn.old.log txn.new.log) }
-    ensures same_mode { txn.new.log.mode ≡ txn.old.log.mode }
-    ensures kind { IfErr result (TellsKindOf txn.new.log (kind_under (channel_name channel.now.name))) }
-    ensures length { IfErr result (TellsLengthIn txn.new.log body.now) }
+    ensures asks { AsksOf (IsOfRecord txn.old.set txn.new.set (channel_name channel.now.name)) V.sights txn.old txn.new }
+    ensures refused { OnErr result (SameChanges txn.old.set txn.new.set) }
+    ensures same_mode { txn.new.set.mode ≡ txn.old.set.mode }
+    ensures kind { IfErr result (TellsKindOf txn.new.set (kind_under (channel_name channel.now.name))) }
+    ensures length { IfErr result (TellsLengthIn txn.new.set body.now) }
 {
     let (_, record) = record_of(alloc, txn, &channel.name)?;
     if is_too_long(body) {
@@ -82,8 +82,8 @@ fn send_each<V: View>(
     requires { act.is_too_long body.now ≡ false }
     ensures does { Does V.sights refusal_fault txn.old txn.new (platform.send_each members.now (out.Channel channel.now body.now)) result }
     ensures asks { AsksNothing txn.old txn.new }
-    ensures refused { OnErr result (SameChanges txn.old.log txn.new.log) }
-    ensures same_mode { txn.new.log.mode ≡ txn.old.log.mode }
+    ensures refused { OnErr result (SameChanges txn.old.set txn.new.set) }
+    ensures same_mode { txn.new.set.mode ≡ txn.old.set.mode }
 {
     if !txn.has_room_for(members.len() as u64) {
         return Err(Refusal::TooMany);

@@ -1,14 +1,18 @@
 // What the calls answer.
 
 use dk_types::{Listed, NoMemory, Out};
+use thiserror::Error;
 
 /// Why an input was not taken. The first cause in this order is told.
-#[derive(Clone, Copy, Debug, PartialEq, Eq)]
+#[derive(Clone, Copy, Debug, PartialEq, Eq, Error)]
 pub enum PostRefused {
     /// The connection is not there, or takes no more.
+    #[error("the connection takes no more")]
     Closed,
     /// As many inputs wait as may wait; `waiting` is how many.
+    #[error("{waiting} inputs wait already")]
     QueueFull { waiting: u64 },
+    #[error("out of memory")]
     NoMemory,
 }
 

@@ -18,7 +18,7 @@ use Rattle.dk_model.specs.DurableWorlds.{DurableWorld, Agrees, answer}
 use Rattle.dk_model.specs.Worlds.{World, Claim}
 use Rattle.dk_model.specs.Deliveries.{delivered, without_done}
 use Rattle.dk_model.specs.Events.{Meaning, step_of}
-use Rattle.dk_model.specs.Finishes.{told_step, IsHonest}
+use Rattle.dk_model.specs.Finishes.{step_report, IsHonest}
 use Rattle.dk_model.specs.Histories.{Leads}
 use Rattle.dk_model.specs.Lawful.{AreLawful}
 use Rattle.dk_model.specs.Openings.{opening}
@@ -34,7 +34,7 @@ use Rattle.dk_laws.proofs.Stamps.{seen_alike}
 use Rattle.dk_tasks.specs.Tasks.{Kept}
 use Rattle.dk_tasks.proofs.Durable.{get-durable}
 use Rattle.dk_txn.specs.declared.finished.Finished.{Finished}
-use Rattle.dk_txn.specs.Finishes.{told}
+use Rattle.dk_txn.specs.Finishes.{report}
 use Rattle.dk_connections.specs.MarkedConnections.{ConnectionStore, all_of, IsSwept, KeepsMarksBut}
 use Rattle.dk_core.specs.StampedWorlds.{Stamped, Room, with_room, durable_of, seen_now}
 use Rattle.dk_core.specs.Changes.{Stands}
@@ -85,7 +85,7 @@ module _ (rules : Meaning) (lawful : AreLawful rules) (d : DurableWorld) (budget
     s_of = step_of rules (world_of old) run claim
 
     -- an honest run whose reads stand tells what it steps
-    pub tells : (f : Finished) → IsHonest rules o events claim.job run claim.at f.reads.items (told f) → AllByRecursion (Stands old.world) f.reads.items → told f ≡ told_step (durable_of old.world) s_of
+    pub tells : (f : Finished) → IsHonest rules o events claim.job run claim.at f.reads.items (report f) → AllByRecursion (Stands old.world) f.reads.items → report f ≡ step_report (durable_of old.world) s_of
     tells f honest stand =
         let ready = claims_ready rules d budget events (world_of old) run claim lawful s.valid s.within s.leads held in
         honest.law.keeps (durable_of old.world) (sound_of rules lawful d budget events old s).valid (agrees_now run f.reads.items honest.honest stand) ready.0 ready.2
@@ -113,7 +113,7 @@ with_run_ended c world claims numbers = record c { world = world; claims = claim
 module _ (old : Core) (claimed : Claimed) (f : Finished) (seq : ℕ) (mid : Stamped) (claims : Claiming) (ended_numbers : HasNumbers mid.commits claims old.connections.connections) (freed : Core) (shown : ConnectionStore)
     (numbers : HasNumbers freed.world.commits freed.claims shown.connections) (messages : List (ConnNo × Out)) where
   pub commits : IsGranted old claimed → AllByRecursion (Stands old.world) f.reads.items → messages ≡ f.outs.items
-      → seq ≡ old.world.commits + 1 → CommitsSteps old.world mid claimed.run (told f) → claims ≡ without_run claimed.run old.claims → IsTaskFreed claimed.job (with_run_ended old mid claims ended_numbers) freed
+      → seq ≡ old.world.commits + 1 → CommitsSteps old.world mid claimed.run (report f) → claims ≡ without_run claimed.run old.claims → IsTaskFreed claimed.job (with_run_ended old mid claims ended_numbers) freed
       → all_of shown.connections ≡ without_done (delivered claimed.job messages (all_of freed.connections.connections)) → KeepsMarksBut claimed.job freed.connections.connections shown.connections → IsSwept shown.connections
       → Commits old (with_connections freed shown numbers) claimed f seq
   commits held stand sent number steps ended t connected marks swept rules d budget events lawful honest s =

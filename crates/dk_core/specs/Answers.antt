@@ -19,7 +19,7 @@ use Rattle.dk_model.specs.Lawful.{AreLawful}
 use Rattle.dk_model.specs.Finishes.{IsHonest}
 use Rattle.dk_model.specs.Retries.{IsFirstStale}
 use Rattle.dk_txn.specs.declared.finished.Finished.{Finished}
-use Rattle.dk_txn.specs.Finishes.{told}
+use Rattle.dk_txn.specs.Finishes.{report}
 use Rattle.dk_connections.specs.declared.answers.PostRefused.{PostRefused}
 use Rattle.dk_connections.specs.declared.answers.PostRefused.TheVariants as post_refused
 use Rattle.dk_connections.specs.declared.answers.Handed.{Handed}
@@ -102,7 +102,7 @@ Prepares old new claimed f (Err refused) = TellsRefused old f refused
 abbrev pub Commits : Core → Core → Claimed → Finished → ℕ → Type 0
 Commits old new claimed f seq =
     (rules : Meaning) (d : DurableWorld) (budget : Option ℕ) (events : List Event) → AreLawful rules
-    → IsHonest rules (opening d budget) events claimed.job claimed.run claimed.at f.reads.items (told f)
+    → IsHonest rules (opening d budget) events claimed.job claimed.run claimed.at f.reads.items (report f)
     → Extends rules d budget events old new (event.Commit claimed.pass claimed.run seq f.outcome ∷ [])
 
 -- both in one: where it is refused the claim is handed back, and stands

@@ -16,7 +16,7 @@ use Rattle.dk_model.specs.Effects.{same_id}
 use Rattle.dk_model.specs.Lawful.{Lacks}
 use Rattle.dk_model.specs.Sights.{same_item, same_key, stamped_by}
 use Rattle.dk_model.specs.Steps.{Stepped}
-use Rattle.dk_model.specs.Finishes.{Told, told_step}
+use Rattle.dk_model.specs.Finishes.{Report, step_report}
 use Rattle.dk_laws.specs.EffectsLaw.{DifferInDue}
 use Rattle.dk_tasks.specs.Tasks.{Kept}
 use Rattle.dk_core.specs.StampedWorlds.{Stamped, durable_of, stamp_in, HasStamps}
@@ -67,5 +67,5 @@ pub record ComesTo (old new : Stamped) (s : Stepped) : Type 0 where
   pub claims : (key : TaskKey) (t : Kept) → get new.tasks key ≡ Some t → t.claimed ≡ claimed_at (get old.tasks key)
 
 -- a run that tells what a step does that may be committed next leaves what that step leaves
-abbrev pub CommitsSteps : Stamped → Stamped → RunNo → Told → Type 0
-CommitsSteps old new run told = (s : Stepped) → StepsFrom (durable_of old) run s → told ≡ told_step (durable_of old) s → ComesTo old new s
+abbrev pub CommitsSteps : Stamped → Stamped → RunNo → Report → Type 0
+CommitsSteps old new run told = (s : Stepped) → StepsFrom (durable_of old) run s → told ≡ step_report (durable_of old) s → ComesTo old new s

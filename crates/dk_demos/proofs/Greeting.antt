@@ -5,7 +5,7 @@ use Rattle.dk_types.specs.declared.item.Item.{Item}
 use Rattle.dk_types.specs.declared.item.Read.{Read}
 use Rattle.dk_types.specs.declared.fault.AppFault.TheVariants.{Refused}
 use Rattle.dk_model.specs.Runs.{Run, and_then, refuse, TOO_LONG}
-use Rattle.dk_overlay.specs.Logged.{Logged}
+use Rattle.dk_overlay.specs.ReadsAndWrites.{ReadsAndWrites}
 use Rattle.dk_txn.specs.Current.{current}
 use Rattle.dk_txn.specs.Bindings.{binding}
 use Rattle.dk_txn.specs.declared.txn.Txn.{Txn}
@@ -23,5 +23,5 @@ unfolding known binding and_then
 known_as conn name s = refl
 
 -- a name that would be too long is refused
-pub turned_away : {S A : Type 0} {sights : Sights S} {a : Txn S Logged} → Does sights halt_fault a a (refuse {A = A} TOO_LONG) (Err (halt.Fault (Refused TOO_LONG)))
-turned_away {a = a} = record { keeps = keeps_all; does = λ s t d agrees. ap (λ r. (r, current a.log d)) (Some_injective _ _ t) }
+pub turned_away : {S A : Type 0} {sights : Sights S} {a : Txn S ReadsAndWrites} → Does sights halt_fault a a (refuse {A = A} TOO_LONG) (Err (halt.Fault (Refused TOO_LONG)))
+turned_away {a = a} = record { keeps = keeps_all; does = λ s t d agrees. ap (λ r. (r, current a.set d)) (Some_injective _ _ t) }

@@ -21,7 +21,7 @@ use Rattle.dk_model.specs.Deliveries.{Connections, change_connection, conn_of, f
 use Rattle.dk_model.specs.Picks.{pick}
 use Rattle.dk_model.specs.Events.{Meaning, Happens, swept, is_open, has_no_place, put_last, is_task, outbox, step_of}
 use Rattle.dk_model.specs.Openings.{opening, login_of, session_at, first_of_each, with_sessions}
-use Rattle.dk_model.specs.Finishes.{Told}
+use Rattle.dk_model.specs.Finishes.{Report}
 use Rattle.dk_model.proofs.Maps.{runs_total, exact_runs, conns_total, exact_conns}
 use Rattle.dk_examples.specs.Worked.{run, conn, Runs}
 use Rattle.dk_examples.specs.HistoryRows.{world, claim, connect}
@@ -91,7 +91,7 @@ module _ (rules : Meaning) (d : DurableWorld) (m n : ℕ) (t : Bool) (cs : List 
   claims j cs' ks' picked lt c k s u = (picked, refl, lt, refl, refl, is_world d m (n + 1) (is_task j) _ _ cs' ks' c k s u)
 
   -- a commit of a claimed run that tells this
-  pub commits : (number : ℕ) (c : Claim) (told : Told) (d' : DurableWorld) (cs' : List (RunNo × Claim)) (ks' : List (ConnNo × Connection)) → get from.claims (run number) ≡ Some c → 0 ≡ c.pass
+  pub commits : (number : ℕ) (c : Claim) (told : Report) (d' : DurableWorld) (cs' : List (RunNo × Claim)) (ks' : List (ConnNo × Connection)) → get from.claims (run number) ≡ Some c → 0 ≡ c.pass
       → Runs rules c.job (run number) c.at d told d' → entries (remove from.claims (run number)) ≡ cs' → entries (without_done (delivered c.job told.outs from.connections)) ≡ ks'
       → is_sorted run_cmp cs' ≡ true → is_sorted conn_cmp ks' ≡ true
       → Happens rules from (event.Commit 0 (run number) (d.commits + 1) told.outcome) (world d' m n t cs' ks')
@@ -101,9 +101,9 @@ module _ (rules : Meaning) (d : DurableWorld) (m n : ℕ) (t : Bool) (cs : List 
         held,
         mine,
         refl,
-        sym (ap (λ (x : Told). x.outcome) runs.tells),
+        sym (ap (λ (x : Report). x.outcome) runs.tells),
         is_world d' m n t _ _ cs' ks' cut kept s u
-            ∙ (λ i. swept (record from { durable = sym runs.leaves i; claims = remove from.claims (run number); connections = delivered c.job (sym (ap (λ (x : Told). x.outs) runs.tells) i) from.connections })),
+            ∙ (λ i. swept (record from { durable = sym runs.leaves i; claims = remove from.claims (run number); connections = delivered c.job (sym (ap (λ (x : Report). x.outs) runs.tells) i) from.connections })),
       )
 
   -- a new connection of alice

@@ -24,7 +24,7 @@ use Rattle.dk_model.specs.Effects.{same_id, same_object, same_value, pending_of,
 use Rattle.dk_model.specs.Runs.{Run, begun}
 use Rattle.dk_model.specs.Steps.{Stepped, work, game_part, kept_by, failed, failed_outs, ended, is_too_large, step}
 use Rattle.dk_model.specs.Events.{Meaning}
-use Rattle.dk_model.specs.Finishes.{told_step}
+use Rattle.dk_model.specs.Finishes.{step_report}
 use Rattle.dk_model.proofs.Maps.{ids_total, exact_ids, keys_total, exact_keys, names_total, exact_names}
 use Rattle.dk_examples.specs.Worked.{Lists, listed, Runs}
 use Rattle.dk_examples.proofs.MadeMaps.{entries-empty, entries-removed, same_made, retained-made, set_in-made, gone_in-made, new_in-made, made_get}
@@ -95,7 +95,7 @@ module _ (rules : Meaning) (j : Job) (n : RunNo) (at : ℕ) (a b : Lists) (c : �
       let fits : is_too_large d s.world ≡ false = ap (λ (x : Effects). nat_lt EFFECTS_MOST_BYTES (effects_length x)) made ∙ small in
       let is : step rules j n at d ≡ done = ap (ended j d start) w ∙ ap (λ b. cond b (failed j start TooLarge) done) fits in
       record {
-        tells = ap (told_step d) is ∙ (λ i. record { outcome = outcome.Ok; effects = made i; touched = s.touched; outs = s.outs });
+        tells = ap (step_report d) is ∙ (λ i. record { outcome = outcome.Ok; effects = made i; touched = s.touched; outs = s.outs });
         leaves = ap (λ (x : Stepped). x.world) is ∙ world;
       }
 
@@ -111,7 +111,7 @@ module _ (rules : Meaning) (j : Job) (n : RunNo) (at : ℕ) (a b : Lists) (c : �
       let done : Stepped = record { outcome = outcome.Fail fault; world = k.world; touched = k.touched; outs = failed_outs j } in
       let is : step rules j n at d ≡ done = ap (ended j d start) w ∙ (λ i. record { outcome = outcome.Fail fault; world = (kept i).world; touched = (kept i).touched; outs = failed_outs j }) in
       record {
-        tells = ap (told_step d) is ∙ (λ i. record { outcome = outcome.Fail fault; effects = made i; touched = k.touched; outs = failed_outs j });
+        tells = ap (step_report d) is ∙ (λ i. record { outcome = outcome.Fail fault; effects = made i; touched = k.touched; outs = failed_outs j });
         leaves = ap (λ (x : Stepped). x.world) is ∙ world;
       }
 

@@ -9,7 +9,7 @@ use Rattle.dk_types.specs.declared.fault.AppFault.TheVariants as fault
 use Rattle.dk_types.specs.declared.fault.Outcome.TheVariants as outcome
 use Rattle.dk_model.specs.Effects.{pending_of}
 use Rattle.dk_model.specs.Events.{Meaning}
-use Rattle.dk_model.specs.Finishes.{Told}
+use Rattle.dk_model.specs.Finishes.{Report}
 use Rattle.dk_examples.specs.Worked.{run, conn, id, key, object, in_eight, in_four, accepting, giving_up, turning_away, making, made_task, Lists, listed, nothing, no_effects, does_nothing, Runs}
 
 -- a login name
@@ -127,7 +127,7 @@ StrangeMessageIsNothing =
     → Runs rules (job.Message (conn 3) alice (codes "look")) (run 5) 0 (listed with_alice 2 (Some (run 2))) does_nothing (listed with_alice 3 (Some (run 5)))
 
 -- a run that takes alice's record away
-abbrev pub takes_away : Told
+abbrev pub takes_away : Report
 takes_away = record {
   outcome = outcome.Ok;
   effects = record no_effects { removed = id 2 0 ∷ []; unbound = alice_record ∷ [] };

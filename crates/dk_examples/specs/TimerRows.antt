@@ -6,7 +6,7 @@ use Rattle.dk_types.specs.declared.item.Item.TheVariants as ask
 use Rattle.dk_types.specs.declared.fault.AppFault.TheVariants as fault
 use Rattle.dk_types.specs.declared.fault.Outcome.TheVariants as outcome
 use Rattle.dk_model.specs.DurableWorlds.{Task, empty_world}
-use Rattle.dk_model.specs.Finishes.{Told}
+use Rattle.dk_model.specs.Finishes.{Report}
 use Rattle.dk_examples.specs.Worked.{run, id, key, object, in_eight, giving_up, Lists, listed, no_effects, does_nothing, Runs}
 use Rattle.dk_examples.specs.TimerGame.{timer_rules, count_name}
 
@@ -34,7 +34,7 @@ abbrev pub occurrence : ℕ → Job
 occurrence due = job.Task (key 0 0) due 100 1 []
 
 -- a run of an occurrence that counts to this number and sets this next due moment
-abbrev pub counts_to : ℕ → ℕ → Told
+abbrev pub counts_to : ℕ → ℕ → Report
 counts_to n next = record {
   outcome = outcome.Ok;
   effects = record no_effects { written = (id 0 0, object 1 (in_eight n)) ∷ []; requeued = (key 0 0, next) ∷ [] };

@@ -16,7 +16,7 @@ use Rattle.dk_model.specs.DurableWorlds.{DurableWorld, Task}
 use Rattle.dk_model.specs.Runs.{Act, give, and_then, create, schedule, send}
 use Rattle.dk_model.specs.Steps.{step}
 use Rattle.dk_model.specs.Events.{Meaning}
-use Rattle.dk_model.specs.Finishes.{Told, told_step}
+use Rattle.dk_model.specs.Finishes.{Report, step_report}
 
 -- a run by its number
 abbrev pub run : ℕ → RunNo
@@ -92,10 +92,10 @@ abbrev pub no_effects : Effects
 no_effects = record { written = []; removed = []; bound = []; unbound = []; added = []; dropped = []; requeued = [] }
 
 -- a run that ends well and does nothing
-abbrev pub does_nothing : Told
+abbrev pub does_nothing : Report
 does_nothing = record { outcome = outcome.Ok; effects = no_effects; touched = []; outs = [] }
 
 -- the job's run on the one world tells this, and leaves the other
-pub record Runs (rules : Meaning) (job : Job) (run : RunNo) (at : ℕ) (before : DurableWorld) (told : Told) (after : DurableWorld) : Type 0 where
-  pub tells : told_step before (step rules job run at before) ≡ told
+pub record Runs (rules : Meaning) (job : Job) (run : RunNo) (at : ℕ) (before : DurableWorld) (told : Report) (after : DurableWorld) : Type 0 where
+  pub tells : step_report before (step rules job run at before) ≡ told
   pub leaves : (step rules job run at before).world ≡ after

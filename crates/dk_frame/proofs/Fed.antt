@@ -6,7 +6,7 @@ use Rattle.dk_frame.specs.declared.frame.ClientFrame.{ClientFrame}
 use Rattle.dk_frame.specs.declared.frame.FrameRefused.{FrameRefused}
 use Rattle.dk_frame.specs.declared.frames.Frames.{Frames}
 use Rattle.dk_frame.specs.Meanings.{frame_of, fault_of, stage_of}
-use Rattle.dk_frame.specs.Fronts.{IsRead, IsToldOf}
+use Rattle.dk_frame.specs.Fronts.{IsRead, IsReportedFault}
 use Rattle.dk_frame.specs.Decoding.{Decoding, HasDecoded, Refuses, following, following_at}
 use Rattle.dk_frame.specs.Behind.{behind}
 use Rattle.dk_frame.proofs.Standing.{stands_on}
@@ -26,7 +26,7 @@ gives_answer items_of (Ok frames) items old piece new gives same = subst (λ (fs
 gives_answer items_of (Err e) items old piece new gives same = tt
 
 -- and where the fault is
-pub refuses_answer : {V : Type 0} (result : Result V FrameRefused) (read : Frames) (old : Decoding) (piece : List ℕ) (new : Decoding) (at : ℕ) → Gives old piece new (map frame_of read.frames.items) → new.at ≡ at → new.fault ≡ option_map fault_of read.fault → IfErr result (IsToldOf read at) → IfErr result (Refuses old piece new)
+pub refuses_answer : {V : Type 0} (result : Result V FrameRefused) (read : Frames) (old : Decoding) (piece : List ℕ) (new : Decoding) (at : ℕ) → Gives old piece new (map frame_of read.frames.items) → new.at ≡ at → new.fault ≡ option_map fault_of read.fault → IfErr result (IsReportedFault read at) → IfErr result (Refuses old piece new)
 refuses_answer (Ok frames) read old piece new at gives place faults told = tt
 refuses_answer (Err e) read old piece new at gives place faults told = subst (Refuses old piece new) (sym told.is) (
   bad,

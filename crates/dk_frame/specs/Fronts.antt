@@ -60,7 +60,7 @@ IsReadOn old bytes read =
     (start : Stage) (before : List ℕ) → AreTaken start before (map frame_of old.frames.items) old.taken (stage_of old.stage) → old.taken ≡ length before → IsRead start (before ++ bytes) read
 
 -- no frame was read, and the bad frame that follows, at this place, is told
-pub record IsToldOf (read : Frames) (at : ℕ) (refused : FrameRefused) : Type 0 where
+pub record IsReportedFault (read : Frames) (at : ℕ) (refused : FrameRefused) : Type 0 where
   pub why : FrameFault
   pub is : refused ≡ BadFrame at why
   pub fault : read.fault ≡ Some why

@@ -1,7 +1,7 @@
 //! All whole frames at the front of bytes.
 ghost use Rattle.std.specs.Prelude.{◌≡◌, ◌+◌, ◌^◌, ◌<◌, ◌≤◌, [], ◌++◌, length, IfOk, IfErr, IfSome, None};
 ghost use Rattle.dk_frame.specs.Meanings.{stage_of};
-ghost use Rattle.dk_frame.specs.Fronts.{IsRead, IsReadOn, IsToldOf};
+ghost use Rattle.dk_frame.specs.Fronts.{IsRead, IsReadOn, IsReportedFault};
 
 use crate::frame::{ClientFrame, FrameFault, FrameRefused};
 use crate::front::Front;
@@ -101,7 +101,7 @@ impl Frames {
     pub(crate) fn answer(self, at: u64) -> Result<Vec<ClientFrame>, FrameRefused>
         ensures frames { IfOk result (λ frames. frames.items ≡ self.frames.items) }
         ensures told { IfOk result (λ frames. frames.items ≡ [] → self.fault ≡ None) }
-        ensures refused { IfErr result (IsToldOf self at) }
+        ensures refused { IfErr result (IsReportedFault self at) }
     {
         match self.fault {
             Some(why) if self.frames.is_empty() => Err(FrameRefused::BadFrame { at, why }),

@@ -15,7 +15,7 @@ use Rattle.dk_model.specs.References.{get_as}
 use Rattle.dk_model.specs.Runs.{Run, Act, and_then, carry_on, give, found, refuse, WRONG_KIND, BAD_BYTES, NAME_NOT_BOUND}
 use Rattle.dk_model.specs.Runs as act
 use Rattle.dk_model.specs.Steps.{channel_found, channel_message, heard}
-use Rattle.dk_overlay.specs.Logged.{Logged}
+use Rattle.dk_overlay.specs.ReadsAndWrites.{ReadsAndWrites}
 use Rattle.dk_txn.specs.Current.{current}
 use Rattle.dk_overlay.proofs.Tests.{Some_injective}
 use Rattle.dk_txn.specs.declared.refusal.Refusal.{Refusal}
@@ -107,20 +107,20 @@ module _ (session : Session) (channel body : List ℕ) (game : Act (Unit {0})) w
   stopped_on W (Some fault) before last other p s t d h =
       message_after (before d) ∙ ap (λ o. after o.0 o.1) (p fault refl d h) ∙ stops_so fault (is_unbound fault) (last d) (other fault refl) ∙ ap (λ r. (r, last d)) (Some_injective _ _ t)
 
-  module _ {S : Type 0} {sights : Sights S} {a b : Txn S Logged} where
+  module _ {S : Type 0} {sights : Sights S} {a b : Txn S ReadsAndWrites} where
     -- there is such a channel
-    pub channel_does : {c : Txn S Logged} {x : ObjectId × ChannelRecord} {r : Result (Unit {0}) Halt}
+    pub channel_does : {c : Txn S ReadsAndWrites} {x : ObjectId × ChannelRecord} {r : Result (Unit {0}) Halt}
         → Does sights refusal_fault a b (channel_under channel) (Ok x) → Does sights halt_fault b c (heard session channel body game x.1) r → Does sights halt_fault a c (channel_message session channel body game) r
     channel_does {x = x} p q = record {
       keeps = keeps_then p.keeps q.keeps;
-      does = λ s t d agrees. message_after (current a.log d) ∙ ap (λ o. after o.0 o.1) (p.does (Ok x) refl d (agreed q.keeps d agrees)) ∙ q.does s t d agrees;
+      does = λ s t d agrees. message_after (current a.set d) ∙ ap (λ o. after o.0 o.1) (p.does (Ok x) refl d (agreed q.keeps d agrees)) ∙ q.does s t d agrees;
     }
 
     -- there is none
     pub channel_none : Does sights refusal_fault a b (channel_under channel) (Err refusal.NameNotBound) → Does sights halt_fault a b (channel_message session channel body game) (Ok tt)
     channel_none p = record {
       keeps = p.keeps;
-      does = λ s t d agrees. message_after (current a.log d) ∙ ap (λ o. after o.0 o.1) (p.does (Err (Refused NAME_NOT_BOUND)) refl d agrees) ∙ ap (λ r. (r, current b.log d)) (Some_injective _ _ t);
+      does = λ s t d agrees. message_after (current a.set d) ∙ ap (λ o. after o.0 o.1) (p.does (Err (Refused NAME_NOT_BOUND)) refl d agrees) ∙ ap (λ r. (r, current b.set d)) (Some_injective _ _ t);
     }
 
     -- the look was refused over something else
@@ -129,5 +129,5 @@ module _ (session : Session) (channel body : List ℕ) (game : Act (Unit {0})) w
     channel_halts {r = Ok x} p other is = absurd is
     channel_halts {e = e} {r = Err h} p other is = record {
       keeps = p.keeps;
-      does = λ s t. stopped_on (λ d. Agrees d b.log.reads) (refusal_fault e) (λ d. current a.log d) (λ d. current b.log d) (λ fault is. other_fault e fault other is) (λ fault is. p.does (Err fault) (ap failure is)) s (ap failure (sym is) ∙ t);
+      does = λ s t. stopped_on (λ d. Agrees d b.set.reads) (refusal_fault e) (λ d. current a.set d) (λ d. current b.set d) (λ fault is. other_fault e fault other is) (λ fault is. p.does (Err fault) (ap failure is)) s (ap failure (sym is) ∙ t);
     }

@@ -9,21 +9,21 @@ use Rattle.dk_model.specs.Events.{Meaning}
 use Rattle.dk_model.specs.Finishes.{KeepsLaw}
 use Rattle.dk_model.specs.Lawful.{IsJob}
 use Rattle.dk_txn.specs.declared.finished.Finished.{Finished}
-use Rattle.dk_overlay.specs.Logged.{Logged, nothing_done}
-use Rattle.dk_txn.specs.Finishes.{told}
+use Rattle.dk_overlay.specs.ReadsAndWrites.{ReadsAndWrites, nothing_done}
+use Rattle.dk_txn.specs.Finishes.{report}
 use Rattle.dk_txn.specs.Asks.{IsAskedOnce}
 use Rattle.dk_txn.specs.Knowing.{HasTaskLimits}
 use Rattle.dk_txn.specs.Law.{IsBegun}
 use Rattle.dk_txn.specs.Sights.{Sights}
 
 -- a transaction as it was begun
-pub begun_so : (t : Logged) (run : RunNo) (at : ℕ) → t ≡ nothing_done run at → IsBegun t
+pub begun_so : (t : ReadsAndWrites) (run : RunNo) (at : ℕ) → t ≡ nothing_done run at → IsBegun t
 begun_so t run at start = start ∙ (λ i. nothing_done ((sym start) i).run ((sym start) i).at)
 
 -- the law of a run that was begun so
-pub law_so : (rules : Meaning) (j : Job) (run : RunNo) (at : ℕ) (t : Logged) (result : Result Finished NoMemory) → t ≡ nothing_done run at
-    → IfOk result (λ f. KeepsLaw rules j t.run t.at f.reads.items (told f)) → IfOk result (λ f. KeepsLaw rules j run at f.reads.items (told f))
-law_so rules j run at t (Ok f) start law = subst (λ (l : Logged). KeepsLaw rules j l.run l.at f.reads.items (told f)) start law
+pub law_so : (rules : Meaning) (j : Job) (run : RunNo) (at : ℕ) (t : ReadsAndWrites) (result : Result Finished NoMemory) → t ≡ nothing_done run at
+    → IfOk result (λ f. KeepsLaw rules j t.run t.at f.reads.items (report f)) → IfOk result (λ f. KeepsLaw rules j run at f.reads.items (report f))
+law_so rules j run at t (Ok f) start law = subst (λ (l : ReadsAndWrites). KeepsLaw rules j l.run l.at f.reads.items (report f)) start law
 law_so rules j run at t (Err e) start law = tt
 
 -- the reads were given by the view, also once it is had back

@@ -16,7 +16,7 @@ use Rattle.dk_model.specs.Runs.{Run}
 use Rattle.dk_model.specs.Steps.{own_task, own_found}
 use Rattle.dk_overlay.specs.Asked.{IsAsked}
 use Rattle.dk_txn.specs.Knowing.{MovesOwn}
-use Rattle.dk_overlay.specs.Logged.{Logged, nothing_done}
+use Rattle.dk_overlay.specs.ReadsAndWrites.{ReadsAndWrites, nothing_done}
 use Rattle.dk_txn.specs.Current.{current}
 use Rattle.dk_txn.specs.declared.refusal.Refusal.{Refusal}
 use Rattle.dk_txn.specs.declared.txn.Txn.{Txn}
@@ -54,11 +54,11 @@ differ : (x : Bool) (fault : AppFault) (q : Result Bool AppFault) → q ≡ Ok x
 differ x fault q p e = cc
 
 -- so where it was, no world agrees
-own_refused : {P : TaskKey → ℕ → Type 0} {S : Type 0} {sights : Sights S} {a b : Txn S Logged} {e : Refusal} {fault : AppFault} (key : TaskKey) (due period : ℕ)
-    → DoesFor P sights refusal_fault a b (own_task key due period) (Err e) → refusal_fault e ≡ Some fault → (d : DurableWorld) → Agrees d b.log.reads → ⊥
+own_refused : {P : TaskKey → ℕ → Type 0} {S : Type 0} {sights : Sights S} {a b : Txn S ReadsAndWrites} {e : Refusal} {fault : AppFault} (key : TaskKey) (due period : ℕ)
+    → DoesFor P sights refusal_fault a b (own_task key due period) (Err e) → refusal_fault e ≡ Some fault → (d : DurableWorld) → Agrees d b.set.reads → ⊥
 unfolding own_task
 own_refused {a = a} {fault = fault} key due period p is d agrees =
-    let answer = own_answers (map.get ((current a.log d).world).tasks key) key due period (current a.log d) in
+    let answer = own_answers (map.get ((current a.set d).world).tasks key) key due period (current a.set d) in
     differ answer.0 fault _ answer.1 (ap answer_of (p.does (Err fault) (ap failure is) d agrees))
 
 fault_told : (o : Option AppFault) (end : Result (Unit {0}) AppFault) → failure o ≡ Some end → (fault : AppFault) × (o ≡ Some fault)
@@ -66,23 +66,23 @@ fault_told None end t = cc
 fault_told (Some fault) end t = (fault, refl)
 
 -- where the call on the run's own task was refused, the run tells nothing of how it ended
-pub own_halts : {P : TaskKey → ℕ → Type 0} {S : Type 0} {sights : Sights S} {a b : Txn S Logged} {e : Refusal} (key : TaskKey) (due period : ℕ) (r : Result (Unit {0}) Halt)
-    → DoesFor P sights refusal_fault a b (own_task key due period) (Err e) → IsErrAnd r (λ h. halt_fault h ≡ refusal_fault e) → AsksTask key b.log r
+pub own_halts : {P : TaskKey → ℕ → Type 0} {S : Type 0} {sights : Sights S} {a b : Txn S ReadsAndWrites} {e : Refusal} (key : TaskKey) (due period : ℕ) (r : Result (Unit {0}) Halt)
+    → DoesFor P sights refusal_fault a b (own_task key due period) (Err e) → IsErrAnd r (λ h. halt_fault h ≡ refusal_fault e) → AsksTask key b.set r
 own_halts key due period (Ok x) p is = absurd is
 own_halts {e = e} key due period (Err h) p is = λ end t d agrees.
     let fault = fault_told (refusal_fault e) end (ap failure (sym is) ∙ t) in
     absurd (own_refused key due period p fault.1 d agrees)
 
 -- what was asked of the task stays asked
-pub own_asked : {P : TaskKey → ℕ → Type 0} {S : Type 0} {sights : Sights S} {a b : Txn S Logged} (key : TaskKey) → KeepsFor P sights a b → IsAsked a.log.reads (ask.Task key) → IsAsked b.log.reads (ask.Task key)
-own_asked {a = a} key k h = subst (λ reads. IsAsked reads (ask.Task key)) (sym k.reads_stay.1) (asked_still a.log.reads k.reads_stay.0 (ask.Task key) h)
+pub own_asked : {P : TaskKey → ℕ → Type 0} {S : Type 0} {sights : Sights S} {a b : Txn S ReadsAndWrites} (key : TaskKey) → KeepsFor P sights a b → IsAsked a.set.reads (ask.Task key) → IsAsked b.set.reads (ask.Task key)
+own_asked {a = a} key k h = subst (λ reads. IsAsked reads (ask.Task key)) (sym k.reads_stay.1) (asked_still a.set.reads k.reads_stay.0 (ask.Task key) h)
 
 -- a run has changed no task at its start
-pub none_changed : (t : Logged) (key : TaskKey) → IsBegun t → map.get t.tasks key ≡ None
-none_changed t key start = ap (λ (u : Logged). map.get u.tasks key) start ∙ map.get-empty key_cmp key
+pub none_changed : (t : ReadsAndWrites) (key : TaskKey) → IsBegun t → map.get t.tasks key ≡ None
+none_changed t key start = ap (λ (u : ReadsAndWrites). map.get u.tasks key) start ∙ map.get-empty key_cmp key
 
 -- a job that may move its own task alone moves no other
-pub moves_own : {S : Type 0} {sights : Sights S} {a b : Txn S Logged} (j : Job) (run : RunNo) (at : ℕ) → a.log ≡ nothing_done run at → KeepsFor (MayMove j) sights a b → MovesOwn j b.log
+pub moves_own : {S : Type 0} {sights : Sights S} {a b : Txn S ReadsAndWrites} (j : Job) (run : RunNo) (at : ℕ) → a.set ≡ nothing_done run at → KeepsFor (MayMove j) sights a b → MovesOwn j b.set
 moves_own (job.Task key due period kind arg) run at start k = moved_own run at key due (refl, refl) start k
 moves_own job.Initialize run at start k = unmoved run at start k
 moves_own (job.Login conn name) run at start k = unmoved run at start k

@@ -10,11 +10,11 @@ use Rattle.dk_model.specs.Finishes.{KeepsLaw}
 use Rattle.dk_model.specs.Runs.{Act}
 use Rattle.dk_model.specs.Steps.{work, game_part}
 use Rattle.dk_txn.specs.declared.finished.Finished.{Finished}
-use Rattle.dk_txn.specs.Finishes.{told, TellsEnd}
+use Rattle.dk_txn.specs.Finishes.{report, TellsEnd}
 use Rattle.dk_txn.specs.Knowing.{HasTaskLimits}
-use Rattle.dk_overlay.specs.Logged.{Logged}
+use Rattle.dk_overlay.specs.ReadsAndWrites.{ReadsAndWrites}
 use Rattle.dk_txn.specs.declared.txn.Txn.{Txn}
-use Rattle.dk_txn.specs.Does.{DoesFor, outcome_told}
+use Rattle.dk_txn.specs.Does.{DoesFor, outcome_of_result}
 use Rattle.dk_txn.specs.Law.{IsBegun}
 use Rattle.dk_txn.proofs.Laws.{law_kept}
 use Rattle.dk_game.specs.declared.halt.Halt.{Halt}
@@ -25,12 +25,12 @@ use Rattle.dk_txn.specs.Sights.{Sights}
 use Rattle.dk_txn.specs.Asks.{AskedInTurn, AsksAny, IsAskedOnce}
 
 -- a run that did the whole of its job, from its start, and tells what its end tells, keeps the law
-pub job_kept : {S : Type 0} {sights : Sights S} {a b : Txn S Logged} {r : Result (Unit {0}) Halt} (rules : Job → Act (Unit {0})) (j : Job) (end : Result (Unit {0}) AppFault) (f : Finished)
-    → IsBegun (a.log) → DoesFor (MayMove j) sights halt_fault a b (work (game_part rules) j) r → AsksOwn j b.log r → HasTaskLimits j → outcome_told halt_fault r ≡ Some end
-    → f.reads.items ≡ b.log.reads → TellsEnd b.log j end f → KeepsLaw rules j a.log.run a.log.at f.reads.items (told f)
+pub job_kept : {S : Type 0} {sights : Sights S} {a b : Txn S ReadsAndWrites} {r : Result (Unit {0}) Halt} (rules : Job → Act (Unit {0})) (j : Job) (end : Result (Unit {0}) AppFault) (f : Finished)
+    → IsBegun (a.set) → DoesFor (MayMove j) sights halt_fault a b (work (game_part rules) j) r → AsksOwn j b.set r → HasTaskLimits j → outcome_of_result halt_fault r ≡ Some end
+    → f.reads.items ≡ b.set.reads → TellsEnd b.set j end f → KeepsLaw rules j a.set.run a.set.at f.reads.items (report f)
 job_kept {a = a} rules j end f start p asks fits is reads tells = record {
   keeps = λ d valid agrees new stands.
-      (law_kept rules j a.log.run a.log.at end f start p is (asks end is d (subst (Agrees d) reads agrees)) (moves_own j a.log.run a.log.at start p.keeps) fits reads tells).keeps d valid agrees new stands;
+      (law_kept rules j a.set.run a.set.at end f start p is (asks end is d (subst (Agrees d) reads agrees)) (moves_own j a.set.run a.set.at start p.keeps) fits reads tells).keeps d valid agrees new stands;
 }
 
 -- what two clauses say of a run that was finished gives a third
@@ -43,10 +43,10 @@ one_ok (Ok f) p k = k f p
 one_ok (Err e) p k = tt
 
 -- a run from its start asked the view once for each item that it tells
-pub asked_once : {S : Type 0} {sights : Sights S} {a b : Txn S Logged} {v : S} {reads : List (Item × Read)} → IsBegun a.log → AsksAny sights a b → v ≡ b.view.now → reads ≡ b.log.reads → IsAskedOnce sights a.view.now v reads
+pub asked_once : {S : Type 0} {sights : Sights S} {a b : Txn S ReadsAndWrites} {v : S} {reads : List (Item × Read)} → IsBegun a.set → AsksAny sights a b → v ≡ b.view.now → reads ≡ b.set.reads → IsAskedOnce sights a.view.now v reads
 asked_once {sights = sights} {a = a} {b = b} {v = v} {reads = reads} start p stays is = (
   p.asks,
   subst (λ rs. AskedInTurn sights a.view.now [] p.asks v rs) (sym is)
-      (subst (λ x. AskedInTurn sights a.view.now [] p.asks x b.log.reads) (sym stays)
-      (subst (λ rs. AskedInTurn sights a.view.now rs p.asks b.view.now b.log.reads) (ap (λ (t : Logged). t.reads) start) p.in_turn)),
+      (subst (λ x. AskedInTurn sights a.view.now [] p.asks x b.set.reads) (sym stays)
+      (subst (λ rs. AskedInTurn sights a.view.now rs p.asks b.view.now b.set.reads) (ap (λ (t : ReadsAndWrites). t.reads) start) p.in_turn)),
 )

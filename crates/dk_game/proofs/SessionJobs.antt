@@ -10,7 +10,7 @@ use Rattle.dk_model.specs.Platforms.{platform_bound, find_session, leave}
 use Rattle.dk_model.specs.Records.{session_name}
 use Rattle.dk_model.specs.Runs.{Run, Act, give, and_then}
 use Rattle.dk_model.specs.Steps.{displace, displace_found, displace_recorded, leave_channels}
-use Rattle.dk_overlay.specs.Logged.{Logged}
+use Rattle.dk_overlay.specs.ReadsAndWrites.{ReadsAndWrites}
 use Rattle.dk_refs.specs.Lookups.{is_recorded}
 use Rattle.dk_txn.specs.declared.txn.Txn.{Txn}
 use Rattle.dk_txn.specs.Does.{KeepsFor, DoesFor, Does, Leads, failure}
@@ -29,7 +29,7 @@ displaced_as (Some id) name game s = refl
 displaced_as None name game s = refl
 
 -- whether a session is displaced is the question whether its name has a record
-pub displaced_does : {S : Type 0} {sights : Sights S} {a b : Txn S Logged} {r : Result (Unit {0}) Halt} (name : List ℕ) (game : Job → Act (Unit {0}))
+pub displaced_does : {S : Type 0} {sights : Sights S} {a b : Txn S ReadsAndWrites} {r : Result (Unit {0}) Halt} (name : List ℕ) (game : Job → Act (Unit {0}))
     → Does sights halt_fault a b (and_then (is_recorded name) (λ there. if there then found_and_displaced name game else give (Ok tt))) r → Does sights halt_fault a b (displace_recorded name game) r
 unfolding and_then is_recorded
 displaced_does name game p = does_as _ (λ s. displaced_as (platform_bound s (session_name name)) name game s) p
@@ -38,7 +38,7 @@ memory_told : {A : Type 0} (s : Result A AppFault) → failure None ≡ Some s �
 memory_told s t = cc
 
 -- want of memory tells nothing of what was to be done
-pub out_of_memory : {P : TaskKey → ℕ → Type 0} {S : Type 0} {sights : Sights S} {a b : Txn S Logged} {A : Type 0} {f : Act A} {r : Result A Halt}
+pub out_of_memory : {P : TaskKey → ℕ → Type 0} {S : Type 0} {sights : Sights S} {a b : Txn S ReadsAndWrites} {A : Type 0} {f : Act A} {r : Result A Halt}
     → KeepsFor P sights a b → IsErrAnd r (λ h. h ≡ halt.NoMemory) → DoesFor P sights halt_fault a b f r
 out_of_memory {r = Ok x} k is = absurd is
 out_of_memory {r = Err h} k is = record { keeps = k; does = λ s t d agrees. absurd (memory_told s (ap (λ x. failure (halt_fault x)) (sym is) ∙ t)) }
@@ -54,7 +54,7 @@ none_left [] (suc i) h = refl
 none_left (c ∷ channels) zero h = absurd (omega (arith, h))
 none_left (c ∷ channels) (suc i) h = none_left channels i (omega (arith, h))
 
-module _ {S : Type 0} {sights : Sights S} {a b : Txn S Logged} {f : Act (Unit {0})} (session : Session) (channels : List (List ℕ)) (i : ℕ) where
+module _ {S : Type 0} {sights : Sights S} {a b : Txn S ReadsAndWrites} {f : Act (Unit {0})} (session : Session) (channels : List (List ℕ)) (i : ℕ) where
   -- what is left at a channel begins with it
   pub at_channel : (name x : List ℕ) → i < length channels → name ≡ get_or channels i x → Leads sights a b f (leave_channels session (drop i channels))
       → Leads sights a b f (and_then (leave name session) (λ _. leave_channels session (drop (i + 1) channels)))

@@ -25,7 +25,7 @@ pub(crate) fn channel<G: Game, V: View>(
     txn: &mut Txn<'_, V>,
 ) -> Result<(), Halt>
     ensures does { Does V.sights halt_fault txn.old txn.new (step.for_session session.now (step.channel_message session.now name.now body.now (step.game_part (G.rules game.now) job.now))) result }
-    ensures same_mode { txn.new.log.mode ≡ txn.old.log.mode }
+    ensures same_mode { txn.new.set.mode ≡ txn.old.set.mode }
 {
     if is_connected(alloc, txn, session)? {
         on_channel(alloc, game, job, session, name, body, txn)
@@ -44,7 +44,7 @@ fn on_channel<G: Game, V: View>(
     txn: &mut Txn<'_, V>,
 ) -> Result<(), Halt>
     ensures does { Does V.sights halt_fault txn.old txn.new (step.channel_message session.now name.now body.now (step.game_part (G.rules game.now) job.now)) result }
-    ensures same_mode { txn.new.log.mode ≡ txn.old.log.mode }
+    ensures same_mode { txn.new.set.mode ≡ txn.old.set.mode }
 {
     match record_of(alloc, txn, name) {
         Ok((_, record)) => {

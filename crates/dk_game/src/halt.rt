@@ -4,11 +4,14 @@ ghost use Rattle.std.specs.Prelude.{◌≡◌};
 use dk_txn::Refusal;
 use dk_types::{AppFault, NoMemory};
 use std::alloc::{AllocError, AllocFailed};
+use thiserror::Error;
 
 /// Why a game stops: a fault, which its run tells, or want of memory, of which nothing is told.
-#[derive(Clone, Copy, Debug, PartialEq, Eq)]
+#[derive(Clone, Copy, Debug, PartialEq, Eq, Error)]
 pub enum Halt {
+    #[error("the run fails: {0:?}")]
     Fault(AppFault),
+    #[error("out of memory")]
     NoMemory,
 }
 

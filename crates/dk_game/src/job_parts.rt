@@ -22,7 +22,7 @@ pub(crate) fn game_part<G: Game, V: View>(
     txn: &mut Txn<'_, V>,
 ) -> Result<(), Halt>
     ensures does { Does V.sights halt_fault txn.old txn.new (part (G.rules game.now) job.now) result }
-    ensures same_mode { txn.new.log.mode ≡ txn.old.log.mode }
+    ensures same_mode { txn.new.set.mode ≡ txn.old.set.mode }
 {
     let before = txn.set_mode(Mode::Game);
     let end = game.run(alloc, job, txn);
@@ -43,8 +43,8 @@ pub(crate) fn occurrence<G: Game, V: View>(
 ) -> Result<(), Halt>
     requires { Fits due period }
     ensures does { DoesFor (Only key due) V.sights halt_fault txn.old txn.new (and_then (own_act key due period) (λ pending. if pending then part (G.rules game.now) job.now else give (Ok tt))) result }
-    ensures same_mode { txn.new.log.mode ≡ txn.old.log.mode }
-    ensures asked { IsBegun txn.old.log → AsksTask key txn.new.log result }
+    ensures same_mode { txn.new.set.mode ≡ txn.old.set.mode }
+    ensures asked { IsBegun txn.old.set → AsksTask key txn.new.set result }
 {
     if txn.own_task(key, due, period)? {
         game_part(alloc, game, job, txn)

@@ -7,7 +7,7 @@ ghost use Rattle.dk_types.specs.declared.limits.TheConstants.{MOMENT_MOST_MS};
 ghost use Rattle.dk_model.specs.Finishes.{KeepsLaw};
 ghost use Rattle.dk_overlay.specs.Asked.{IsOnce};
 ghost use Rattle.dk_txn.specs.Asks.{IsAskedOnce};
-ghost use Rattle.dk_txn.specs.Finishes.{told};
+ghost use Rattle.dk_txn.specs.Finishes.{report};
 ghost use Rattle.dk_txn.specs.Knowing.{HasTaskLimits};
 
 use crate::game::Game;
@@ -29,7 +29,7 @@ pub fn run_over<G: Game, V: View>(
 ) -> Result<Finished, NoMemory>
     requires moment { at ≤ MOMENT_MOST_MS }
     requires fits { HasTaskLimits job.now }
-    ensures law { IfOk result (λ f. KeepsLaw (G.rules game.now) job.now number at f.reads.items (told f)) }
+    ensures law { IfOk result (λ f. KeepsLaw (G.rules game.now) job.now number at f.reads.items (report f)) }
     ensures becomes { V.sights.becomes view.old view.new }
     ensures given { IfOk result (λ f. AllByRecursion (λ r. V.sights.gave view.new r.0 r.1) f.reads.items) }
     ensures once { IfOk result (λ f. IsOnce f.reads.items) }

@@ -32,8 +32,8 @@ pub(crate) fn work_job<G: Game, V: View>(
 ) -> Result<(), Halt>
     requires { HasTaskLimits job.now }
     ensures does { DoesFor (MayMove job.now) V.sights halt_fault txn.old txn.new (work (part (G.rules game.now)) job.now) result }
-    ensures same_mode { txn.new.log.mode ≡ txn.old.log.mode }
-    ensures asked { IsBegun txn.old.log → AsksOwn job.now txn.new.log result }
+    ensures same_mode { txn.new.set.mode ≡ txn.old.set.mode }
+    ensures asked { IsBegun txn.old.set → AsksOwn job.now txn.new.set result }
 {
     match job {
         Job::Initialize => game_part(alloc, game, job, txn),

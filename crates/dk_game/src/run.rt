@@ -6,7 +6,7 @@ ghost use Rattle.dk_types.specs.declared.item.Read.{Read};
 ghost use Rattle.dk_model.specs.Finishes.{KeepsLaw};
 ghost use Rattle.dk_overlay.specs.Asked.{IsOnce};
 ghost use Rattle.dk_txn.specs.Asks.{IsAskedOnce};
-ghost use Rattle.dk_txn.specs.Finishes.{told};
+ghost use Rattle.dk_txn.specs.Finishes.{report};
 ghost use Rattle.dk_txn.specs.Knowing.{HasTaskLimits};
 ghost use Rattle.dk_txn.specs.Law.{IsBegun};
 
@@ -25,9 +25,9 @@ pub fn run_job<G: Game, V: View>(
     job: &Job,
     txn: &mut Txn<'_, V>,
 ) -> Result<Finished, NoMemory>
-    requires begun { IsBegun txn.old.log }
+    requires begun { IsBegun txn.old.set }
     requires fits { HasTaskLimits job.now }
-    ensures law { IfOk result (λ f. KeepsLaw (G.rules game.now) job.now txn.old.log.run txn.old.log.at f.reads.items (told f)) }
+    ensures law { IfOk result (λ f. KeepsLaw (G.rules game.now) job.now txn.old.set.run txn.old.set.at f.reads.items (report f)) }
     ensures same_view { txn.new.view.ghost_name ≡ txn.old.view.ghost_name }
     ensures becomes { V.sights.becomes txn.old.view.now txn.new.view.now }
     ensures given { IfOk result (λ f. AllByRecursion (λ r. V.sights.gave txn.new.view.now r.0 r.1) f.reads.items) }

@@ -24,7 +24,7 @@ pub(crate) fn login<G: Game, V: View>(
     txn: &mut Txn<'_, V>,
 ) -> Result<(), Halt>
     ensures does { Does V.sights halt_fault txn.old txn.new (and_then (step.displace_recorded session.now.name (step.game_part (G.rules game.now))) (λ _. step.admit session.now (step.game_part (G.rules game.now) job.now))) result }
-    ensures same_mode { txn.new.log.mode ≡ txn.old.log.mode }
+    ensures same_mode { txn.new.set.mode ≡ txn.old.set.mode }
 {
     displace_recorded(alloc, game, &session.name, txn)?;
     open_record(alloc, txn, session)?;
@@ -41,7 +41,7 @@ fn displace_recorded<G: Game, V: View>(
     txn: &mut Txn<'_, V>,
 ) -> Result<(), Halt>
     ensures does { Does V.sights halt_fault txn.old txn.new (step.displace_recorded name.now (step.game_part (G.rules game.now))) result }
-    ensures same_mode { txn.new.log.mode ≡ txn.old.log.mode }
+    ensures same_mode { txn.new.set.mode ≡ txn.old.set.mode }
 {
     if is_recorded(alloc, txn, name)? {
         let old = find(alloc, txn, name)?;
@@ -58,7 +58,7 @@ fn displace<G: Game, V: View>(
     txn: &mut Txn<'_, V>,
 ) -> Result<(), Halt>
     ensures does { Does V.sights halt_fault txn.old txn.new (step.displace old.now (step.game_part (G.rules game.now))) result }
-    ensures same_mode { txn.new.log.mode ≡ txn.old.log.mode }
+    ensures same_mode { txn.new.set.mode ≡ txn.old.set.mode }
 {
     let lost = Job::Disconnect {
         conn: old.conn,
@@ -79,7 +79,7 @@ pub(crate) fn message<G: Game, V: View>(
     txn: &mut Txn<'_, V>,
 ) -> Result<(), Halt>
     ensures does { Does V.sights halt_fault txn.old txn.new (step.for_session session.now (step.game_part (G.rules game.now) job.now)) result }
-    ensures same_mode { txn.new.log.mode ≡ txn.old.log.mode }
+    ensures same_mode { txn.new.set.mode ≡ txn.old.set.mode }
 {
     if is_connected(alloc, txn, session)? {
         game_part(alloc, game, job, txn)
@@ -97,7 +97,7 @@ pub(crate) fn disconnect<G: Game, V: View>(
     txn: &mut Txn<'_, V>,
 ) -> Result<(), Halt>
     ensures does { Does V.sights halt_fault txn.old txn.new (step.for_session session.now (step.end_session session.now (step.game_part (G.rules game.now) job.now))) result }
-    ensures same_mode { txn.new.log.mode ≡ txn.old.log.mode }
+    ensures same_mode { txn.new.set.mode ≡ txn.old.set.mode }
 {
     if is_connected(alloc, txn, session)? {
         end_session(alloc, game, job, session, txn)
@@ -114,7 +114,7 @@ fn end_session<G: Game, V: View>(
     txn: &mut Txn<'_, V>,
 ) -> Result<(), Halt>
     ensures does { Does V.sights halt_fault txn.old txn.new (step.end_session session.now (step.game_part (G.rules game.now) job.now)) result }
-    ensures same_mode { txn.new.log.mode ≡ txn.old.log.mode }
+    ensures same_mode { txn.new.set.mode ≡ txn.old.set.mode }
 {
     game_part(alloc, game, job, txn)?;
     let (_, record) = own_record(alloc, txn, session)?;
@@ -131,7 +131,7 @@ fn leave_channels<V: View>(
     channels: &[Name],
 ) -> Result<(), Refusal>
     ensures does { Does V.sights refusal_fault txn.old txn.new (step.leave_channels session.now channels.now) result }
-    ensures same_mode { txn.new.log.mode ≡ txn.old.log.mode }
+    ensures same_mode { txn.new.set.mode ≡ txn.old.set.mode }
 {
     for name in channels {
         let channel = Channel {

@@ -13,7 +13,7 @@ use Rattle.dk_model.specs.Events.{is_open}
 use Rattle.dk_model.specs.Legal.{Opened, opening_of, world_after, IsLegal, IsFront, pass_of}
 use Rattle.dk_laws.proofs.LaterOn.{claims_stand, honest_on}
 use Rattle.dk_txn.specs.declared.finished.Finished.{Finished}
-use Rattle.dk_txn.specs.Finishes.{told}
+use Rattle.dk_txn.specs.Finishes.{report}
 use Rattle.dk_connections.specs.declared.answers.Handed.{Handed}
 use Rattle.dk_connections.specs.declared.answers.PostRefused.{PostRefused}
 use Rattle.dk_core.specs.declared.claimed.Claimed.{Claimed}
@@ -64,7 +64,7 @@ may_end o p c log claim goes =
 pub honest_later : (o : Opened) (p : Known Event) (c : Claimed) (f : Finished) (log : List Event) → IsHonestAt o p.front c f → Continues pass_of p.number p.front log → IsHonestAt o log c f
 honest_later o p c f log honest goes =
     let front = front_of p.number p.front log goes in
-    subst (λ es. IsHonestAt o es c f) (sym front.all) (honest_on o.rules (opening_of o) p.front front.later c.job c.run c.at f.reads.items (told f) honest)
+    subst (λ es. IsHonestAt o es c f) (sym front.all) (honest_on o.rules (opening_of o) p.front front.later c.job c.run c.at f.reads.items (report f) honest)
 
 module _ (o : Opened) (pass : ℕ) (r : Result (Option Claimed) ClaimRefused) (old : List Event) (new : Known Event) (c : Called pass_of pass (λ before added. Claims o pass before r added) old new.front) where
   pub claim_entered : Entered o pass (claim_events pass r) old new.front

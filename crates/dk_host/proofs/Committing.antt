@@ -9,13 +9,13 @@ use Rattle.dk_types.specs.declared.item.Read.{Read}
 use Rattle.dk_types.specs.declared.durable.Entry.{Entry}
 use Rattle.dk_model.specs.Legal.{Opened, opening_of, world_after, IsLegal, commits_of}
 use Rattle.dk_model.specs.Sights.{seen, seen_in, stamp}
-use Rattle.dk_model.specs.Finishes.{told_step}
+use Rattle.dk_model.specs.Finishes.{step_report}
 use Rattle.dk_model.specs.Steps.{step}
 use Rattle.dk_model.specs.Worlds.{World, Claim}
 use Rattle.dk_laws.specs.FrontsLaw.{StandAt}
 use Rattle.dk_laws.proofs.Between.{commits_of-append}
 use Rattle.dk_txn.specs.declared.finished.Finished.{Finished}
-use Rattle.dk_txn.specs.Finishes.{told}
+use Rattle.dk_txn.specs.Finishes.{report}
 use Rattle.dk_core.specs.declared.world.Core.{Core}
 use Rattle.dk_core.specs.declared.claimed.Claimed.{Claimed}
 use Rattle.dk_core.specs.declared.prepared.Prepared.{Prepared}
@@ -90,7 +90,7 @@ module _ (o : Opened) (events : List Event) (old new : Core) (total places : ℕ
       let now = stays_at o events old new k.1 stays in
       let claim : Claim = record { pass = claimed.pass; job = claimed.job; at = claimed.at } in
       let held = stands_granted o events new claimed now (granted_stands o events old claimed k.1 granted) in
-      subst (λ (x : World). told f ≡ told_step x.durable (step o.rules claimed.job claimed.run claimed.at x.durable)) (world_is o events new now)
+      subst (λ (x : World). report f ≡ step_report x.durable (step o.rules claimed.job claimed.run claimed.at x.durable)) (world_is o events new now)
       (tells o.rules k.0 o.durable o.budget events new now claimed.run claim held f honest is.0.ready.stand)
   tells_step (Err refused) is = tt
 

@@ -28,7 +28,7 @@ use Rattle.dk_core.specs.Cores.{world_of}
 use Rattle.dk_host.specs.Books.{IsAt}
 use Rattle.dk_host.specs.Calls.{post_events, claim_events, hand_events}
 use Rattle.dk_host.specs.Kept.{kept_claim, kept_hand, granted_of, handed_of}
-use Rattle.dk_host.specs.Keeping.{listed, begins_one, ends_one, new_places, owed_after, IsOwed, IsTold}
+use Rattle.dk_host.specs.Keeping.{listed, begins_one, ends_one, new_places, owed_after, IsOwed, IsKeptAs}
 use Rattle.dk_host.proofs.Owing.{happened, owed_on, owed_none, place_there}
 use Rattle.dk_host.proofs.Stepping.{world_is}
 
@@ -90,7 +90,7 @@ hand_kept o before c pass conn most outs (Err refused) at copied legal = refl
 -- ---- the history
 
 -- no events yet
-pub told_none : (o : Opened) (keeps : Bool) (events kept : List Event) (owed capacity : ℕ) → events ≡ [] → kept ≡ [] → owed ≡ 0 → IsTold o keeps events kept owed capacity
+pub told_none : (o : Opened) (keeps : Bool) (events kept : List Event) (owed capacity : ℕ) → events ≡ [] → kept ≡ [] → owed ≡ 0 → IsKeptAs o keeps events kept owed capacity
 told_none o keeps events kept owed capacity none empty zero = record {
   same = λ _. empty ∙ sym none;
   none = λ _. empty;
@@ -108,13 +108,13 @@ places_fit n e long capacity some spare fits = by (ends_one e) (begins_one e) so
     by false false has enough = omega (arith, enough)
 
 -- an event was entered and kept
-module _ (o : Opened) (keeps : Bool) (events kept : List Event) (owed capacity : ℕ) (t : IsTold o keeps events kept owed capacity) where
+module _ (o : Opened) (keeps : Bool) (events kept : List Event) (owed capacity : ℕ) (t : IsKeptAs o keeps events kept owed capacity) where
   pub told_more : (e : Event) (more after kept' : List Event) (owed' capacity' : ℕ) → after ≡ events ++ more → keeps ≡ true → e ∷ [] ≡ more → IsLegal o (events ++ more) → new_places e ≤ capacity - (length kept + owed) → kept' ≡ kept ++ e ∷ [] → owed' ≡ owed_after e owed → capacity' ≡ capacity
-      → IsTold o keeps after kept' owed' capacity'
+      → IsKeptAs o keeps after kept' owed' capacity'
   told_more e more after kept' owed' capacity' noted on one legal spare pushed changed same_room =
       let legal_one : IsLegal o (events ++ e ∷ []) = subst (λ es. IsLegal o (events ++ es)) (sym one) legal in
       let owes = t.owes on in
-      subst (λ es. IsTold o keeps es kept' owed' capacity') (sym noted) (record {
+      subst (λ es. IsKeptAs o keeps es kept' owed' capacity') (sym noted) (record {
         same = λ _. pushed ∙ ap (λ es. es ++ e ∷ []) (t.same on) ∙ ap (λ es. events ++ es) one;
         none = λ off. let no : true ≡ false = sym on ∙ off in absurd (cc no);
         owes = λ _. subst (λ (y : List Event × ℕ). IsOwed (world_after o (events ++ y.0)) y.1) (λ i. (one i, sym changed i)) (owed_on o events e owed legal_one owes);
@@ -129,11 +129,11 @@ module _ (o : Opened) (keeps : Bool) (events kept : List Event) (owed capacity :
       omega (arith, fits, longs)
 
   -- no event was entered
-  pub told_still : (more : List Event) → [] ≡ more → IsTold o keeps (events ++ more) kept owed capacity
-  told_still more none = subst (λ es. IsTold o keeps (events ++ es) kept owed capacity) none (subst (λ es. IsTold o keeps es kept owed capacity) (sym (append-nil events)) t)
+  pub told_still : (more : List Event) → [] ≡ more → IsKeptAs o keeps (events ++ more) kept owed capacity
+  told_still more none = subst (λ es. IsKeptAs o keeps (events ++ es) kept owed capacity) none (subst (λ es. IsKeptAs o keeps es kept owed capacity) (sym (append-nil events)) t)
 
   -- nothing is kept
-  pub told_off : (after : List Event) → keeps ≡ false → IsTold o keeps after kept owed capacity
+  pub told_off : (after : List Event) → keeps ≡ false → IsKeptAs o keeps after kept owed capacity
   told_off after off = record {
     same = λ on. let no : true ≡ false = sym on ∙ off in absurd (cc no);
     none = t.none;

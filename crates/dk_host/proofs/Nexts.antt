@@ -5,7 +5,7 @@ use Rattle.dk_types.specs.declared.durable.Entry.{Entry}
 use Rattle.dk_model.specs.DurableWorlds.{DurableWorld}
 use Rattle.dk_model.specs.Effects.{after}
 use Rattle.dk_model.specs.Entries.{AreEntries, entries_spelling}
-use Rattle.dk_model.specs.Finishes.{Told, told_step}
+use Rattle.dk_model.specs.Finishes.{Report, step_report}
 use Rattle.dk_model.specs.Lawful.{AreLawful}
 use Rattle.dk_model.specs.Legal.{Opened, opening_of, world_after, IsLegal, commits_of}
 use Rattle.dk_model.specs.Recovered.{IsNext, Takes}
@@ -21,7 +21,7 @@ use Rattle.dk_commit_laws.specs.EntryOfStep.{entry_of}
 use Rattle.dk_commit_laws.proofs.Nexts.{entries_next}
 use Rattle.dk_commit_laws.proofs.Payloads.{entries_spelled}
 use Rattle.dk_txn.specs.declared.finished.Finished.{Finished}
-use Rattle.dk_txn.specs.Finishes.{told}
+use Rattle.dk_txn.specs.Finishes.{report}
 use Rattle.dk_core.specs.declared.claimed.Claimed.{Claimed}
 use Rattle.dk_core.specs.declared.prepared.Prepared.{Prepared}
 use Rattle.dk_host.specs.Calls.{Stands}
@@ -49,7 +49,7 @@ module _ (o : Opened) (events : List Event) (claimed : Claimed) (f : Finished) (
   entry_is = prepared.entry ∙ (λ i. record { seq = w.durable.commits + 1; run = claimed.run; effects = (tells i).effects })
 
   may_commit : MayCommit o events (commit_of claimed f p)
-  may_commit = (refl, (_, (claim, stands, refl, ap (λ (e : Entry). e.seq) prepared.entry, ap (λ (t : Told). t.outcome) tells, refl)))
+  may_commit = (refl, (_, (claim, stands, refl, ap (λ (e : Entry). e.seq) prepared.entry, ap (λ (t : Report). t.outcome) tells, refl)))
 
   world_is : (world_after o (events ++ commit_of claimed f p ∷ [])).durable ≡ s.world
   unfolding may_commit
@@ -83,7 +83,7 @@ module _ (o : Opened) (events more : List Event) (claimed : Claimed) (f : Finish
   }
 
   pub tells_on : TellsStep o events claimed f → TellsStep o (events ++ more) claimed f
-  tells_on tells = subst (λ (d : DurableWorld). told f ≡ told_step d (step o.rules claimed.job claimed.run claimed.at d)) (sym durable_on) tells
+  tells_on tells = subst (λ (d : DurableWorld). report f ≡ step_report d (step o.rules claimed.job claimed.run claimed.at d)) (sym durable_on) tells
 
 -- the payload of its entry takes the world to the one after it
 pub takes : (o : Opened) (events : List Event) (claimed : Claimed) (f : Finished) (p : Prepared) → (next : IsNextCommit o events claimed f p) → (payload : List ℕ) → payload ≡ entries_spelling (p.entry ∷ [])

@@ -12,7 +12,7 @@ use Rattle.dk_journal.specs.declared.refused.JournalRefused.{JournalRefused}
 use Rattle.dk_journal.specs.declared.refused.JournalRefused.TheVariants as journal_refused
 use Rattle.dk_journal.specs.Refusals.{IsAppendFault}
 use Rattle.dk_txn.specs.declared.finished.Finished.{Finished}
-use Rattle.dk_txn.specs.Finishes.{told}
+use Rattle.dk_txn.specs.Finishes.{report}
 use Rattle.dk_core.specs.declared.claimed.Claimed.{Claimed}
 use Rattle.dk_core.specs.declared.prepared.Prepared.{Prepared}
 use Rattle.dk_core.specs.declared.answers.PrepareRefused.{PrepareRefused}
@@ -60,7 +60,7 @@ module _ (o : Opened) (old new : Known Event) (claimed : Claimed) (f : Finished)
   }
 
   pub honest_still : IsHonestAt o old.front claimed f → IsHonestAt o new.front claimed f
-  honest_still honest = subst (λ es. IsHonestAt o es claimed f) (sym goes.all) (honest_on o.rules (opening_of o) old.front goes.later claimed.job claimed.run claimed.at f.reads.items (told f) honest)
+  honest_still honest = subst (λ es. IsHonestAt o es claimed f) (sym goes.all) (honest_on o.rules (opening_of o) old.front goes.later claimed.job claimed.run claimed.at f.reads.items (report f) honest)
 
 -- where a read is stale, there was a commit since the claim
 pub retry : (o : Opened) (front : List Event) (claimed : Claimed) (f : Finished) (stale : Stale) → AreLawful o.rules → IsHonestAt o front claimed f → IsFirstStale o.rules (opening_of o) front f.reads.items stale → IsRetry o front claimed f stale

@@ -21,7 +21,7 @@ use Rattle.dk_model.specs.Images.{world_lists}
 use Rattle.dk_model.specs.Lawful.{HasShortBody}
 use Rattle.dk_model.specs.Sights.{IsReadAt}
 use Rattle.dk_txn.specs.declared.finished.Finished.{Finished}
-use Rattle.dk_txn.specs.Finishes.{told}
+use Rattle.dk_txn.specs.Finishes.{report}
 use Rattle.dk_connections.specs.declared.answers.Handed.{Handed}
 use Rattle.dk_connections.specs.declared.answers.PostRefused.{PostRefused}
 use Rattle.dk_connections.specs.declared.answers.PostRefused.TheVariants as post_refused
@@ -108,4 +108,4 @@ IsCopyAt o front r = IfOk r (λ d. d ≡ world_lists (world_after o front).durab
 
 -- the finished run is honest for this claim at this front
 abbrev pub IsHonestAt : Opened → List Event → Claimed → Finished → Type 0
-IsHonestAt o front c f = IsHonest o.rules (opening_of o) front c.job c.run c.at f.reads.items (told f)
+IsHonestAt o front c f = IsHonest o.rules (opening_of o) front c.job c.run c.at f.reads.items (report f)

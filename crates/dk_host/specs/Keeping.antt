@@ -81,16 +81,16 @@ pub record IsOwed (w : World) (owed : ℕ) : Type 0 where
   pub enough : len rooms + len w.claims ≤ owed
 
 -- what contracts see of a history: its events, and how many places are free beside those that are kept
-pub record Told : Type 0 where
+pub record KeptHistory : Type 0 where
   pub events : List Event
   pub spare : ℕ
 
 -- these two together
-abbrev pub told : List Event → ℕ → Told
-told events spare = record { events = events; spare = spare }
+abbrev pub kept_history : List Event → ℕ → KeptHistory
+kept_history events spare = record { events = events; spare = spare }
 
 -- Where the host keeps its events they are all here, in order, with enough places for those that need no memory. Where it keeps none there are none
-pub record IsTold (o : Opened) (keeps : Bool) (events kept : List Event) (owed capacity : ℕ) : Type 0 where
+pub record IsKeptAs (o : Opened) (keeps : Bool) (events kept : List Event) (owed capacity : ℕ) : Type 0 where
   pub same : keeps ≡ true → kept ≡ events
   pub none : keeps ≡ false → kept ≡ []
   pub owes : keeps ≡ true → IsOwed (world_after o events) owed

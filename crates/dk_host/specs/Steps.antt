@@ -9,7 +9,7 @@ use Rattle.dk_types.specs.declared.item.Read.{Read}
 use Rattle.dk_types.specs.declared.job.Input.{Input}
 use Rattle.dk_types.specs.declared.number.ConnNo.{ConnNo}
 use Rattle.dk_model.specs.Events.{is_open}
-use Rattle.dk_model.specs.Finishes.{told_step}
+use Rattle.dk_model.specs.Finishes.{step_report}
 use Rattle.dk_model.specs.Steps.{step}
 use Rattle.dk_model.specs.Legal.{Opened, IsLegal, commits_of, world_after}
 use Rattle.dk_connections.specs.declared.answers.Handed.{Handed}
@@ -20,7 +20,7 @@ use Rattle.dk_core.specs.declared.answers.PrepareRefused.{PrepareRefused}
 use Rattle.dk_core.specs.declared.prepared.Prepared.{Prepared}
 use Rattle.dk_core.specs.Rooms.{places_of}
 use Rattle.dk_txn.specs.declared.finished.Finished.{Finished}
-use Rattle.dk_txn.specs.Finishes.{told}
+use Rattle.dk_txn.specs.Finishes.{report}
 use Rattle.dk_turn.specs.Fronts.{known}
 use Rattle.dk_host.specs.Calls.{Stands, Grants, ReadsAt, IsCopyAt, IsSpared, IsHonestAt, AreShort, claim_events, post_events, hand_events, tick_events}
 use Rattle.dk_host.specs.Commits.{IsPreparedAt, Finds}
@@ -71,7 +71,7 @@ places_for (Err refused) = 0
 
 -- the run tells what its job does alone on the durable world after these events
 abbrev pub TellsStep : Opened → List Event → Claimed → Finished → Type 0
-TellsStep o events c f = told f ≡ told_step (world_after o events).durable (step o.rules c.job c.run c.at (world_after o events).durable)
+TellsStep o events c f = report f ≡ step_report (world_after o events).durable (step o.rules c.job c.run c.at (world_after o events).durable)
 
 -- an honest run may be prepared by who claimed it
 abbrev pub MayPrepare : Opened → ℕ → List Event → Claimed → Finished → Type 0

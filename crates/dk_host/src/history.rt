@@ -26,13 +26,13 @@ pub(crate) struct History<W: Hosting> {
 
 impl<W: Hosting> Model for History<W> {
     ghost use Rattle.std.specs.Prelude.{◌≡◌, ◌+◌, ◌-◌, length, vec_capacity};
-    ghost use Rattle.dk_host.specs.Keeping.{Told, told, IsTold};
+    ghost use Rattle.dk_host.specs.Keeping.{KeptHistory, kept_history, IsKeptAs};
 
-    ghost Value = { Told };
+    ghost Value = { KeptHistory };
 
-    ghost view = { λ h. told h.events (vec_capacity h.kept - (length h.kept.items + h.owed)) };
+    ghost view = { λ h. kept_history h.events (vec_capacity h.kept - (length h.kept.items + h.owed)) };
 
-    ghost invariant = { λ h. (h.keeps ≡ W.keeps) × IsTold W.opened h.keeps h.events h.kept.items h.owed (vec_capacity h.kept) };
+    ghost invariant = { λ h. (h.keeps ≡ W.keeps) × IsKeptAs W.opened h.keeps h.events h.kept.items h.owed (vec_capacity h.kept) };
 }
 
 // Whether a later event will need a place.

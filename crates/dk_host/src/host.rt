@@ -20,7 +20,7 @@ use crate::standing::Stood;
 use crate::store::CommitStore;
 use dk_core::Core;
 use dk_disk::Home;
-use dk_turn::{Blank, GhostList, Naming, Pass, Turn};
+use dk_turn::{GhostList, Naming, Pass, Turn, TurnBuilder};
 use dk_types::Event;
 use std::alloc::Global;
 use std::sync::{Mutex, ledger};
@@ -57,7 +57,7 @@ impl<W: Hosting, J: Naming, M: Home> Host<W, J, M> {
     /// its events. It is refused for want of memory alone, and then nothing was written.
     pub fn open(
         alloc: Global,
-        blank: Blank<WorldBook<W>>,
+        blank: TurnBuilder<WorldBook<W>>,
         commits: ledger::Blank,
         places: ledger::Blank,
         store: OpenedStore<M>,

@@ -14,7 +14,7 @@ pub(crate) use runs::{Claim, Release};
 
 /// A call by a pass: what was asked, and what was answered.
 #[derive(Drop)]
-pub(crate) struct Told<'a, A, T> {
+pub(crate) struct Call<'a, A, T> {
     pub(crate) pass: u32,
     pub(crate) ask: &'a A,
     pub(crate) reply: &'a T,

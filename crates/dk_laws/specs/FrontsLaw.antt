@@ -11,7 +11,7 @@ use Rattle.dk_types.specs.declared.job.Job.{Job}
 use Rattle.dk_types.specs.declared.event.Event.{Event}
 use Rattle.dk_model.specs.Worlds.{World, Claim}
 use Rattle.dk_model.specs.Events.{Meaning}
-use Rattle.dk_model.specs.Finishes.{Told, IsHonest}
+use Rattle.dk_model.specs.Finishes.{Report, IsHonest}
 use Rattle.dk_model.specs.Lawful.{AreLawful}
 use Rattle.dk_model.specs.Legal.{Opened, opening_of, world_after, IsLegal, IsFront, commits_of}
 use Rattle.dk_model.specs.Messages.{messages, handed}
@@ -32,7 +32,7 @@ ClaimsStandOn =
 -- an honest run stays honest as the history goes on
 abbrev pub HonestRunsStayHonest : Type 0
 HonestRunsStayHonest =
-    (rules : Meaning) (w : World) (front later : List Event) (job : Job) (run : RunNo) (at : ℕ) (reads : List (Item × Read)) (told : Told)
+    (rules : Meaning) (w : World) (front later : List Event) (job : Job) (run : RunNo) (at : ℕ) (reads : List (Item × Read)) (told : Report)
     → IsHonest rules w front job run at reads told → IsHonest rules w (front ++ later) job run at reads told
 
 -- the number of commits is that of the opening and one for each Commit

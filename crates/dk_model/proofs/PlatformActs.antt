@@ -1,8 +1,9 @@
 -- Each of the platform's calls on sessions and channels is lawful.
 use Rattle.std.proofs.Common.{◌≡◌, ℕ, ◌+◌, ◌<◌, ◌≤◌, ◌^◌, arith, Bool, true, false, cond, if◌then◌else◌, All, map, not, ◌||◌, nat_eq, nat_lt, is_some, ltb-false, Option, Some, None, List, [], ◌∷◌, ◌++◌, length, length-append, refl}
 use Rattle.std.specs.FinMap as maps
+use Rattle.std.specs.List.{cons_option}
 use Rattle.std.proofs.lemmas.List.{length-map}
-use Rattle.std.proofs.lemmas.List.Elements.{All-nil, All-push, All-append, All-map, All-filter}
+use Rattle.std.proofs.lemmas.List.Elements.{All-nil, All-cons, All-head, All-tail, All-push, All-append, All-map, All-filter}
 use Rattle.dk_types.specs.declared.number.ObjectId.{ObjectId}
 use Rattle.dk_types.specs.declared.number.ConnNo.{ConnNo}
 use Rattle.dk_types.specs.declared.job.Session.{Session}
@@ -18,7 +19,7 @@ use Rattle.dk_model.specs.declared.records.ChannelRecord.{ChannelRecord}
 use Rattle.dk_model.specs.declared.records.Delivery.{Delivery}
 use Rattle.dk_model.specs.Records.{SESSION_KIND, CHANNEL_KIND, session_bytes, session_of, channel_bytes, channel_of, session_name, channel_name, is_name_too_long}
 use Rattle.dk_model.specs.Platforms as does
-use Rattle.dk_model.specs.Platforms.{platform_bound, found_as, is_member, without_member, without_channel, same_session, same_name, is_sender, numbered, recorded_as, drop_recorded, drop_each, leave_members}
+use Rattle.dk_model.specs.Platforms.{platform_bound, found_as, is_member, without_member, without_channel, same_session, same_name, is_sender, numbered, recorded_as, record_if_connected, bytes_without, without_it, record_without, records_without, save_each, leave_members}
 use Rattle.dk_model.proofs.Acts.{Anything, AreBytes, IsId, IsLawful, stays, refused, at_if, lawful_then, lawful_give, lawful_done, lawful_refuse, lawful_if, lawful_if_at, lawful_looks, lawful_within}
 use Rattle.dk_model.proofs.Operations.{lawful_create, lawful_save, lawful_remove, lawful_bound, lawful_bind, lawful_unbind, lawful_send, sent_at}
 use Rattle.dk_model.proofs.ReferenceActs.{lawful_get_as}
@@ -158,24 +159,43 @@ lawful_recorded_as : {Needs : Type 0} (o : Option ObjectId) (conn : ConnNo) → 
 lawful_recorded_as None conn = record { at = λ s. stays s _ (λ n f. tt) }
 lawful_recorded_as (Some id) conn = lawful_then (lawful_get_as SESSION_KIND session_of id session_fits) (λ r. lawful_give (if nat_eq r.conn.0 conn.0 then Some (id, r) else None) (λ n. record_told (nat_eq r.conn.0 conn.0) id r n.0.1 n.1))
 
-lawful_drop_recorded : {Needs : Type 0} (name : List ℕ) (o : Option (ObjectId × SessionRecord)) → IsLawful (Needs × HasRecord o) Anything (drop_recorded name o)
-lawful_drop_recorded name None = lawful_done tt
-lawful_drop_recorded name (Some r) = lawful_save r.0 (session_bytes (record (r.1) { channels = without_channel name r.1.channels })) (λ n.
-    bytes_of_session (record (r.1) { channels = without_channel name r.1.channels }) (All-filter (λ c. not (same_name name c)) IsName r.1.channels n.1.1))
+lawful_record_if : {Needs : Type 0} (session : Session) → IsLawful Needs HasRecord (record_if_connected session)
+lawful_record_if session = lawful_looks (λ s. platform_bound s (session_name session.name)) (λ o. recorded_as o session.conn) IsSomeId (λ s f. platform_says s (session_name session.name) f) (λ o. lawful_recorded_as o session.conn)
 
-lawful_drop_channel : {Needs : Type 0} (name : List ℕ) (session : Session) → IsLawful Needs Anything (does.drop_channel name session)
-unfolding does.drop_channel
-lawful_drop_channel name session = lawful_then
-    (lawful_looks (λ s. platform_bound s (session_name session.name)) (λ o. recorded_as o session.conn) IsSomeId (λ s f. platform_says s (session_name session.name) f) (λ o. lawful_recorded_as o session.conn))
-    (λ o. lawful_drop_recorded name o)
+-- each is of numbers that are bytes
+abbrev AllBytes : List (ObjectId × List ℕ) → Type 0
+AllBytes records = All (λ p. AreBytes p.1) records
 
-lawful_drop_each : {Needs : Type 0} (name : List ℕ) (members : List Session) → IsLawful Needs Anything (drop_each name members)
-lawful_drop_each name [] = lawful_done tt
-lawful_drop_each name (m ∷ members) = lawful_then (lawful_drop_channel name m) (λ _. lawful_drop_each name members)
+-- the same, where there is one
+abbrev SomeBytes : Option (ObjectId × List ℕ) → Type 0
+SomeBytes None = Unit {0}
+SomeBytes (Some p) = AreBytes p.1
+
+lawful_without_it : {Needs : Type 0} (name : List ℕ) (o : Option (ObjectId × SessionRecord)) → IsLawful (Needs × HasRecord o) SomeBytes (without_it name o)
+lawful_without_it name None = lawful_give None (λ _. tt)
+lawful_without_it name (Some r) = lawful_if (is_too_long (bytes_without name r.1)) (lawful_refuse TOO_LONG) (lawful_give (Some (r.0, bytes_without name r.1)) (λ n.
+    bytes_of_session (record (r.1) { channels = without_channel name r.1.channels }) (All-filter (λ c. not (same_name name c)) IsName r.1.channels n.0.1.1)))
+
+lawful_record_without : {Needs : Type 0} (name : List ℕ) (session : Session) → IsLawful Needs SomeBytes (record_without name session)
+lawful_record_without name session = lawful_then (lawful_record_if session) (λ o. lawful_without_it name o)
+
+all_bytes : (first : Option (ObjectId × List ℕ)) (rest : List (ObjectId × List ℕ)) → SomeBytes first → AllBytes rest → AllBytes (cons_option first rest)
+all_bytes None rest one all = all
+all_bytes (Some p) rest one all = All-cons (λ p. AreBytes p.1) p rest one all
+
+lawful_records_without : {Needs : Type 0} (name : List ℕ) (members : List Session) → IsLawful Needs AllBytes (records_without name members)
+lawful_records_without name [] = lawful_give [] (λ _. All-nil _)
+lawful_records_without name (m ∷ members) = lawful_then (lawful_record_without name m) (λ first. lawful_then (lawful_records_without name members) (λ rest.
+    lawful_give (cons_option first rest) (λ n. all_bytes first rest n.0.1 n.1)))
+
+lawful_save_each : {Needs : Type 0} (records : List (ObjectId × List ℕ)) → (Needs → AllBytes records) → IsLawful Needs Anything (save_each records)
+lawful_save_each [] why = lawful_done tt
+lawful_save_each (one ∷ rest) why = lawful_then (lawful_save one.0 one.1 (λ n. All-head _ _ _ (why n))) (λ _. lawful_save_each rest (λ n. All-tail _ _ _ (why n.0)))
 
 lawful_leave_members : {Needs : Type 0} (name : List ℕ) (c : ObjectId × ChannelRecord) (members : List Session) → IsLawful Needs Anything (leave_members name c members)
 lawful_leave_members name c [] = lawful_done tt
-lawful_leave_members name c (m ∷ members) = lawful_then (lawful_save c.0 (channel_bytes (record (c.1) { members = [] })) (λ n. bytes_of_channel (record (c.1) { members = [] }) (All-nil IsNamed))) (λ _. lawful_drop_each name (m ∷ members))
+lawful_leave_members name c (m ∷ members) = lawful_then (lawful_records_without name (m ∷ members)) (λ records. lawful_save_each ((c.0, channel_bytes (record (c.1) { members = [] })) ∷ records) (λ n.
+    All-cons (λ p. AreBytes p.1) (c.0, channel_bytes (record (c.1) { members = [] })) records (bytes_of_channel (record (c.1) { members = [] }) (All-nil IsNamed)) n.1))
 
 -- `leave_all` needs nothing
 pub lawful_leave_all : {Needs : Type 0} (name : List ℕ) → IsLawful Needs Anything (does.leave_all name)

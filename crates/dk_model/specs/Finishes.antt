@@ -23,15 +23,15 @@ use Rattle.dk_model.specs.Events.{Meaning}
 use Rattle.dk_model.specs.Sights.{IsHonestRead}
 
 -- a run's outcome, net effects, written items and messages
-pub record Told : Type 0 where
+pub record Report : Type 0 where
   pub outcome : Outcome
   pub effects : Effects
   pub touched : List Item
   pub outs : List (ConnNo × Out)
 
 -- what a step from this world tells
-abbrev pub told_step : DurableWorld → Stepped → Told
-told_step d s = record { outcome = s.outcome; effects = effects d s.world; touched = s.touched; outs = s.outs }
+abbrev pub step_report : DurableWorld → Stepped → Report
+step_report d s = record { outcome = s.outcome; effects = effects d s.world; touched = s.touched; outs = s.outs }
 
 -- no object and no task has this run's number
 pub record IsNew (d : DurableWorld) (run : RunNo) : Type 0 where
@@ -48,10 +48,10 @@ HasOwnTask d (job.Channel conn name channel body) = Unit {0}
 HasOwnTask d (job.Disconnect conn name graceful) = Unit {0}
 
 -- a finished run tells what the job does alone on every world that agrees with what the run has read
-pub record KeepsLaw (rules : Meaning) (job : Job) (run : RunNo) (at : ℕ) (reads : List (Item × Read)) (told : Told) : Type 0 where
-  pub keeps : (d : DurableWorld) → IsValid d → Agrees d reads → IsNew d run → HasOwnTask d job → told ≡ told_step d (step rules job run at d)
+pub record KeepsLaw (rules : Meaning) (job : Job) (run : RunNo) (at : ℕ) (reads : List (Item × Read)) (told : Report) : Type 0 where
+  pub keeps : (d : DurableWorld) → IsValid d → Agrees d reads → IsNew d run → HasOwnTask d job → told ≡ step_report d (step rules job run at d)
 
 -- it keeps the law, and each of its reads was given at some time since the run was granted
-pub record IsHonest (rules : Meaning) (w : World) (events : List Event) (job : Job) (run : RunNo) (at : ℕ) (reads : List (Item × Read)) (told : Told) : Type 0 where
+pub record IsHonest (rules : Meaning) (w : World) (events : List Event) (job : Job) (run : RunNo) (at : ℕ) (reads : List (Item × Read)) (told : Report) : Type 0 where
   pub law : KeepsLaw rules job run at reads told
   pub honest : AllByRecursion (λ r. IsHonestRead rules w events run r.0 r.1) reads

@@ -1,7 +1,7 @@
 -- What the platform's own calls do: sessions and channels, kept as managed objects under names that begin with `$`.
 use Rattle.std.specs.Prelude.{ℕ, ◌+◌, ◌&&◌, ◌||◌, not, Bool, true, false, Option, Some, None, List, [], ◌∷◌, ◌++◌, length, nat_lt, map, filter, is_some, if◌then◌else◌, Ok}
 use Rattle.std.specs.FinMap as maps
-use Rattle.std.specs.List.{list_any}
+use Rattle.std.specs.List.{list_any, cons_option}
 use Rattle.std.specs.Cmp.Lexicographic.{pointwise}
 use Rattle.std.specs.Prelude.{nat_eq}
 use Rattle.dk_types.specs.declared.number.ConnNo.{ConnNo}
@@ -148,26 +148,35 @@ recorded_as (Some id) conn s = and_then (get_as SESSION_KIND session_of id) (λ 
 abbrev pub record_if_connected : Session → Act (Option (ObjectId × SessionRecord))
 record_if_connected session s = recorded_as (platform_bound s (session_name session.name)) session.conn s
 
--- a channel's name taken out of a session's record, if there is one
-abbrev pub drop_recorded : List ℕ → Option (ObjectId × SessionRecord) → Act (Unit {0})
-drop_recorded name None = give (Ok tt)
-drop_recorded name (Some r) = save r.0 (session_bytes (record (r.1) { channels = without_channel name r.1.channels }))
+-- the bytes of a session's record without the channel
+abbrev pub bytes_without : List ℕ → SessionRecord → List ℕ
+bytes_without name r = session_bytes (record r { channels = without_channel name r.channels })
 
--- the channel leaves the record of a session that is recorded with its number
-unfoldable pub drop_channel : List ℕ → Session → Act (Unit {0})
-drop_channel name session = and_then (record_if_connected session) (drop_recorded name)
+-- the record that was found, if there is one, as it is without the channel: its id, and its bytes
+abbrev pub without_it : List ℕ → Option (ObjectId × SessionRecord) → Act (Option (ObjectId × List ℕ))
+without_it name None = give (Ok None)
+without_it name (Some r) = if is_too_long (bytes_without name r.1) then refuse TOO_LONG else give (Ok (Some (r.0, bytes_without name r.1)))
 
--- the channel taken out of each member's record
-abbrev pub drop_each : List ℕ → List Session → Act (Unit {0})
-drop_each name [] = give (Ok tt)
-drop_each name (m ∷ members) = and_then (drop_channel name m) (λ _. drop_each name members)
+-- the record of a session that is recorded with its number, as it is without the channel
+abbrev pub record_without : List ℕ → Session → Act (Option (ObjectId × List ℕ))
+record_without name session = and_then (record_if_connected session) (without_it name)
 
--- all members leave a channel, if it has any
+-- those of these members, in joining order; nothing is changed
+abbrev pub records_without : List ℕ → List Session → Act (List (ObjectId × List ℕ))
+records_without name [] = give (Ok [])
+records_without name (m ∷ members) = and_then (record_without name m) (λ first. and_then (records_without name members) (λ rest. give (Ok (cons_option first rest))))
+
+-- these objects have these bytes, one after another
+abbrev pub save_each : List (ObjectId × List ℕ) → Act (Unit {0})
+save_each [] = give (Ok tt)
+save_each (one ∷ rest) = and_then (save one.0 one.1) (λ _. save_each rest)
+
+-- all members leave a channel, if it has any: all records are looked at first, and saved afterwards
 abbrev pub leave_members : List ℕ → ObjectId × ChannelRecord → List Session → Act (Unit {0})
 leave_members name c [] = give (Ok tt)
-leave_members name c (m ∷ members) = and_then (save c.0 (channel_bytes (record (c.1) { members = [] }))) (λ _. drop_each name (m ∷ members))
+leave_members name c (m ∷ members) = and_then (records_without name (m ∷ members)) (λ records. save_each ((c.0, channel_bytes (record (c.1) { members = [] })) ∷ records))
 
--- each member leaves, in joining order; one whose session is not recorded with its number loses its place among the members alone
+-- each member leaves, in joining order, or none; one whose session is not recorded with its number loses its place among the members alone
 unfoldable pub leave_all : List ℕ → Act (Unit {0})
 leave_all name = within Platform (and_then (channel_under name) (λ c. leave_members name c c.1.members))
 

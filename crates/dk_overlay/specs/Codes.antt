@@ -19,7 +19,7 @@ use Rattle.dk_overlay.specs.declared.change.Scheduled.{Scheduled}
 use Rattle.dk_overlay.specs.declared.change.TaskChange.{TaskChange}
 use Rattle.dk_overlay.specs.declared.change.TaskChange.TheVariants.{Added, Withdrawn, Dropped, Moved}
 use Rattle.dk_overlay.specs.Asked.{Places}
-use Rattle.dk_overlay.specs.Logged.{Logged}
+use Rattle.dk_overlay.specs.ReadsAndWrites.{ReadsAndWrites}
 
 -- a run is stored as its number
 abbrev pub run_code : Coded RunNo
@@ -108,8 +108,8 @@ abbrev Lists : Type 0
 Lists = List (Item × Read) × (List Item × List (ConnNo × Out))
 
 -- a log is stored as the tuple of its fields
-abbrev pub logged_code : Coded Item → Coded Read → Coded Out → Coded Logged
-logged_code item read out =
+abbrev pub read_write_code : Coded Item → Coded Read → Coded Out → Coded ReadsAndWrites
+read_write_code item read out =
     code_by (Lists × (Maps × Counts))
     (coded× (coded× (coded_list (coded× item read)) (coded× (coded_list item) (coded_list (coded× conn_code out))))
     (coded× (coded× (map.code id_code (change_code object_code)) (coded× (map.code (coded_list coded_ℕ) (change_code id_code)) (map.code key_code task_change_code)))

@@ -4,7 +4,7 @@ pub mod Binding
 pub mod Picks
 pub mod Asked
 pub mod Answers
-pub mod Logged
+pub mod ReadsAndWrites
 pub mod Codes
 pub mod NetChanges
 pub mod Items

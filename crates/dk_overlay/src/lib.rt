@@ -9,9 +9,9 @@
 pub use answers::{copy_answer, copy_name, object_of_answer, says_named, says_next, says_pending};
 pub use change::{Change, Scheduled, TaskChange, copy_change, copy_object, copy_value};
 pub use items::is_same_item;
-pub use log::{Log, LogParts};
 pub use names::NameChanges;
 pub use objects::ObjectChanges;
+pub use read_write_set::{ReadWriteParts, ReadWriteSet};
 pub use reads::Reads;
 pub use tasks::TaskChanges;
 
@@ -19,8 +19,8 @@ pub mod answers;
 pub mod change;
 mod index;
 pub mod items;
-pub mod log;
 pub mod names;
 pub mod objects;
+pub mod read_write_set;
 pub mod reads;
 pub mod tasks;

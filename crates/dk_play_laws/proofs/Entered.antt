@@ -12,10 +12,10 @@ use Rattle.dk_model.specs.Events.{Meaning, Happens, outbox}
 use Rattle.dk_model.specs.Histories.{Leads}
 use Rattle.dk_model.specs.Transcripts.{Enters, EntersAll, Hands}
 use Rattle.dk_progress.proofs.Fits.{AreWithin}
-use Rattle.dk_play_laws.specs.Told.{is_told, told_of}
+use Rattle.dk_play_laws.specs.Reported.{is_reported, reported_of}
 use Rattle.dk_play_laws.specs.LineEvents.{Said, playing_at, IsLineEvent, AreLineEvents, AreHandEvents}
 use Rattle.dk_play_laws.proofs.Boxes.{within_happens}
-use Rattle.dk_play_laws.proofs.Told.{told_first}
+use Rattle.dk_play_laws.proofs.Reported.{told_first}
 
 -- a line is entered
 entered : (rules : Meaning) (pass : ℕ) (w : World) (s : Said) (l : Line) (e : Event) (after : World) (t : Said) → IsLineEvent pass s l e t → Happens rules w e after → Enters rules (playing_at w s) l e (playing_at after t)
@@ -54,24 +54,24 @@ handed_all rules pass w [] (e ∷ events) after is within h = absurd is
 handed_all rules pass w (conn ∷ conns) [] after is within h = absurd is
 
 -- the event of a line is told
-line_told : (pass : ℕ) (s : Said) (l : Line) (e : Event) (t : Said) → IsLineEvent pass s l e t → is_told e ≡ true
-line_told pass s (line.Login name) e t is = ap is_told is.1
-line_told pass s (line.Send name text) e t is = ap is_told is.3
-line_told pass s (line.Channel name channel text) e t is = ap is_told is.3
-line_told pass s (line.Logout name) e t is = ap is_told is.3
-line_told pass s (line.Drop name) e t is = ap is_told is.3
-line_told pass s (line.Tick moment) e t is = ap is_told is.0
+line_told : (pass : ℕ) (s : Said) (l : Line) (e : Event) (t : Said) → IsLineEvent pass s l e t → is_reported e ≡ true
+line_told pass s (line.Login name) e t is = ap is_reported is.1
+line_told pass s (line.Send name text) e t is = ap is_reported is.3
+line_told pass s (line.Channel name channel text) e t is = ap is_reported is.3
+line_told pass s (line.Logout name) e t is = ap is_reported is.3
+line_told pass s (line.Drop name) e t is = ap is_reported is.3
+line_told pass s (line.Tick moment) e t is = ap is_reported is.0
 
 -- all events of lines are told
-pub lines_told : (pass : ℕ) (s : Said) (lines : List Line) (events : List Event) (t : Said) → AreLineEvents pass s lines events t → told_of events ≡ events
+pub lines_told : (pass : ℕ) (s : Said) (lines : List Line) (events : List Event) (t : Said) → AreLineEvents pass s lines events t → reported_of events ≡ events
 lines_told pass s [] [] t is = refl
 lines_told pass s (l ∷ lines) (e ∷ events) t is = told_first e events (line_told pass s l e is.0 is.1) ∙ ap (λ (es : List Event). e ∷ es) (lines_told pass is.0 lines events t is.2)
 lines_told pass s [] (e ∷ events) t is = absurd is
 lines_told pass s (l ∷ lines) [] t is = absurd is
 
 -- and so are all hands
-pub hands_told : (pass : ℕ) (conns : List ConnNo) (events : List Event) → AreHandEvents pass conns events → told_of events ≡ events
+pub hands_told : (pass : ℕ) (conns : List ConnNo) (events : List Event) → AreHandEvents pass conns events → reported_of events ≡ events
 hands_told pass [] [] is = refl
-hands_told pass (conn ∷ conns) (e ∷ events) is = told_first e events (ap is_told is.2) ∙ ap (λ (es : List Event). e ∷ es) (hands_told pass conns events is.3)
+hands_told pass (conn ∷ conns) (e ∷ events) is = told_first e events (ap is_reported is.2) ∙ ap (λ (es : List Event). e ∷ es) (hands_told pass conns events is.3)
 hands_told pass [] (e ∷ events) is = absurd is
 hands_told pass (conn ∷ conns) [] is = absurd is

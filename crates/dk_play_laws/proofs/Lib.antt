@@ -1,4 +1,4 @@
-pub mod Told
+pub mod Reported
 pub mod Own
 pub mod Worked
 pub mod Boxes

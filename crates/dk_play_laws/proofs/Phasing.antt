@@ -32,7 +32,7 @@ use Rattle.dk_play_laws.specs.PhasedLaw.{DrainTells, PhasesFollow, NothingIsPlay
 use Rattle.dk_play_laws.specs.BudgetLaw.{IsBudgetSpent}
 use Rattle.dk_play_laws.proofs.Budgets.{spent_committed}
 use Rattle.dk_play_laws.specs.Seen.{AreNumbered, AreBehind, HaveSeen}
-use Rattle.dk_play_laws.specs.Told.{told_of, is_release, AreKept}
+use Rattle.dk_play_laws.specs.Reported.{reported_of, is_release, AreKept}
 use Rattle.dk_play_laws.specs.WorkedLaw.{IsUnclaimed, AllWork, HasWorked}
 use Rattle.dk_play_laws.specs.Worked.{AreWorked}
 use Rattle.dk_play_laws.proofs.Boxes.{opening_within, within_leads}
@@ -40,7 +40,7 @@ use Rattle.dk_play_laws.proofs.Drained.{behind_more, drains_end}
 use Rattle.dk_play_laws.proofs.Entered.{entered_all, handed_all, lines_told, hands_told}
 use Rattle.dk_play_laws.proofs.Own.{of_pass, named_first, alone}
 use Rattle.dk_play_laws.proofs.Small.{small_events}
-use Rattle.dk_play_laws.proofs.Told.{told_append}
+use Rattle.dk_play_laws.proofs.Reported.{told_append}
 use Rattle.dk_play_laws.proofs.Unclaimed.{unclaimed_after, lines_grant, hands_grant, no_values, opening_unclaimed}
 use Rattle.dk_play_laws.proofs.Worked.{workers_leave, one_in_turn}
 
@@ -175,16 +175,16 @@ module _ (o : Opened) (n : ℕ) (done : List (List Line)) (front : List Event) (
         (within_leads o.rules p.at entered q.at (within_leads o.rules w front p.at (opening_within o.durable o.budget) p.first) q.first) r.first
 
     -- what is told of these events
-    told : told_of events ≡ entered ++ (told_of drain ++ handed)
+    told : reported_of events ≡ entered ++ (reported_of drain ++ handed)
     told =
-        told_append entered (drain ++ handed) ∙ ap (λ (es : List Event). es ++ told_of (drain ++ handed)) (lines_told pass s lines entered t h.are_lines)
-        ∙ ap (λ (es : List Event). entered ++ es) (told_append drain handed ∙ ap (λ (es : List Event). told_of drain ++ es) (hands_told pass t.opened handed h.are_hands))
+        told_append entered (drain ++ handed) ∙ ap (λ (es : List Event). es ++ reported_of (drain ++ handed)) (lines_told pass s lines entered t h.are_lines)
+        ∙ ap (λ (es : List Event). entered ++ es) (told_append drain handed ∙ ap (λ (es : List Event). reported_of drain ++ es) (hands_told pass t.opened handed h.are_hands))
 
     -- the phase is the model's
-    plays : AreKept drain → PlaysPhase o.rules (playing_at (world_after o front) s) lines (filter_map item_of drain) (told_of events) (playing_at (world_after o (front ++ events)) t)
+    plays : AreKept drain → PlaysPhase o.rules (playing_at (world_after o front) s) lines (filter_map item_of drain) (reported_of events) (playing_at (world_after o (front ++ events)) t)
     plays kept = record {
       entered = entered;
-      followed = told_of drain;
+      followed = reported_of drain;
       handed = handed;
       all = told;
       at_lines = playing_at q.at t;
@@ -224,8 +224,8 @@ module _ (o : Opened) (n : ℕ) (done : List (List Line)) (front : List Event) (
               record {
                 order = before.order ++ filter_map item_of drain ∷ [];
                 plays = subst (λ (ps : List (List Event)). Plays o.rules (playing w) (done ++ lines ∷ []) (before.order ++ filter_map item_of drain ∷ []) ps (playing_at (world_after o (front ++ events)) t))
-                    (sym (ap (map told_of) cut ∙ map-append told_of (phases_of front marks) (events ∷ [])))
-                    (plays-push o.rules (playing w) (playing_at (world_after o front) s) (playing_at (world_after o (front ++ events)) t) done before.order (map told_of (phases_of front marks)) lines (filter_map item_of drain) (told_of events)
+                    (sym (ap (map reported_of) cut ∙ map-append reported_of (phases_of front marks) (events ∷ [])))
+                    (plays-push o.rules (playing w) (playing_at (world_after o front) s) (playing_at (world_after o (front ++ events)) t) done before.order (map reported_of (phases_of front marks)) lines (filter_map item_of drain) (reported_of events)
                     before.plays (plays (kept_drain kept)));
                 turns = λ one. all-append AreInTurn before.order (filter_map item_of drain ∷ []) (before.turns one) (one_in_turn drain (h.turns one) (kept_drain kept), tt);
               };

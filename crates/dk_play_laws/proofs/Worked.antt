@@ -14,7 +14,7 @@ use Rattle.dk_model.specs.Legal.{pass_of}
 use Rattle.dk_model.specs.Orders.{OrderItem, Claimed, Committed, AreInTurn, item_of, job_text, outcome_text}
 use Rattle.dk_model.specs.Transcripts.{Follows}
 use Rattle.dk_laws.proofs.NumberedMaps.{one_run, run-insert, run-remove}
-use Rattle.dk_play_laws.specs.Told.{told_of, AreKept}
+use Rattle.dk_play_laws.specs.Reported.{reported_of, AreKept}
 use Rattle.dk_play_laws.specs.Worked.{Handles, AreWorked}
 use Rattle.dk_play_laws.specs.WorkedLaw.{IsUnclaimed, WorkersLeaveNoClaim, OneWorkerIsInTurn}
 use Rattle.dk_play_laws.proofs.Own.{of_pass, of_first, of_rest}
@@ -133,11 +133,11 @@ unclaimed rules w hand (e ∷ events) after go held h run =
 
 -- a worker's event that is kept, and then the others, follow
 follows_on : (rules : Meaning) (w mid : World) (e : Event) (events : List Event) (after : World) (hand to : Option RunNo) → Handles hand e to → AreKept (e ∷ events) → Happens rules w e mid
-    → Follows rules mid (filter_map item_of events) (told_of events) after → Follows rules w (filter_map item_of (e ∷ events)) (told_of (e ∷ events)) after
+    → Follows rules mid (filter_map item_of events) (reported_of events) after → Follows rules w (filter_map item_of (e ∷ events)) (reported_of (e ∷ events)) after
 follows_on rules w mid (event.Claim pass (claimed.Granted run at job)) events after None to m kept h rest = (mid, refl, h, rest)
-follows_on rules w mid (event.Claim pass claimed.Nothing) events after None to m kept h rest = subst (λ (x : World). Follows rules x (filter_map item_of events) (told_of events) after) h.1 rest
-follows_on rules w mid (event.Claim pass (claimed.Spent granted)) events after None to m kept h rest = subst (λ (x : World). Follows rules x (filter_map item_of events) (told_of events) after) h.3 rest
-follows_on rules w mid (event.Claim pass (claimed.Exhausted next)) events after None to m kept h rest = subst (λ (x : World). Follows rules x (filter_map item_of events) (told_of events) after) h.4 rest
+follows_on rules w mid (event.Claim pass claimed.Nothing) events after None to m kept h rest = subst (λ (x : World). Follows rules x (filter_map item_of events) (reported_of events) after) h.1 rest
+follows_on rules w mid (event.Claim pass (claimed.Spent granted)) events after None to m kept h rest = subst (λ (x : World). Follows rules x (filter_map item_of events) (reported_of events) after) h.3 rest
+follows_on rules w mid (event.Claim pass (claimed.Exhausted next)) events after None to m kept h rest = subst (λ (x : World). Follows rules x (filter_map item_of events) (reported_of events) after) h.4 rest
 follows_on rules w mid (event.Commit pass ran seq outcome) events after (Some run) to m kept h rest = (mid, refl, h, rest)
 follows_on rules w mid (event.Release pass ran) events after (Some run) to m kept h rest = let k = kept.0 in absurd (true_false k) where
   true_false : ◌≡◌ {A = Bool} true false → ⊥
@@ -154,7 +154,7 @@ follows_on rules w mid (event.Claim pass reply) events after (Some run) to m kep
 follows_on rules w mid (event.Hand pass conn most outs end) events after (Some run) to m kept h rest = absurd m
 follows_on rules w mid (event.Tick pass moment) events after (Some run) to m kept h rest = absurd m
 
-follows : (rules : Meaning) (w : World) (hand : InHand) (events : List Event) (after : World) → AllGoOn hand events → AreKept events → Leads rules w events after → Follows rules w (filter_map item_of events) (told_of events) after
+follows : (rules : Meaning) (w : World) (hand : InHand) (events : List Event) (after : World) → AllGoOn hand events → AreKept events → Leads rules w events after → Follows rules w (filter_map item_of events) (reported_of events) after
 follows rules w hand [] after go kept h = h
 follows rules w hand (e ∷ events) after go kept h =
     let first = first_go hand e events go in

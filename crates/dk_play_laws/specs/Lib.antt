@@ -1,4 +1,4 @@
-pub mod Told
+pub mod Reported
 pub mod Worked
 pub mod Seen
 pub mod AloneLaw

@@ -16,14 +16,14 @@ use Rattle.dk_turn.specs.Fronts.{Known, own, Continues}
 use Rattle.dk_play_laws.specs.BudgetLaw.{IsBudgetSpent}
 use Rattle.dk_play_laws.specs.LineEvents.{Said, playing_at, AreLineEvents, AreHandEvents}
 use Rattle.dk_play_laws.specs.Seen.{AreNumbered, AreBehind, HaveSeen, ArePaired}
-use Rattle.dk_play_laws.specs.Told.{told_of, AreKept}
+use Rattle.dk_play_laws.specs.Reported.{reported_of, AreKept}
 use Rattle.dk_play_laws.specs.Worked.{AreWorked}
 use Rattle.dk_play_laws.specs.WorkedLaw.{IsUnclaimed, AllWork}
 
 -- the events by phases are a play of these phases of a script, in some order of claims and commits; with one worker each claim is followed at once by its commit
 pub record ArePlayed (o : Opened) (workers : ℕ) (done : List (List Line)) (events : List Event) (marks : List ℕ) (s : Said) : Type 0 where
   pub order : List (List OrderItem)
-  pub plays : Plays o.rules (playing (opening_of o)) done order (map told_of (phases_of events marks)) (playing_at (world_after o events) s)
+  pub plays : Plays o.rules (playing (opening_of o)) done order (map reported_of (phases_of events marks)) (playing_at (world_after o events) s)
   pub turns : workers ≡ 1 → AllByRecursion AreInTurn order
 
 -- what stands after these phases: no run is claimed, and where none was given back the events are a play

@@ -11,7 +11,7 @@ use Rattle.dk_model.specs.Legal.{pass_of}
 use Rattle.dk_model.specs.Orders.{AreInTurn, item_of}
 use Rattle.dk_model.specs.Transcripts.{Follows}
 use Rattle.dk_turn.specs.Fronts.{own}
-use Rattle.dk_play_laws.specs.Told.{told_of, AreKept}
+use Rattle.dk_play_laws.specs.Reported.{reported_of, AreKept}
 use Rattle.dk_play_laws.specs.Worked.{AreWorked}
 
 -- no run is claimed
@@ -25,7 +25,7 @@ AllWork events = (pass : ℕ) → AreWorked None (own pass_of pass events) None
 -- what workers leave: no run is claimed, and where none was given back the events follow their own order
 pub record HasWorked (rules : Meaning) (w : World) (events : List Event) (after : World) : Type 0 where
   pub unclaimed : IsUnclaimed after
-  pub follows : AreKept events → Follows rules w (filter_map item_of events) (told_of events) after
+  pub follows : AreKept events → Follows rules w (filter_map item_of events) (reported_of events) after
 
 -- from a world where no run is claimed, the events of passes that end all that they claim lead to one
 abbrev pub WorkersLeaveNoClaim : Type 0

@@ -3,7 +3,7 @@ ghost use Rattle.dk_play_laws.specs.AloneLaw.{OnePassIsAlone};
 ghost use Rattle.dk_play_laws.specs.WorkedLaw.{OneWorkerIsInTurn, WorkersLeaveNoClaim};
 ghost use Rattle.dk_play_laws.specs.BudgetLaw.{NumbersEndAtOne, SpentBudgetsAreCommitted};
 ghost use Rattle.dk_play_laws.specs.PhasedLaw.{DrainsEndTheirClaims, NothingIsPlayed, PhasesFollow, PlaysAreSeen, PlaysStandOn, SpentIsSeen, SpentPhasesEnd};
-ghost use Rattle.dk_play_laws.specs.Told.{SilentClaimsPrintNothing};
+ghost use Rattle.dk_play_laws.specs.Reported.{SilentClaimsPrintNothing};
 
 /// Claims that were granted nothing print nothing.
 pub fn silent_claims_print_nothing()

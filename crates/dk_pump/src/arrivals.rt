@@ -12,6 +12,7 @@ use dk_types::Failed;
 use dk_types::limits::NUMBERS_END;
 use std::marker::Brand;
 use std::sync::ledger::{Book, Ledger, Share};
+use thiserror::Error;
 
 /// What tells one door from another: the ledger of its links, which is the supertrait's, and the listener that was lent to it, as
 /// it was then.
@@ -55,13 +56,16 @@ pub enum Accepting {
 }
 
 /// Why no link is given.
-#[derive(Clone, Copy, Debug, PartialEq, Eq)]
+#[derive(Clone, Copy, Debug, PartialEq, Eq, Error)]
 pub enum NoLink {
     /// As many were given as there were to be, or the listener said that no more come.
+    #[error("no more links come")]
     Over,
     /// The listener failed.
+    #[error("the listener failed")]
     Failed,
     /// The server is ending.
+    #[error("the server is ending")]
     Ending,
 }
 

@@ -6,7 +6,7 @@ ghost use Rattle.dk_pump_tests.specs.Hosts.{opened_for};
 use dk_disk::{Home, MemoryHome};
 use dk_game::Game;
 use dk_host::{Host, Hosting, OpenedStore, WorldBook, open_store};
-use dk_turn::{Blank, Naming, Pass};
+use dk_turn::{Naming, Pass, TurnBuilder};
 use dk_types::GameId;
 use std::alloc::Global;
 use std::marker::Brand;
@@ -78,7 +78,7 @@ fn on_ledgers<S: Scene, G: Game, W: Hosting, R: Wait>(
     requires opening { store.home.opening ≡ W.opening }
     requires counted { store.home.plan.faults ≡ W.counted }
 {
-    let Ok(blank) = Blank::new(alloc, PASSES_COUNT) else {
+    let Ok(blank) = TurnBuilder::new(alloc, PASSES_COUNT) else {
         return Err(Fail::from("a turn"));
     };
     on_host::<S, G, W, Brand, R>(rt, alloc, game, blank, commits, places, store, keep, scene)
@@ -88,7 +88,7 @@ fn on_host<S: Scene, G: Game, W: Hosting, J: Naming, R: Wait>(
     rt: &R,
     alloc: Global,
     game: &G,
-    blank: Blank<WorldBook<W>>,
+    blank: TurnBuilder<WorldBook<W>>,
     commits: ledger::Blank,
     places: ledger::Blank,
     store: OpenedStore<MemoryHome>,

@@ -12,7 +12,7 @@ use Rattle.dk_model.specs.DurableWorlds.{DurableWorld, Agrees}
 use Rattle.dk_model.specs.Runs as act
 use Rattle.dk_model.specs.Runs.{Run, Act, and_then, found, change_found}
 use Rattle.dk_model.specs.References.{get_as, get_for_update_as, save_as}
-use Rattle.dk_overlay.specs.Logged.{Logged}
+use Rattle.dk_overlay.specs.ReadsAndWrites.{ReadsAndWrites}
 use Rattle.dk_txn.specs.Current.{current}
 use Rattle.dk_overlay.proofs.Tests.{Some_injective}
 use Rattle.dk_txn.specs.declared.refusal.Refusal.{Refusal}
@@ -41,7 +41,7 @@ unfolding act.get
 stands_at id s t object e = subst (λ (u : Run). map.get u.world.objects id ≡ Some object) (ap (λ p. p.1) e) (found_some 2 (map.get s.world.objects id) object (ap (λ p. p.0) e))
 
 -- where no agreeing world refuses so, nothing is told of a kind
-tells_nothing : (t : Logged) (id : ObjectId) (e : Refusal) → (refusal_fault e ≡ Some (Refused 3) → (d : DurableWorld) → Agrees d t.reads → ⊥) → TellsKind t id e
+tells_nothing : (t : ReadsAndWrites) (id : ObjectId) (e : Refusal) → (refusal_fault e ≡ Some (Refused 3) → (d : DurableWorld) → Agrees d t.reads → ⊥) → TellsKind t id e
 tells_nothing t id (refusal.WrongKind other) h = λ d agrees. absurd (h refl d agrees)
 tells_nothing t id refusal.NameNotBound h = tt
 tells_nothing t id refusal.ObjectNotFound h = tt
@@ -82,10 +82,10 @@ passed Holds e (Ok x) is holds = absurd is
 
 module _ {S : Type 0} {sights : Sights S} where
   -- the answer is known, and nothing is done
-  pub answered_here : {a : Txn S Logged} {A : Type 0} {f : Act A} {x : A} → ((d : DurableWorld) → f (current a.log d) ≡ (Ok x, current a.log d)) → Does sights refusal_fault a a f (Ok x)
-  answered_here {a = a} h = record { keeps = keeps_all; does = λ s t d agrees. h d ∙ ap (λ r. (r, current a.log d)) (Some_injective _ _ t) }
+  pub answered_here : {a : Txn S ReadsAndWrites} {A : Type 0} {f : Act A} {x : A} → ((d : DurableWorld) → f (current a.set d) ≡ (Ok x, current a.set d)) → Does sights refusal_fault a a f (Ok x)
+  answered_here {a = a} h = record { keeps = keeps_all; does = λ s t d agrees. h d ∙ ap (λ r. (r, current a.set d)) (Some_injective _ _ t) }
 
-  module _ {a b : Txn S Logged} {A : Type 0} (id : ObjectId) (kind : ℕ) (read : List ℕ → Option A) where
+  module _ {a b : Txn S ReadsAndWrites} {A : Type 0} (id : ObjectId) (kind : ℕ) (read : List ℕ → Option A) where
     pub get_stops : {e : Refusal} {r : Result A Refusal} → Does sights refusal_fault a b (act.get id) (Err e) → IsErrAnd r (λ h. h ≡ e) → Does sights refusal_fault a b (get_as kind read id) r
     unfolding get_as
     get_stops p is = stops _ p is
@@ -94,24 +94,24 @@ module _ {S : Type 0} {sights : Sights S} where
     unfolding get_for_update_as
     update_stops p is = stops _ p is
 
-    pub update_halts : {c : Txn S Logged} {x : A} {e : Refusal} {r : Result A Refusal} → Does sights refusal_fault a b (get_as kind read id) (Ok x) → Does sights refusal_fault b c (act.mark id) (Err e)
+    pub update_halts : {c : Txn S ReadsAndWrites} {x : A} {e : Refusal} {r : Result A Refusal} → Does sights refusal_fault a b (get_as kind read id) (Ok x) → Does sights refusal_fault b c (act.mark id) (Err e)
         → IsErrAnd r (λ h. h ≡ e) → Does sights refusal_fault a c (get_for_update_as kind read id) r
     unfolding get_for_update_as
     update_halts p q is = then_does _ p (stops _ q is)
 
-    pub update_does : {c : Txn S Logged} {x : A} → Does sights refusal_fault a b (get_as kind read id) (Ok x) → Does sights refusal_fault b c (act.mark id) (Ok tt) → Does sights refusal_fault a c (get_for_update_as kind read id) (Ok x)
+    pub update_does : {c : Txn S ReadsAndWrites} {x : A} → Does sights refusal_fault a b (get_as kind read id) (Ok x) → Does sights refusal_fault b c (act.mark id) (Ok tt) → Does sights refusal_fault a c (get_for_update_as kind read id) (Ok x)
     unfolding get_for_update_as
     update_does p q = then_does _ p (then_does _ q give_does)
 
-  pub save_stops : {a b : Txn S Logged} {e : Refusal} {r : Result (Unit {0}) Refusal} (id : ObjectId) (kind : ℕ) (bytes : List ℕ) → Does sights refusal_fault a b (act.get id) (Err e) → IsErrAnd r (λ h. h ≡ e)
+  pub save_stops : {a b : Txn S ReadsAndWrites} {e : Refusal} {r : Result (Unit {0}) Refusal} (id : ObjectId) (kind : ℕ) (bytes : List ℕ) → Does sights refusal_fault a b (act.get id) (Err e) → IsErrAnd r (λ h. h ≡ e)
       → Does sights refusal_fault a b (save_as kind id bytes) r
   unfolding save_as
   save_stops id kind bytes p is = stops _ p is
 
-  module _ {a b : Txn S Logged} (id : ObjectId) (object : Object) (got : Does sights refusal_fault a b (act.get id) (Ok object)) where
+  module _ {a b : Txn S ReadsAndWrites} (id : ObjectId) (object : Object) (got : Does sights refusal_fault a b (act.get id) (Ok object)) where
     -- the object has a kind of its own
-    pub found_kind : TellsKind b.log id (refusal.WrongKind object.kind)
-    found_kind d agrees = ap kind_of (stands_at id (current a.log d) (current b.log d) object (got.does (Ok object) refl d agrees))
+    pub found_kind : TellsKind b.set id (refusal.WrongKind object.kind)
+    found_kind d agrees = ap kind_of (stands_at id (current a.set d) (current b.set d) object (got.does (Ok object) refl d agrees))
 
     module _ {A : Type 0} (kind : ℕ) (read : List ℕ → Option A) where
       pub get_wrong : {told : ℕ} → (object.kind ≡ kind → ⊥) → Does sights refusal_fault a b (get_as kind read id) (Err (refusal.WrongKind told))
@@ -133,29 +133,29 @@ module _ {S : Type 0} {sights : Sights S} where
       save_wrong other = then_does _ got (rw (eq_false object.kind kind other) (refused_here (Refused 3) refl (λ d. refl)))
 
       -- an object of the right kind is saved
-      pub save_right : {c : Txn S Logged} {r : Result (Unit {0}) Refusal} → object.kind ≡ kind → Does sights refusal_fault b c (act.save id bytes) r → Does sights refusal_fault a c (save_as kind id bytes) r
+      pub save_right : {c : Txn S ReadsAndWrites} {r : Result (Unit {0}) Refusal} → object.kind ≡ kind → Does sights refusal_fault b c (act.save id bytes) r → Does sights refusal_fault a c (save_as kind id bytes) r
       unfolding save_as
       save_right same saved = then_does _ got (rw (eq_true object.kind kind same) saved)
 
   -- a refusal of these calls tells nothing of a kind
-  pub get_tells : {a b : Txn S Logged} {e : Refusal} (id : ObjectId) → Does sights refusal_fault a b (act.get id) (Err e) → TellsKind b.log id e
+  pub get_tells : {a b : Txn S ReadsAndWrites} {e : Refusal} (id : ObjectId) → Does sights refusal_fault a b (act.get id) (Err e) → TellsKind b.set id e
   unfolding act.get
-  get_tells {a = a} {b = b} {e = e} id p = tells_nothing b.log id e (λ is d agrees. not_three 2 (map.get (current a.log d).world.objects id) two (ap (λ q. q.0) (p.does (Err (Refused 3)) (ap failure is) d agrees)))
+  get_tells {a = a} {b = b} {e = e} id p = tells_nothing b.set id e (λ is d agrees. not_three 2 (map.get (current a.set d).world.objects id) two (ap (λ q. q.0) (p.does (Err (Refused 3)) (ap failure is) d agrees)))
 
-  pub mark_tells : {a b : Txn S Logged} {e : Refusal} (id : ObjectId) → Does sights refusal_fault a b (act.mark id) (Err e) → TellsKind b.log id e
+  pub mark_tells : {a b : Txn S ReadsAndWrites} {e : Refusal} (id : ObjectId) → Does sights refusal_fault a b (act.mark id) (Err e) → TellsKind b.set id e
   unfolding act.mark
   mark_tells {a = a} {b = b} {e = e} id p =
-      tells_nothing b.log id e (λ is d agrees. change_other (map.get (current a.log d).world.objects id) id (λ object. Some object) (current a.log d) (current b.log d) (p.does (Err (Refused 3)) (ap failure is) d agrees))
+      tells_nothing b.set id e (λ is d agrees. change_other (map.get (current a.set d).world.objects id) id (λ object. Some object) (current a.set d) (current b.set d) (p.does (Err (Refused 3)) (ap failure is) d agrees))
 
-  save_refused : {a b : Txn S Logged} {e : Refusal} (id : ObjectId) (bytes : List ℕ) → Does sights refusal_fault a b (act.save id bytes) (Err e) → TellsKind b.log id e
+  save_refused : {a b : Txn S ReadsAndWrites} {e : Refusal} (id : ObjectId) (bytes : List ℕ) → Does sights refusal_fault a b (act.save id bytes) (Err e) → TellsKind b.set id e
   unfolding act.save
   save_refused {a = a} {b = b} {e = e} id bytes p =
-      tells_nothing b.log id e (λ is d agrees. by d (act.is_too_long bytes) (p.does (Err (Refused 3)) (ap failure is) d agrees))
+      tells_nothing b.set id e (λ is d agrees. by d (act.is_too_long bytes) (p.does (Err (Refused 3)) (ap failure is) d agrees))
     where
-      by : (d : DurableWorld) (long : Bool) → (if long then act.refuse 4 (current a.log d) else act.change_object id (λ object. Some (record { kind = object.kind; bytes = bytes })) (current a.log d)) ≡ (Err (Refused 3), current b.log d) → ⊥
+      by : (d : DurableWorld) (long : Bool) → (if long then act.refuse 4 (current a.set d) else act.change_object id (λ object. Some (record { kind = object.kind; bytes = bytes })) (current a.set d)) ≡ (Err (Refused 3), current b.set d) → ⊥
       by d true e = not_three {A = Unit {0}} 4 None four (ap (λ p. p.0) e)
-      by d false e = change_other (map.get (current a.log d).world.objects id) id (λ object. Some (record { kind = object.kind; bytes = bytes })) (current a.log d) (current b.log d) e
+      by d false e = change_other (map.get (current a.set d).world.objects id) id (λ object. Some (record { kind = object.kind; bytes = bytes })) (current a.set d) (current b.set d) e
 
-  pub save_tells : {a b : Txn S Logged} {r : Result (Unit {0}) Refusal} (id : ObjectId) (bytes : List ℕ) → Does sights refusal_fault a b (act.save id bytes) r → IfErr r (TellsKind b.log id)
+  pub save_tells : {a b : Txn S ReadsAndWrites} {r : Result (Unit {0}) Refusal} (id : ObjectId) (bytes : List ℕ) → Does sights refusal_fault a b (act.save id bytes) r → IfErr r (TellsKind b.set id)
   save_tells {r = Ok u} id bytes p = tt
   save_tells {r = Err e} id bytes p = save_refused id bytes p

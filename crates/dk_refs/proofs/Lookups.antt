@@ -11,7 +11,7 @@ use Rattle.dk_model.specs.Runs.{Run, Act, and_then, give, send}
 use Rattle.dk_model.specs.References.{get_as}
 use Rattle.dk_model.specs.Records.{SESSION_KIND, session_of, session_name, is_name_too_long}
 use Rattle.dk_model.specs.Platforms.{platform_bound, found_as, numbered, recorded_as, session_under, own_record, record_if_connected, is_connected, find_session, session_send}
-use Rattle.dk_overlay.specs.Logged.{Logged}
+use Rattle.dk_overlay.specs.ReadsAndWrites.{ReadsAndWrites}
 use Rattle.dk_txn.specs.declared.refusal.Refusal.{Refusal}
 use Rattle.dk_txn.specs.declared.refusal.Refusal.TheVariants as refusal
 use Rattle.dk_txn.specs.declared.txn.Txn.{Txn}
@@ -31,42 +31,42 @@ pub eq_false : (a b : ℕ) → (a ≡ b → ⊥) → nat_eq a b ≡ false
 eq_false a b h = grind (arith, nat_tests)
 
 module _ {S : Type 0} {sights : Sights S} where
-  pub recorded_long : {a : Txn S Logged} (name : List ℕ) → is_name_too_long (session_name name) ≡ true → Does sights refusal_fault a a (recorded name) (Ok None)
+  pub recorded_long : {a : Txn S ReadsAndWrites} (name : List ℕ) → is_name_too_long (session_name name) ≡ true → Does sights refusal_fault a a (recorded name) (Ok None)
   unfolding recorded
   recorded_long name long = answered_here (λ d. rw long refl)
 
-  pub recorded_short : {a b : Txn S Logged} {r : Result (Option ObjectId) Refusal} (name key : List ℕ) → key ≡ session_name name → is_name_too_long (session_name name) ≡ false
+  pub recorded_short : {a b : Txn S ReadsAndWrites} {r : Result (Option ObjectId) Refusal} (name key : List ℕ) → key ≡ session_name name → is_name_too_long (session_name name) ≡ false
       → Does sights refusal_fault a b (binding key) r → Does sights refusal_fault a b (recorded name) r
   unfolding recorded binding
   recorded_short {a = a} {b = b} {r = r} name key is short p = does_as (binding (session_name name)) (λ s. rw short refl) (subst (λ k. Does sights refusal_fault a b (binding k) r) is p)
 
   -- the record is looked for, and what follows is by what was found
-  looked : {a b c : Txn S Logged} {B : Type 0} {f : Act B} {o : Option ObjectId} {r : Result B Refusal} (name : List ℕ) (g : Option ObjectId → Act B)
+  looked : {a b c : Txn S ReadsAndWrites} {B : Type 0} {f : Act B} {o : Option ObjectId} {r : Result B Refusal} (name : List ℕ) (g : Option ObjectId → Act B)
       → ((s : Run) → f s ≡ g (platform_bound s (session_name name)) s) → Does sights refusal_fault a b (recorded name) (Ok o) → Does sights refusal_fault b c (g o) r → Does sights refusal_fault a c f r
   unfolding recorded and_then
   looked name g same p q = does_as (and_then (recorded name) g) same (then_does g p q)
 
-  look_stops : {a b : Txn S Logged} {B : Type 0} {f : Act B} {e : Refusal} {r : Result B Refusal} (name : List ℕ) (g : Option ObjectId → Act B)
+  look_stops : {a b : Txn S ReadsAndWrites} {B : Type 0} {f : Act B} {e : Refusal} {r : Result B Refusal} (name : List ℕ) (g : Option ObjectId → Act B)
       → ((s : Run) → f s ≡ g (platform_bound s (session_name name)) s) → Does sights refusal_fault a b (recorded name) (Err e) → IsErrAnd r (λ h. h ≡ e) → Does sights refusal_fault a b f r
   unfolding recorded and_then
   look_stops name g same p is = does_as (and_then (recorded name) g) same (stops g p is)
 
-  pub recorded_tells : {a b : Txn S Logged} {o : Option ObjectId} {x : Bool} (name : List ℕ) → Does sights refusal_fault a b (recorded name) (Ok o) → x ≡ is_some o → Does sights refusal_fault a b (is_recorded name) (Ok x)
+  pub recorded_tells : {a b : Txn S ReadsAndWrites} {o : Option ObjectId} {x : Bool} (name : List ℕ) → Does sights refusal_fault a b (recorded name) (Ok o) → x ≡ is_some o → Does sights refusal_fault a b (is_recorded name) (Ok x)
   unfolding is_recorded give
   recorded_tells {b = b} {o = o} name p is = looked name (λ o. give (Ok (is_some o))) (λ s. refl) p (subst (λ x. Does sights refusal_fault b b (give (Ok (is_some o))) (Ok x)) (sym is) give_does)
 
-  pub recorded_stops : {a b : Txn S Logged} {e : Refusal} {r : Result Bool Refusal} (name : List ℕ) → Does sights refusal_fault a b (recorded name) (Err e) → IsErrAnd r (λ h. h ≡ e) → Does sights refusal_fault a b (is_recorded name) r
+  pub recorded_stops : {a b : Txn S ReadsAndWrites} {e : Refusal} {r : Result Bool Refusal} (name : List ℕ) → Does sights refusal_fault a b (recorded name) (Err e) → IsErrAnd r (λ h. h ≡ e) → Does sights refusal_fault a b (is_recorded name) r
   unfolding is_recorded give
   recorded_stops name p is = look_stops name (λ o. give (Ok (is_some o))) (λ s. refl) p is
 
-  module _ {a b : Txn S Logged} (name : List ℕ) where
+  module _ {a b : Txn S ReadsAndWrites} (name : List ℕ) where
     pub under_stops : {e : Refusal} {r : Result (ObjectId × SessionRecord) Refusal} → Does sights refusal_fault a b (recorded name) (Err e) → IsErrAnd r (λ h. h ≡ e) → Does sights refusal_fault a b (session_under name) r
     under_stops p is = look_stops name (λ o. found_as o SESSION_KIND session_of) (λ s. refl) p is
 
     pub under_none : Does sights refusal_fault a b (recorded name) (Ok None) → Does sights refusal_fault a b (session_under name) (Err refusal.NameNotBound)
     under_none p = looked name (λ o. found_as o SESSION_KIND session_of) (λ s. refl) p (refused_here (Refused 1) refl (λ d. refl))
 
-    module _ {c : Txn S Logged} {id : ObjectId} (p : Does sights refusal_fault a b (recorded name) (Ok (Some id))) where
+    module _ {c : Txn S ReadsAndWrites} {id : ObjectId} (p : Does sights refusal_fault a b (recorded name) (Ok (Some id))) where
       under_some : {r : Result (ObjectId × SessionRecord) Refusal} → Does sights refusal_fault b c (and_then (get_as SESSION_KIND session_of id) (λ x. give (Ok (id, x)))) r → Does sights refusal_fault a c (session_under name) r
       under_some q = looked name (λ o. found_as o SESSION_KIND session_of) (λ s. refl) p (does_as _ (λ s. refl) q)
 
@@ -76,7 +76,7 @@ module _ {S : Type 0} {sights : Sights S} where
       pub under_finds : {x : SessionRecord} → Does sights refusal_fault b c (get_as SESSION_KIND session_of id) (Ok x) → Does sights refusal_fault a c (session_under name) (Ok (id, x))
       under_finds q = under_some (then_does _ q give_does)
 
-  module _ {a b : Txn S Logged} (session : Session) where
+  module _ {a b : Txn S ReadsAndWrites} (session : Session) where
     pub connected_stops : {e : Refusal} {r : Result Bool Refusal} → Does sights refusal_fault a b (recorded session.name) (Err e) → IsErrAnd r (λ h. h ≡ e) → Does sights refusal_fault a b (is_connected session) r
     unfolding is_connected
     connected_stops p is = look_stops session.name (λ o. numbered o session.conn) (λ s. refl) p is
@@ -91,7 +91,7 @@ module _ {S : Type 0} {sights : Sights S} where
     pub own_none : Does sights refusal_fault a b (recorded session.name) (Ok None) → Does sights refusal_fault a b (record_if_connected session) (Ok None)
     own_none p = looked session.name (λ o. recorded_as o session.conn) (λ s. refl) p (answered_here (λ d. refl))
 
-    module _ {c : Txn S Logged} {id : ObjectId} (p : Does sights refusal_fault a b (recorded session.name) (Ok (Some id))) where
+    module _ {c : Txn S ReadsAndWrites} {id : ObjectId} (p : Does sights refusal_fault a b (recorded session.name) (Ok (Some id))) where
       connected_some : {r : Result Bool Refusal} → Does sights refusal_fault b c (and_then (get_as SESSION_KIND session_of id) (λ x. give (Ok (nat_eq x.conn.0 session.conn.0)))) r → Does sights refusal_fault a c (is_connected session) r
       unfolding is_connected
       connected_some q = looked session.name (λ o. numbered o session.conn) (λ s. refl) p (does_as _ (λ s. refl) q)
@@ -130,25 +130,25 @@ module _ {S : Type 0} {sights : Sights S} where
       mine_found same = then_does _ p (if_true_does _ same give_does)
 
   module _ (name : List ℕ) where
-    pub find_long : {a : Txn S Logged} {e : Refusal} → IsTooLong e → is_name_too_long (session_name name) ≡ true → Does sights refusal_fault a a (find_session name) (Err e)
+    pub find_long : {a : Txn S ReadsAndWrites} {e : Refusal} → IsTooLong e → is_name_too_long (session_name name) ≡ true → Does sights refusal_fault a a (find_session name) (Err e)
     unfolding find_session
     find_long is long = refused_here (Refused 4) is (λ d. rw long refl)
 
-    find_short : {a b : Txn S Logged} {r : Result Session Refusal} → is_name_too_long (session_name name) ≡ false
+    find_short : {a b : Txn S ReadsAndWrites} {r : Result Session Refusal} → is_name_too_long (session_name name) ≡ false
         → Does sights refusal_fault a b (and_then (session_under name) (λ x. give (Ok (record { name = name; conn = x.1.conn })))) r → Does sights refusal_fault a b (find_session name) r
     unfolding find_session
     find_short short p = does_as _ (λ s. rw short refl) p
 
-    pub find_stops : {a b : Txn S Logged} {e : Refusal} {r : Result Session Refusal} → is_name_too_long (session_name name) ≡ false → Does sights refusal_fault a b (session_under name) (Err e) → IsErrAnd r (λ h. h ≡ e)
+    pub find_stops : {a b : Txn S ReadsAndWrites} {e : Refusal} {r : Result Session Refusal} → is_name_too_long (session_name name) ≡ false → Does sights refusal_fault a b (session_under name) (Err e) → IsErrAnd r (λ h. h ≡ e)
         → Does sights refusal_fault a b (find_session name) r
     find_stops short p is = find_short short (stops _ p is)
 
-    pub find_does : {a b : Txn S Logged} {x : ObjectId × SessionRecord} {copy : List ℕ} → is_name_too_long (session_name name) ≡ false → Does sights refusal_fault a b (session_under name) (Ok x) → copy ≡ name
+    pub find_does : {a b : Txn S ReadsAndWrites} {x : ObjectId × SessionRecord} {copy : List ℕ} → is_name_too_long (session_name name) ≡ false → Does sights refusal_fault a b (session_under name) (Ok x) → copy ≡ name
         → Does sights refusal_fault a b (find_session name) (Ok (record { name = copy; conn = x.1.conn }))
     find_does {a = a} {b = b} {x = x} short p same =
         subst (λ (n : List ℕ). Does sights refusal_fault a b (find_session name) (Ok (record { name = n; conn = x.1.conn }))) (sym same) (find_short short (then_does _ p give_does))
 
-module _ {S : Type 0} {sights : Sights S} {a b : Txn S Logged} (session : Session) (body : List ℕ) where
+module _ {S : Type 0} {sights : Sights S} {a b : Txn S ReadsAndWrites} (session : Session) (body : List ℕ) where
   pub send_stops : {e : Refusal} {r : Result (Unit {0}) Refusal} → Does sights refusal_fault a b (is_connected session) (Err e) → IsErrAnd r (λ h. h ≡ e) → Does sights refusal_fault a b (session_send session body) r
   unfolding session_send
   send_stops p is = stops _ p is
@@ -158,6 +158,6 @@ module _ {S : Type 0} {sights : Sights S} {a b : Txn S Logged} (session : Sessio
     unfolding session_send
     send_refused is = then_does _ p (if_false_does _ is (refused_here (Refused 1) refl (λ d. refl)))
 
-    pub send_does : {c : Txn S Logged} {r : Result (Unit {0}) Refusal} → connected ≡ true → Does sights refusal_fault b c (send session.conn (out.Message body)) r → Does sights refusal_fault a c (session_send session body) r
+    pub send_does : {c : Txn S ReadsAndWrites} {r : Result (Unit {0}) Refusal} → connected ≡ true → Does sights refusal_fault b c (send session.conn (out.Message body)) r → Does sights refusal_fault a c (session_send session body) r
     unfolding session_send
     send_does is q = then_does _ p (if_true_does _ is q)

@@ -8,7 +8,7 @@ use Rattle.dk_model.specs.DurableWorlds.{DurableWorld, Agrees}
 use Rattle.dk_model.specs.Runs.{Act, Run}
 use Rattle.dk_model.specs.Records.{session_name}
 use Rattle.dk_model.specs.Platforms.{platform_bound}
-use Rattle.dk_overlay.specs.Logged.{Logged}
+use Rattle.dk_overlay.specs.ReadsAndWrites.{ReadsAndWrites}
 use Rattle.dk_txn.specs.Current.{current}
 use Rattle.dk_txn.specs.declared.txn.Txn.{Txn}
 use Rattle.dk_txn.specs.Refusals.{refusal_fault}
@@ -24,31 +24,31 @@ same_ok : {A : Type 0} (x y : A) (s t : Run) → ◌≡◌ {A = Result A AppFaul
 same_ok {A = A} x y s t e = let told : ◌≡◌ {A = Result A AppFault} (Ok x) (Ok y) = ap (λ q. q.0) e in cc
 
 -- what a name is bound to is what a look at it tells
-pub led_to : {S : Type 0} {sights : Sights S} {a b : Txn S Logged} {f : Act (Option ObjectId)} {o : Option ObjectId} (name : List ℕ) → ((s : Run) → f s ≡ (Ok (platform_bound s name), s)) → Does sights refusal_fault a b f (Ok o)
-    → (d : DurableWorld) → Agrees d b.log.reads → platform_bound (current a.log d) name ≡ o
-led_to {a = a} {b = b} {o = o} name looks p d agrees = same_ok _ o (current a.log d) (current b.log d) (sym (looks (current a.log d)) ∙ p.does (Ok o) refl d agrees)
+pub led_to : {S : Type 0} {sights : Sights S} {a b : Txn S ReadsAndWrites} {f : Act (Option ObjectId)} {o : Option ObjectId} (name : List ℕ) → ((s : Run) → f s ≡ (Ok (platform_bound s name), s)) → Does sights refusal_fault a b f (Ok o)
+    → (d : DurableWorld) → Agrees d b.set.reads → platform_bound (current a.set d) name ≡ o
+led_to {a = a} {b = b} {o = o} name looks p d agrees = same_ok _ o (current a.set d) (current b.set d) (sym (looks (current a.set d)) ∙ p.does (Ok o) refl d agrees)
 
 module _ {S : Type 0} {sights : Sights S} where
   -- the name was asked for alone
-  pub asks_name : {a b : Txn S Logged} (name : List ℕ) → Asks (ask.Bound name) sights a b → AsksOf (IsOfRecord a.log b.log name) sights a b
+  pub asks_name : {a b : Txn S ReadsAndWrites} (name : List ℕ) → Asks (ask.Bound name) sights a b → AsksOf (IsOfRecord a.set b.set name) sights a b
   asks_name name p = asks_weaker (λ q is. inl is) p
 
   -- the name, and then the object that it leads to
-  pub asks_record : {a b c : Txn S Logged} {id : ObjectId} {f : Act (Option ObjectId)} (name : List ℕ) → ((s : Run) → f s ≡ (Ok (platform_bound s name), s))
-      → Asks (ask.Bound name) sights a b → Does sights refusal_fault a b f (Ok (Some id)) → Keeps sights b c → Asks (ask.Object id) sights b c → AsksOf (IsOfRecord a.log c.log name) sights a c
+  pub asks_record : {a b c : Txn S ReadsAndWrites} {id : ObjectId} {f : Act (Option ObjectId)} (name : List ℕ) → ((s : Run) → f s ≡ (Ok (platform_bound s name), s))
+      → Asks (ask.Bound name) sights a b → Does sights refusal_fault a b f (Ok (Some id)) → Keeps sights b c → Asks (ask.Object id) sights b c → AsksOf (IsOfRecord a.set c.set name) sights a c
   asks_record {a = a} {b = b} {c = c} {id = id} name looks p does keeps q =
       asks_then (asks_weaker (λ item is. inl is) p) (asks_weaker (λ item is. inr (id, is, λ d agrees. led_to name looks does d (agreed keeps d agrees))) q)
 
   -- and then nothing more
-  pub asks_no_more : {a b c : Txn S Logged} (name : List ℕ) → AsksOf (IsOfRecord a.log b.log name) sights a b → Keeps sights b c → AsksNothing b c → AsksOf (IsOfRecord a.log c.log name) sights a c
+  pub asks_no_more : {a b c : Txn S ReadsAndWrites} (name : List ℕ) → AsksOf (IsOfRecord a.set b.set name) sights a b → Keeps sights b c → AsksNothing b c → AsksOf (IsOfRecord a.set c.set name) sights a c
   asks_no_more {a = a} {b = b} {c = c} name p keeps n = asks_then (asks_weaker (λ q h. of_record_later keeps h) p) (asks_nothing n)
     where
-      of_record_later : {q : Item} → Keeps sights b c → IsOfRecord a.log b.log name q → IsOfRecord a.log c.log name q
+      of_record_later : {q : Item} → Keeps sights b c → IsOfRecord a.set b.set name q → IsOfRecord a.set c.set name q
       of_record_later keeps (inl is) = inl is
       of_record_later keeps (inr h) = inr (h.0, h.1, λ d agrees. h.2 d (agreed keeps d agrees))
 
   -- that of a session
-  pub asks_session : {a b c : Txn S Logged} {id : ObjectId} (name : List ℕ)
-      → Asks (ask.Bound (session_name name)) sights a b → Does sights refusal_fault a b (recorded name) (Ok (Some id)) → Keeps sights b c → Asks (ask.Object id) sights b c → AsksOf (IsOfRecord a.log c.log (session_name name)) sights a c
+  pub asks_session : {a b c : Txn S ReadsAndWrites} {id : ObjectId} (name : List ℕ)
+      → Asks (ask.Bound (session_name name)) sights a b → Does sights refusal_fault a b (recorded name) (Ok (Some id)) → Keeps sights b c → Asks (ask.Object id) sights b c → AsksOf (IsOfRecord a.set c.set (session_name name)) sights a c
   unfolding recorded
   asks_session name = asks_record (session_name name) (λ s. refl)

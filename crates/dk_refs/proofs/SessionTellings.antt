@@ -11,7 +11,7 @@ use Rattle.dk_model.specs.Runs as act
 use Rattle.dk_model.specs.Runs.{Run, Act}
 use Rattle.dk_model.specs.Records.{SESSION_KIND, session_of, session_name}
 use Rattle.dk_model.specs.Platforms.{platform_bound, numbered, session_under, is_connected}
-use Rattle.dk_overlay.specs.Logged.{Logged}
+use Rattle.dk_overlay.specs.ReadsAndWrites.{ReadsAndWrites}
 use Rattle.dk_txn.specs.declared.refusal.Refusal.{Refusal}
 use Rattle.dk_txn.specs.declared.txn.Txn.{Txn}
 use Rattle.dk_txn.specs.Refusals.{refusal_fault}
@@ -48,7 +48,7 @@ send_avoids to message s t e = by _ (act.is_too_long (act.body_of message)) (nat
 
 module _ {S : Type 0} {sights : Sights S} where
   -- the record is of another kind
-  pub record_kind : {a b c : Txn S Logged} {id : ObjectId} {A B : Type 0} {f : Act A} {e : Refusal} (r : Result B Refusal) (name : List ℕ) → Does sights refusal_fault a b (recorded name) (Ok (Some id))
-      → Does sights refusal_fault b c f (Err e) → SameChanges b.log c.log → TellsKind c.log id e → IsErrAnd r (λ h. h ≡ e) → IfErr r (TellsKindOf c.log (kind_under (session_name name)))
+  pub record_kind : {a b c : Txn S ReadsAndWrites} {id : ObjectId} {A B : Type 0} {f : Act A} {e : Refusal} (r : Result B Refusal) (name : List ℕ) → Does sights refusal_fault a b (recorded name) (Ok (Some id))
+      → Does sights refusal_fault b c f (Err e) → SameChanges b.set c.set → TellsKind c.set id e → IsErrAnd r (λ h. h ≡ e) → IfErr r (TellsKindOf c.set (kind_under (session_name name)))
   unfolding recorded
   record_kind r name p q same told is = kind_found r (session_name name) p q same told is

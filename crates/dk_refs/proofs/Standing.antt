@@ -14,7 +14,7 @@ use Rattle.dk_model.specs.DurableWorlds.{DurableWorld, Agrees}
 use Rattle.dk_model.specs.Records.{SESSION_KIND, session_of, session_name}
 use Rattle.dk_model.specs.Platforms.{platform_bound, found_as, record_under, session_under, own_record}
 use Rattle.dk_types.specs.declared.job.Session.{Session}
-use Rattle.dk_overlay.specs.Logged.{Logged}
+use Rattle.dk_overlay.specs.ReadsAndWrites.{ReadsAndWrites}
 use Rattle.dk_txn.specs.Current.{current}
 use Rattle.dk_txn.specs.Does as does
 use Rattle.dk_txn.specs.Does.{Does}
@@ -142,16 +142,16 @@ some_kind : (o : Option Object) (kind : ℕ) → kind_of o ≡ Some kind → is_
 some_kind None kind e = cc
 some_kind (Some object) kind e = refl
 
-module _ {S : Type 0} {sights : Sights S} {a b : Txn S Logged} where
+module _ {S : Type 0} {sights : Sights S} {a b : Txn S ReadsAndWrites} where
   -- the object of a record that was read stands
-  pub record_stands : {A : Type 0} (kind : ℕ) (read : List ℕ → Option A) (name : List ℕ) (x : ObjectId × A) → Does sights refusal_fault a b (record_under name kind read) (Ok x) → does.Stands b.log x.0
+  pub record_stands : {A : Type 0} (kind : ℕ) (read : List ℕ → Option A) (name : List ℕ) (x : ObjectId × A) → Does sights refusal_fault a b (record_under name kind read) (Ok x) → does.Stands b.set x.0
   record_stands kind read name x p d agrees =
       let is = p.does (Ok x) refl d agrees in
-      subst (λ (s : Run). is_some (map.get s.world.objects x.0) ≡ true) (sym (stands kind read (current a.log d) (current b.log d) name x is).same) (some_kind (map.get (current a.log d).world.objects x.0) kind (stands_there kind read (current a.log d) (current b.log d) name x is))
+      subst (λ (s : Run). is_some (map.get s.world.objects x.0) ≡ true) (sym (stands kind read (current a.set d) (current b.set d) name x is).same) (some_kind (map.get (current a.set d).world.objects x.0) kind (stands_there kind read (current a.set d) (current b.set d) name x is))
 
-  pub own_record_stands : (session : Session) (y : ObjectId × SessionRecord) → Does sights refusal_fault a b (own_record session) (Ok y) → does.Stands b.log y.0
+  pub own_record_stands : (session : Session) (y : ObjectId × SessionRecord) → Does sights refusal_fault a b (own_record session) (Ok y) → does.Stands b.set y.0
   own_record_stands session y p =
       record_stands SESSION_KIND session_of (session_name session.name) y (record { keeps = p.keeps; does = under })
     where
-      under : (s : Result (ObjectId × SessionRecord) AppFault) → Some (Ok y) ≡ Some s → (d : DurableWorld) → Agrees d b.log.reads → session_under session.name (current a.log d) ≡ (s, current b.log d)
-      under s t d agrees = subst (λ o. session_under session.name (current a.log d) ≡ (o, current b.log d)) (said y s t) (own_stands session y (current a.log d) (current b.log d) (p.does (Ok y) refl d agrees))
+      under : (s : Result (ObjectId × SessionRecord) AppFault) → Some (Ok y) ≡ Some s → (d : DurableWorld) → Agrees d b.set.reads → session_under session.name (current a.set d) ≡ (s, current b.set d)
+      under s t d agrees = subst (λ o. session_under session.name (current a.set d) ≡ (o, current b.set d)) (said y s t) (own_stands session y (current a.set d) (current b.set d) (p.does (Ok y) refl d agrees))

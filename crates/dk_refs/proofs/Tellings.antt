@@ -19,7 +19,7 @@ use Rattle.dk_model.specs.Runs as act
 use Rattle.dk_model.specs.Runs.{Run, Act, give, and_then, carry_on, found, change_found, with_object}
 use Rattle.dk_model.specs.References.{get_as}
 use Rattle.dk_model.specs.Platforms.{platform_bound, found_as}
-use Rattle.dk_overlay.specs.Logged.{Logged}
+use Rattle.dk_overlay.specs.ReadsAndWrites.{ReadsAndWrites}
 use Rattle.dk_txn.specs.Current.{current}
 use Rattle.dk_txn.specs.declared.refusal.Refusal.{Refusal}
 use Rattle.dk_txn.specs.declared.refusal.Refusal.TheVariants as refusal
@@ -170,7 +170,7 @@ channel_short listener delivery = short_of _ (omega (
 ))
 
 -- where no agreeing world refuses so, nothing is told of a kind
-no_kind : (t : Logged) (kind : DurableWorld → Option ℕ) (e : Refusal) → (refusal_fault e ≡ Some (Refused 3) → (d : DurableWorld) → Agrees d t.reads → ⊥) → TellsKindOf t kind e
+no_kind : (t : ReadsAndWrites) (kind : DurableWorld → Option ℕ) (e : Refusal) → (refusal_fault e ≡ Some (Refused 3) → (d : DurableWorld) → Agrees d t.reads → ⊥) → TellsKindOf t kind e
 no_kind t kind (refusal.WrongKind other) h = λ d agrees. absurd (h refl d agrees)
 no_kind t kind refusal.NameNotBound h = tt
 no_kind t kind refusal.ObjectNotFound h = tt
@@ -196,14 +196,14 @@ no_length bytes refusal.NameExists h = tt
 no_length bytes refusal.BadBytes h = tt
 
 -- a refusal over a length is none over a kind
-pub long_tells : (t : Logged) (kind : DurableWorld → Option ℕ) (e : Refusal) → refusal_fault e ≡ Some (Refused 4) → TellsKindOf t kind e
+pub long_tells : (t : ReadsAndWrites) (kind : DurableWorld → Option ℕ) (e : Refusal) → refusal_fault e ≡ Some (Refused 4) → TellsKindOf t kind e
 long_tells t kind e is = no_kind t kind e (λ three d agrees. let same : Some (Refused 4) ≡ Some (Refused 3) = sym is ∙ three in cc)
 
 ok_some : {A : Type 0} (o : Option A) (x : A) → ◌≡◌ {A = Result (Option A) AppFault} (Ok o) (Ok (Some x)) → o ≡ Some x
 ok_some o x e = cc
 
 -- an object that a platform name leads to has the kind that is told
-leads_kind : (t : Logged) (name : List ℕ) (id : ObjectId) (e : Refusal) → ((d : DurableWorld) → Agrees d t.reads → platform_bound (current t d) name ≡ Some id) → TellsKind t id e → TellsKindOf t (kind_under name) e
+leads_kind : (t : ReadsAndWrites) (name : List ℕ) (id : ObjectId) (e : Refusal) → ((d : DurableWorld) → Agrees d t.reads → platform_bound (current t d) name ≡ Some id) → TellsKind t id e → TellsKindOf t (kind_under name) e
 leads_kind t name id (refusal.WrongKind other) at told = λ d agrees. ap (λ o. kind_at o (current t d).world) (at d agrees) ∙ told d agrees
 leads_kind t name id refusal.NameNotBound at told = tt
 leads_kind t name id refusal.ObjectNotFound at told = tt
@@ -216,7 +216,7 @@ leads_kind t name id refusal.NameExists at told = tt
 leads_kind t name id refusal.BadBytes at told = tt
 
 -- the mode has no part in it
-moded : (t : Logged) (mode : Mode) (kind : DurableWorld → Option ℕ) (e : Refusal) → TellsKindOf t kind e → TellsKindOf (record t { mode = mode }) kind e
+moded : (t : ReadsAndWrites) (mode : Mode) (kind : DurableWorld → Option ℕ) (e : Refusal) → TellsKindOf t kind e → TellsKindOf (record t { mode = mode }) kind e
 moded t mode kind (refusal.WrongKind other) told = told
 moded t mode kind refusal.NameNotBound told = tt
 moded t mode kind refusal.ObjectNotFound told = tt
@@ -228,57 +228,57 @@ moded t mode kind refusal.TooMany told = tt
 moded t mode kind refusal.NameExists told = tt
 moded t mode kind refusal.BadBytes told = tt
 
-pub kind_moded : {A : Type 0} (r : Result A Refusal) (t u : Logged) (mode : Mode) (kind : DurableWorld → Option ℕ) → u ≡ record t { mode = mode } → IfErr r (TellsKindOf t kind) → IfErr r (TellsKindOf u kind)
+pub kind_moded : {A : Type 0} (r : Result A Refusal) (t u : ReadsAndWrites) (mode : Mode) (kind : DurableWorld → Option ℕ) → u ≡ record t { mode = mode } → IfErr r (TellsKindOf t kind) → IfErr r (TellsKindOf u kind)
 kind_moded (Ok x) t u mode kind is told = tt
 kind_moded (Err e) t u mode kind is told = rw is (moded t mode kind e told)
 
-pub length_moded : {A : Type 0} (r : Result A Refusal) (t u : Logged) (mode : Mode) (bytes : List ℕ) → u ≡ record t { mode = mode } → IfErr r (TellsLengthIn t bytes) → IfErr r (TellsLengthIn u bytes)
+pub length_moded : {A : Type 0} (r : Result A Refusal) (t u : ReadsAndWrites) (mode : Mode) (bytes : List ℕ) → u ≡ record t { mode = mode } → IfErr r (TellsLengthIn t bytes) → IfErr r (TellsLengthIn u bytes)
 length_moded (Ok x) t u mode bytes is told = tt
 length_moded (Err e) t u mode bytes is told = rw is told
 
-pub length_of_moded : {A : Type 0} (r : Result A Refusal) (t b c u : Logged) (first last : Mode) (bytes : DurableWorld → List ℕ) → b ≡ record t { mode = first } → u ≡ record c { mode = last } → IfErr r (TellsLengthOf b c bytes) → IfErr r (TellsLengthOf t u bytes)
+pub length_of_moded : {A : Type 0} (r : Result A Refusal) (t b c u : ReadsAndWrites) (first last : Mode) (bytes : DurableWorld → List ℕ) → b ≡ record t { mode = first } → u ≡ record c { mode = last } → IfErr r (TellsLengthOf b c bytes) → IfErr r (TellsLengthOf t u bytes)
 length_of_moded (Ok x) t b c u first last bytes is was told = tt
-length_of_moded (Err e) t b c u first last bytes is was told = rw was (λ d agrees. subst (λ (l : Logged). TellsLength (bytes (current l d).world) e) is (told d agrees))
+length_of_moded (Err e) t b c u first last bytes is was told = rw was (λ d agrees. subst (λ (l : ReadsAndWrites). TellsLength (bytes (current l d).world) e) is (told d agrees))
 
 -- the changes are all that a run in its midst is made of
-pub current_same : (a b : Logged) (d : DurableWorld) → SameChanges a b → current b d ≡ current a d
-current_same a b d same = ap (λ (t : Logged). current t d) same
+pub current_same : (a b : ReadsAndWrites) (d : DurableWorld) → SameChanges a b → current b d ≡ current a d
+current_same a b d same = ap (λ (t : ReadsAndWrites). current t d) same
 
-module _ {S : Type 0} {sights : Sights S} {a b : Txn S Logged} {A : Type 0} {f : Act A} {e : Refusal} (p : Does sights refusal_fault a b f (Err e)) where
+module _ {S : Type 0} {sights : Sights S} {a b : Txn S ReadsAndWrites} {A : Type 0} {f : Act A} {e : Refusal} (p : Does sights refusal_fault a b f (Err e)) where
   -- a refusal that is passed on tells what it told
-  pub kind_passes : {B : Type 0} (r : Result B Refusal) (kind : DurableWorld → Option ℕ) → TellsKindOf b.log kind e → IsErrAnd r (λ h. h ≡ e) → IfErr r (TellsKindOf b.log kind)
-  kind_passes r kind told is = passed (TellsKindOf b.log kind) e r is told
+  pub kind_passes : {B : Type 0} (r : Result B Refusal) (kind : DurableWorld → Option ℕ) → TellsKindOf b.set kind e → IsErrAnd r (λ h. h ≡ e) → IfErr r (TellsKindOf b.set kind)
+  kind_passes r kind told is = passed (TellsKindOf b.set kind) e r is told
 
-  pub length_passes : {B : Type 0} (r : Result B Refusal) (bytes : List ℕ) → TellsLengthIn b.log bytes e → IsErrAnd r (λ h. h ≡ e) → IfErr r (TellsLengthIn b.log bytes)
-  length_passes r bytes told is = passed (TellsLengthIn b.log bytes) e r is told
+  pub length_passes : {B : Type 0} (r : Result B Refusal) (bytes : List ℕ) → TellsLengthIn b.set bytes e → IsErrAnd r (λ h. h ≡ e) → IfErr r (TellsLengthIn b.set bytes)
+  length_passes r bytes told is = passed (TellsLengthIn b.set bytes) e r is told
 
   -- one that is none over a kind, or none over a length
-  pub kind_never : (kind : DurableWorld → Option ℕ) → Avoids 3 f → TellsKindOf b.log kind e
-  kind_never kind never = no_kind b.log kind e (λ is d agrees. never (current a.log d) (current b.log d) (p.does (Err (Refused 3)) (ap failure is) d agrees))
+  pub kind_never : (kind : DurableWorld → Option ℕ) → Avoids 3 f → TellsKindOf b.set kind e
+  kind_never kind never = no_kind b.set kind e (λ is d agrees. never (current a.set d) (current b.set d) (p.does (Err (Refused 3)) (ap failure is) d agrees))
 
-  pub length_never : (bytes : List ℕ) → Avoids 4 f → TellsLengthIn b.log bytes e
-  length_never bytes never = λ d agrees. no_length bytes e (λ is. never (current a.log d) (current b.log d) (p.does (Err (Refused 4)) (ap failure is) d agrees))
+  pub length_never : (bytes : List ℕ) → Avoids 4 f → TellsLengthIn b.set bytes e
+  length_never bytes never = λ d agrees. no_length bytes e (λ is. never (current a.set d) (current b.set d) (p.does (Err (Refused 4)) (ap failure is) d agrees))
 
-  pub length_of_never : {B : Type 0} (r : Result B Refusal) (before : Logged) (bytes : DurableWorld → List ℕ) → Avoids 4 f → IsErrAnd r (λ h. h ≡ e) → IfErr r (TellsLengthOf before b.log bytes)
+  pub length_of_never : {B : Type 0} (r : Result B Refusal) (before : ReadsAndWrites) (bytes : DurableWorld → List ℕ) → Avoids 4 f → IsErrAnd r (λ h. h ≡ e) → IfErr r (TellsLengthOf before b.set bytes)
   length_of_never r before bytes never is =
-      passed (TellsLengthOf before b.log bytes) e r is (λ d agrees. no_length (bytes (current before d).world) e (λ four. never (current a.log d) (current b.log d) (p.does (Err (Refused 4)) (ap failure four) d agrees)))
+      passed (TellsLengthOf before b.set bytes) e r is (λ d agrees. no_length (bytes (current before d).world) e (λ four. never (current a.set d) (current b.set d) (p.does (Err (Refused 4)) (ap failure four) d agrees)))
 
 module _ {S : Type 0} {sights : Sights S} where
   -- the last call, which may have been answered
-  pub kind_never_last : {a b : Txn S Logged} {A : Type 0} {f : Act A} {r : Result A Refusal} (kind : DurableWorld → Option ℕ) → Avoids 3 f → Does sights refusal_fault a b f r → IfErr r (TellsKindOf b.log kind)
+  pub kind_never_last : {a b : Txn S ReadsAndWrites} {A : Type 0} {f : Act A} {r : Result A Refusal} (kind : DurableWorld → Option ℕ) → Avoids 3 f → Does sights refusal_fault a b f r → IfErr r (TellsKindOf b.set kind)
   kind_never_last {r = Ok x} kind never p = tt
   kind_never_last {r = Err e} kind never p = kind_never p kind never
 
-  pub length_never_last : {a b : Txn S Logged} {A : Type 0} {f : Act A} {r : Result A Refusal} (bytes : List ℕ) → Avoids 4 f → Does sights refusal_fault a b f r → IfErr r (TellsLengthIn b.log bytes)
+  pub length_never_last : {a b : Txn S ReadsAndWrites} {A : Type 0} {f : Act A} {r : Result A Refusal} (bytes : List ℕ) → Avoids 4 f → Does sights refusal_fault a b f r → IfErr r (TellsLengthIn b.set bytes)
   length_never_last {r = Ok x} bytes never p = tt
   length_never_last {r = Err e} bytes never p = length_never p bytes never
 
   -- a name was looked up, and the object that it leads to was read, and is of another kind
-  pub kind_found : {a b c : Txn S Logged} {id : ObjectId} {A B : Type 0} {f : Act A} {e : Refusal} (r : Result B Refusal) (name : List ℕ) → Does sights refusal_fault a b (λ s. (Ok (platform_bound s name), s)) (Ok (Some id))
-      → Does sights refusal_fault b c f (Err e) → SameChanges b.log c.log → TellsKind c.log id e → IsErrAnd r (λ h. h ≡ e) → IfErr r (TellsKindOf c.log (kind_under name))
-  kind_found {a = a} {b = b} {c = c} {id = id} {e = e} r name p q same told is = passed (TellsKindOf c.log (kind_under name)) e r is (leads_kind c.log name id e by told)
+  pub kind_found : {a b c : Txn S ReadsAndWrites} {id : ObjectId} {A B : Type 0} {f : Act A} {e : Refusal} (r : Result B Refusal) (name : List ℕ) → Does sights refusal_fault a b (λ s. (Ok (platform_bound s name), s)) (Ok (Some id))
+      → Does sights refusal_fault b c f (Err e) → SameChanges b.set c.set → TellsKind c.set id e → IsErrAnd r (λ h. h ≡ e) → IfErr r (TellsKindOf c.set (kind_under name))
+  kind_found {a = a} {b = b} {c = c} {id = id} {e = e} r name p q same told is = passed (TellsKindOf c.set (kind_under name)) e r is (leads_kind c.set name id e by told)
     where
-      by : (d : DurableWorld) → Agrees d c.log.reads → platform_bound (current c.log d) name ≡ Some id
+      by : (d : DurableWorld) → Agrees d c.set.reads → platform_bound (current c.set d) name ≡ Some id
       by d agrees =
           let looked = p.does (Ok (Some id)) refl d (agreed q.keeps d agrees) in
-          subst (λ (s : Run). platform_bound s name ≡ Some id) (ap (λ q. q.1) looked ∙ sym (current_same b.log c.log d same)) (ok_some (platform_bound (current a.log d) name) id (ap (λ q. q.0) looked))
+          subst (λ (s : Run). platform_bound s name ≡ Some id) (ap (λ q. q.1) looked ∙ sym (current_same b.set c.set d same)) (ok_some (platform_bound (current a.set d) name) id (ap (λ q. q.0) looked))

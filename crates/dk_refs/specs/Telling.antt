@@ -5,7 +5,7 @@ use Rattle.dk_types.specs.declared.number.ObjectId.{ObjectId}
 use Rattle.dk_types.specs.declared.object.Object.{Object}
 use Rattle.dk_model.specs.DurableWorlds.{DurableWorld, Agrees}
 use Rattle.dk_model.specs.Records.{is_name_too_long}
-use Rattle.dk_overlay.specs.Logged.{Logged}
+use Rattle.dk_overlay.specs.ReadsAndWrites.{ReadsAndWrites}
 use Rattle.dk_txn.specs.Current.{current}
 use Rattle.dk_txn.specs.declared.refusal.Refusal.{Refusal}
 use Rattle.dk_txn.specs.declared.refusal.Refusal.TheVariants as refusal
@@ -17,7 +17,7 @@ kind_of None = None
 kind_of (Some object) = Some object.kind
 
 -- a refusal over the kind of an object tells the one that it has, in every agreeing world
-abbrev pub TellsKind : Logged → ObjectId → Refusal → Type 0
+abbrev pub TellsKind : ReadsAndWrites → ObjectId → Refusal → Type 0
 TellsKind t id (refusal.WrongKind found) = (d : DurableWorld) → Agrees d t.reads → kind_of (get (current t d).world.objects id) ≡ Some found
 TellsKind t id refusal.NameNotBound = Unit {0}
 TellsKind t id refusal.ObjectNotFound = Unit {0}
@@ -57,7 +57,7 @@ abbrev pub value_under : {A : Type 0} → (List ℕ → Option A) → List ℕ �
 value_under read name world = value_at read (bound_to name world) world
 
 -- a refusal over a kind tells the one that is so found in the world, in every agreeing one
-abbrev pub TellsKindOf : Logged → (DurableWorld → Option ℕ) → Refusal → Type 0
+abbrev pub TellsKindOf : ReadsAndWrites → (DurableWorld → Option ℕ) → Refusal → Type 0
 TellsKindOf t kind (refusal.WrongKind found) = (d : DurableWorld) → Agrees d t.reads → kind (current t d).world ≡ Some found
 TellsKindOf t kind refusal.NameNotBound = Unit {0}
 TellsKindOf t kind refusal.ObjectNotFound = Unit {0}
@@ -70,9 +70,9 @@ TellsKindOf t kind refusal.NameExists = Unit {0}
 TellsKindOf t kind refusal.BadBytes = Unit {0}
 
 -- a refusal over a length tells that of these bytes, in every agreeing world
-abbrev pub TellsLengthIn : Logged → List ℕ → Refusal → Type 0
+abbrev pub TellsLengthIn : ReadsAndWrites → List ℕ → Refusal → Type 0
 TellsLengthIn t bytes e = (d : DurableWorld) → Agrees d t.reads → TellsLength bytes e
 
 -- a refusal over a length tells that of the bytes that are so found in the world as it was before, in every agreeing one
-abbrev pub TellsLengthOf : Logged → Logged → (DurableWorld → List ℕ) → Refusal → Type 0
+abbrev pub TellsLengthOf : ReadsAndWrites → ReadsAndWrites → (DurableWorld → List ℕ) → Refusal → Type 0
 TellsLengthOf before after bytes e = (d : DurableWorld) → Agrees d after.reads → TellsLength (bytes (current before d).world) e

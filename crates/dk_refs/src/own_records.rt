@@ -22,9 +22,9 @@ pub fn session_under<V: View>(
     name: &Name,
 ) -> Result<(ManagedRef<SessionRecord>, SessionRecord), Refusal>
     ensures does { Does V.sights refusal_fault txn.old txn.new (platform.session_under name.now) result }
-    ensures asks { AsksOf (IsOfRecord txn.old.log txn.new.log (session_name name.now)) V.sights txn.old txn.new }
-    ensures same_changes { SameChanges txn.old.log txn.new.log }
-    ensures kind { IfErr result (TellsKindOf txn.new.log (kind_under (session_name name.now))) }
+    ensures asks { AsksOf (IsOfRecord txn.old.set txn.new.set (session_name name.now)) V.sights txn.old txn.new }
+    ensures same_changes { SameChanges txn.old.set txn.new.set }
+    ensures kind { IfErr result (TellsKindOf txn.new.set (kind_under (session_name name.now))) }
 {
     match recorded(alloc, txn, name)? {
         None => Err(Refusal::NameNotBound),
@@ -44,9 +44,9 @@ pub fn own_record<V: View>(
     session: &Session,
 ) -> Result<(ManagedRef<SessionRecord>, SessionRecord), Refusal>
     ensures does { Does V.sights refusal_fault txn.old txn.new (platform.own_record session.now) result }
-    ensures asks { AsksOf (IsOfRecord txn.old.log txn.new.log (session_name session.now.name)) V.sights txn.old txn.new }
-    ensures same_changes { SameChanges txn.old.log txn.new.log }
-    ensures kind { IfErr result (TellsKindOf txn.new.log (kind_under (session_name session.now.name))) }
+    ensures asks { AsksOf (IsOfRecord txn.old.set txn.new.set (session_name session.now.name)) V.sights txn.old txn.new }
+    ensures same_changes { SameChanges txn.old.set txn.new.set }
+    ensures kind { IfErr result (TellsKindOf txn.new.set (kind_under (session_name session.now.name))) }
 {
     let found = session_under(alloc, txn, &session.name)?;
     if found.1.conn.0 != session.conn.0 {
@@ -63,9 +63,9 @@ pub fn record_if_connected<V: View>(
     session: &Session,
 ) -> Result<Option<(ManagedRef<SessionRecord>, SessionRecord)>, Refusal>
     ensures does { Does V.sights refusal_fault txn.old txn.new (platform.record_if_connected session.now) result }
-    ensures asks { AsksOf (IsOfRecord txn.old.log txn.new.log (session_name session.now.name)) V.sights txn.old txn.new }
-    ensures same_changes { SameChanges txn.old.log txn.new.log }
-    ensures kind { IfErr result (TellsKindOf txn.new.log (kind_under (session_name session.now.name))) }
+    ensures asks { AsksOf (IsOfRecord txn.old.set txn.new.set (session_name session.now.name)) V.sights txn.old txn.new }
+    ensures same_changes { SameChanges txn.old.set txn.new.set }
+    ensures kind { IfErr result (TellsKindOf txn.new.set (kind_under (session_name session.now.name))) }
 {
     match recorded(alloc, txn, &session.name)? {
         None => Ok(None),

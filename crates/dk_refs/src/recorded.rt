@@ -44,7 +44,7 @@ pub fn recorded<V: View>(
 ) -> Result<Option<ObjectId>, Refusal>
     ensures does { Does V.sights refusal_fault txn.old txn.new (lookup.recorded name.now) result }
     ensures asks { Asks (ask.Bound (named name.now)) V.sights txn.old txn.new }
-    ensures same_changes { SameChanges txn.old.log txn.new.log }
+    ensures same_changes { SameChanges txn.old.set txn.new.set }
 {
     match session_name(alloc, name)? {
         None => Ok(None),
@@ -60,7 +60,7 @@ pub fn is_recorded<V: View>(
 ) -> Result<bool, Refusal>
     ensures does { Does V.sights refusal_fault txn.old txn.new (lookup.is_recorded name.now) result }
     ensures asks { Asks (ask.Bound (named name.now)) V.sights txn.old txn.new }
-    ensures same_changes { SameChanges txn.old.log txn.new.log }
+    ensures same_changes { SameChanges txn.old.set txn.new.set }
 {
     let id = recorded(alloc, txn, name)?;
     Ok(id.is_some())

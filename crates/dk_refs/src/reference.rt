@@ -69,7 +69,7 @@ impl<T: Managed> ManagedRef<T> {
     ) -> Result<ManagedRef<T>, Refusal>
         ensures does { Does V.sights refusal_fault txn.old txn.new (act.create T.KIND (T.bytes value.now)) result }
         ensures asks { AsksNothing txn.old txn.new }
-        ensures refused { OnErr result (SameChanges txn.old.log txn.new.log) }
+        ensures refused { OnErr result (SameChanges txn.old.set txn.new.set) }
         ensures length { IfErr result (TellsLength (T.bytes value.now)) }
     {
         let payload = value.encode(alloc)?;
@@ -81,8 +81,8 @@ impl<T: Managed> ManagedRef<T> {
     pub fn get<V: View>(&self, alloc: Global, txn: &mut Txn<'_, V>) -> Result<T, Refusal>
         ensures does { Does V.sights refusal_fault txn.old txn.new (get_as T.KIND T.of self.now) result }
         ensures asks { Asks (ask.Object self.now) V.sights txn.old txn.new }
-        ensures same_changes { SameChanges txn.old.log txn.new.log }
-        ensures kind { IfErr result (TellsKind txn.new.log self.now) }
+        ensures same_changes { SameChanges txn.old.set txn.new.set }
+        ensures kind { IfErr result (TellsKind txn.new.set self.now) }
     {
         let object = txn.get(self.id)?;
         if object.kind != T::KIND {
@@ -96,8 +96,8 @@ impl<T: Managed> ManagedRef<T> {
     pub fn get_for_update<V: View>(&self, alloc: Global, txn: &mut Txn<'_, V>) -> Result<T, Refusal>
         ensures does { Does V.sights refusal_fault txn.old txn.new (get_for_update_as T.KIND T.of self.now) result }
         ensures asks { Asks (ask.Object self.now) V.sights txn.old txn.new }
-        ensures refused { OnErr result (SameChanges txn.old.log txn.new.log) }
-        ensures kind { IfErr result (TellsKind txn.new.log self.now) }
+        ensures refused { OnErr result (SameChanges txn.old.set txn.new.set) }
+        ensures kind { IfErr result (TellsKind txn.new.set self.now) }
     {
         let value = self.get(alloc, txn)?;
         txn.mark(self.id)?;
@@ -109,7 +109,7 @@ impl<T: Managed> ManagedRef<T> {
     pub fn mark_for_update<V: View>(&self, txn: &mut Txn<'_, V>) -> Result<(), Refusal>
         ensures does { Does V.sights refusal_fault txn.old txn.new (act.mark self.now) result }
         ensures asks { Asks (ask.Object self.now) V.sights txn.old txn.new }
-        ensures refused { OnErr result (SameChanges txn.old.log txn.new.log) }
+        ensures refused { OnErr result (SameChanges txn.old.set txn.new.set) }
     {
         txn.mark(self.id)
     }
@@ -123,8 +123,8 @@ impl<T: Managed> ManagedRef<T> {
     ) -> Result<(), Refusal>
         ensures does { Does V.sights refusal_fault txn.old txn.new (save_as T.KIND self.now (T.bytes value.now)) result }
         ensures asks { Asks (ask.Object self.now) V.sights txn.old txn.new }
-        ensures refused { OnErr result (SameChanges txn.old.log txn.new.log) }
-        ensures kind { IfErr result (TellsKind txn.new.log self.now) }
+        ensures refused { OnErr result (SameChanges txn.old.set txn.new.set) }
+        ensures kind { IfErr result (TellsKind txn.new.set self.now) }
         ensures length { IfErr result (TellsLength (T.bytes value.now)) }
     {
         let before = txn.get(self.id)?;
@@ -139,7 +139,7 @@ impl<T: Managed> ManagedRef<T> {
     pub fn remove<V: View>(&self, txn: &mut Txn<'_, V>) -> Result<(), Refusal>
         ensures does { Does V.sights refusal_fault txn.old txn.new (act.remove self.now) result }
         ensures asks { Asks (ask.Object self.now) V.sights txn.old txn.new }
-        ensures refused { OnErr result (SameChanges txn.old.log txn.new.log) }
+        ensures refused { OnErr result (SameChanges txn.old.set txn.new.set) }
     {
         txn.remove(self.id)
     }

@@ -19,13 +19,13 @@ pub enum ReportFault {
     #[error("write fault")]
     WriteFault,
     /// The file is no store from this place on.
-    #[error("not a store, at {at}")]
+    #[error("not a store, at byte {at} of file {side:?}")]
     NotAStore { side: Side, at: u64 },
     /// The store is of another game.
     #[error("the store is of another game")]
     WrongGame { found: GameId },
     /// The record of the gate at this place breaks a rule.
-    #[error("damaged, at {at}")]
+    #[error("damaged, at byte {at} of file {side:?}")]
     Damaged { side: Side, at: u64 },
 }
 

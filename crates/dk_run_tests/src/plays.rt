@@ -7,7 +7,7 @@ use crate::ends::{job, outcome, told};
 use crate::said;
 use crate::view::Counting;
 use dk_game::{Halt, run_over};
-use dk_overlay::Log;
+use dk_overlay::ReadWriteSet;
 use dk_rows::{Subject, Words};
 use dk_txn::{Finished, Refusal};
 use dk_types::limits::{MOMENT_MOST_MS, PERIOD_MOST_MS};
@@ -98,12 +98,12 @@ fn halted(alloc: Global, call: &mut Words<'_>) -> Option<String> {
 /// `moves 2.0 10 20 10`: a task that was due at 10 ms is put to 20 ms, and then to 10 ms. When the run leaves it due, if another time.
 fn moved(alloc: Global, call: &mut Words<'_>) -> Option<String> {
     let key = said::key(call)?;
-    let mut log = Log::new(alloc, RunNo(9), 0);
+    let mut set = ReadWriteSet::new(alloc, RunNo(9), 0);
     let before = call.number()?;
     for _ in 0..2 {
-        log.move_task(key, before, call.number()?).ok()?;
+        set.move_task(key, before, call.number()?).ok()?;
     }
-    let effects = log.effects().ok()?;
+    let effects = set.effects().ok()?;
     match effects.requeued.as_slice() {
         [(_, due)] => format!(in alloc; "{due}").ok(),
         _ => Some(String::new(alloc)),

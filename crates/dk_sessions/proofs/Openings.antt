@@ -11,7 +11,7 @@ use Rattle.dk_model.specs.Runs as act
 use Rattle.dk_model.specs.Runs.{Run, Act, and_then, refuse}
 use Rattle.dk_model.specs.Records.{session_name, is_name_too_long}
 use Rattle.dk_model.specs.Platforms.{own_record, new_record}
-use Rattle.dk_overlay.specs.Logged.{Logged}
+use Rattle.dk_overlay.specs.ReadsAndWrites.{ReadsAndWrites}
 use Rattle.dk_txn.specs.Current.{current}
 use Rattle.dk_txn.specs.declared.refusal.Refusal.{Refusal}
 use Rattle.dk_txn.specs.declared.refusal.Refusal.TheVariants as refusal
@@ -41,27 +41,27 @@ unrecorded session x s t long e =
     let same : Err (Refused 1) ≡ Ok x = ap (λ p. p.0) (sym none ∙ e) in absurd cc
 
 module _ {S : Type 0} {sights : Sights S} (session : Session) where
-  pub open_long : {a : Txn S Logged} {e : Refusal} → IsTooLong e → is_name_too_long (session_name session.name) ≡ true → Does sights refusal_fault a a (new_record session) (Err e)
+  pub open_long : {a : Txn S ReadsAndWrites} {e : Refusal} → IsTooLong e → is_name_too_long (session_name session.name) ≡ true → Does sights refusal_fault a a (new_record session) (Err e)
   unfolding new_record
   open_long is long = refused_here (Refused 4) is (λ d. rw long refl)
 
-  module _ {a b : Txn S Logged} (key : List ℕ) (is : key ≡ session_name session.name) (short : is_name_too_long (session_name session.name) ≡ false) where
+  module _ {a b : Txn S ReadsAndWrites} (key : List ℕ) (is : key ≡ session_name session.name) (short : is_name_too_long (session_name session.name) ≡ false) where
     pub open_stops : {e : Refusal} {r : Result (Unit {0}) Refusal} → Does sights refusal_fault a b (binding key) (Err e) → IsErrAnd r (λ h. h ≡ e) → Does sights refusal_fault a b (new_record session) r
     open_stops {e = e} p told = does_as _ (means session short) (stops _ (subst (λ k. Does sights refusal_fault a b (binding k) (Err e)) is p) told)
 
-    found_then : {c : Txn S Logged} {o : Option ObjectId} {r : Result (Unit {0}) Refusal} → Does sights refusal_fault a b (binding key) (Ok o) → Does sights refusal_fault b c (after_name session o) r → Does sights refusal_fault a c (new_record session) r
+    found_then : {c : Txn S ReadsAndWrites} {o : Option ObjectId} {r : Result (Unit {0}) Refusal} → Does sights refusal_fault a b (binding key) (Ok o) → Does sights refusal_fault b c (after_name session o) r → Does sights refusal_fault a c (new_record session) r
     found_then {o = o} p q = does_as _ (means session short) (then_does (after_name session) (subst (λ k. Does sights refusal_fault a b (binding k) (Ok o)) is p) q)
 
     pub open_exists : {id : ObjectId} → Does sights refusal_fault a b (binding key) (Ok (Some id)) → Does sights refusal_fault a b (new_record session) (Err refusal.NameExists)
     open_exists p = found_then p (refused_here (Refused 9) refl (λ d. refl))
 
-    pub open_made : {c : Txn S Logged} {r : Result (Unit {0}) Refusal} → Does sights refusal_fault a b (binding key) (Ok None) → Does sights refusal_fault b c (recording key session.conn) r → Does sights refusal_fault a c (new_record session) r
+    pub open_made : {c : Txn S ReadsAndWrites} {r : Result (Unit {0}) Refusal} → Does sights refusal_fault a b (binding key) (Ok None) → Does sights refusal_fault b c (recording key session.conn) r → Does sights refusal_fault a c (new_record session) r
     open_made {c = c} {r = r} p q = found_then p (does_as _ (λ s. refl) (subst (λ k. Does sights refusal_fault b c (recording k session.conn) r) is q))
 
-  module _ {a b : Txn S Logged} {x : ObjectId × SessionRecord} (own : Does sights refusal_fault a b (own_record session) (Ok x)) where
+  module _ {a b : Txn S ReadsAndWrites} {x : ObjectId × SessionRecord} (own : Does sights refusal_fault a b (own_record session) (Ok x)) where
     -- this can not be
     pub take_long : {e : Refusal} → is_name_too_long (session_name session.name) ≡ true → Does sights refusal_fault a b (taking session) (Err e)
-    take_long long = record { keeps = own.keeps; does = λ s t d agrees. absurd (unrecorded session x (current a.log d) (current b.log d) long (own.does (Ok x) refl d agrees)) }
+    take_long long = record { keeps = own.keeps; does = λ s t d agrees. absurd (unrecorded session x (current a.set d) (current b.set d) long (own.does (Ok x) refl d agrees)) }
 
-    pub take_does : {c : Txn S Logged} {r : Result (Unit {0}) Refusal} (key : List ℕ) → key ≡ session_name session.name → Does sights refusal_fault b c (and_then (act.unbind key) (λ _. act.remove x.0)) r → Does sights refusal_fault a c (taking session) r
+    pub take_does : {c : Txn S ReadsAndWrites} {r : Result (Unit {0}) Refusal} (key : List ℕ) → key ≡ session_name session.name → Does sights refusal_fault b c (and_then (act.unbind key) (λ _. act.remove x.0)) r → Does sights refusal_fault a c (taking session) r
     take_does {c = c} {r = r} key is p = then_does _ own (subst (λ k. Does sights refusal_fault b c (and_then (act.unbind k) (λ _. act.remove x.0)) r) is p)

@@ -22,9 +22,9 @@ pub fn open_record<V: View>(
     session: &Session,
 ) -> Result<(), Refusal>
     ensures does { Does V.sights refusal_fault txn.old txn.new (platform.open_record session.now) result }
-    ensures refused { OnErr result (SameChanges txn.old.log txn.new.log) }
-    ensures same_mode { txn.new.log.mode ≡ txn.old.log.mode }
-    ensures length { IfErr result (TellsLengthIn txn.new.log (named session.now.name)) }
+    ensures refused { OnErr result (SameChanges txn.old.set txn.new.set) }
+    ensures same_mode { txn.new.set.mode ≡ txn.old.set.mode }
+    ensures length { IfErr result (TellsLengthIn txn.new.set (named session.now.name)) }
 {
     let before = txn.set_mode(Mode::Platform);
     let end = new_record(alloc, txn, session);
@@ -40,9 +40,9 @@ pub fn close_record<V: View>(
     session: &Session,
 ) -> Result<(), Refusal>
     ensures does { Does V.sights refusal_fault txn.old txn.new (platform.close_record session.now) result }
-    ensures refused { OnErr result (SameChanges txn.old.log txn.new.log) }
-    ensures same_mode { txn.new.log.mode ≡ txn.old.log.mode }
-    ensures kind { IfErr result (TellsKindOf txn.new.log (kind_under (named session.now.name))) }
+    ensures refused { OnErr result (SameChanges txn.old.set txn.new.set) }
+    ensures same_mode { txn.new.set.mode ≡ txn.old.set.mode }
+    ensures kind { IfErr result (TellsKindOf txn.new.set (kind_under (named session.now.name))) }
 {
     let before = txn.set_mode(Mode::Platform);
     let end = take_record(alloc, txn, session);
@@ -55,10 +55,10 @@ fn new_record<V: View>(
     txn: &mut Txn<'_, V>,
     session: &Session,
 ) -> Result<(), Refusal>
-    requires { txn.old.log.mode ≡ mode.Platform }
+    requires { txn.old.set.mode ≡ mode.Platform }
     ensures does { Does V.sights refusal_fault txn.old txn.new (platform.new_record session.now) result }
-    ensures refused { OnErr result (SameChanges txn.old.log txn.new.log) }
-    ensures length { IfErr result (TellsLengthIn txn.new.log (named session.now.name)) }
+    ensures refused { OnErr result (SameChanges txn.old.set txn.new.set) }
+    ensures length { IfErr result (TellsLengthIn txn.new.set (named session.now.name)) }
 {
     let key = match session_name(alloc, &session.name)? {
         None => return Err(too_long(&session.name)),
@@ -77,10 +77,10 @@ fn record_under<V: View>(
     key: &Name,
     conn: ConnNo,
 ) -> Result<(), Refusal>
-    requires { txn.old.log.mode ≡ mode.Platform }
+    requires { txn.old.set.mode ≡ mode.Platform }
     ensures does { Does V.sights refusal_fault txn.old txn.new (opening.recording key.now conn) result }
-    ensures refused { OnErr result (SameChanges txn.old.log txn.new.log) }
-    ensures length { (bytes : List ℕ) → IfErr result (TellsLengthIn txn.new.log bytes) }
+    ensures refused { OnErr result (SameChanges txn.old.set txn.new.set) }
+    ensures length { (bytes : List ℕ) → IfErr result (TellsLengthIn txn.new.set bytes) }
 {
     let session = SessionRecord {
         conn,
@@ -95,10 +95,10 @@ fn take_record<V: View>(
     txn: &mut Txn<'_, V>,
     session: &Session,
 ) -> Result<(), Refusal>
-    requires { txn.old.log.mode ≡ mode.Platform }
+    requires { txn.old.set.mode ≡ mode.Platform }
     ensures does { Does V.sights refusal_fault txn.old txn.new (opening.taking session.now) result }
-    ensures refused { OnErr result (SameChanges txn.old.log txn.new.log) }
-    ensures kind { IfErr result (TellsKindOf txn.new.log (kind_under (named session.now.name))) }
+    ensures refused { OnErr result (SameChanges txn.old.set txn.new.set) }
+    ensures kind { IfErr result (TellsKindOf txn.new.set (kind_under (named session.now.name))) }
 {
     let found = own_record(alloc, txn, session)?;
     match session_name(alloc, &session.name)? {

@@ -22,9 +22,9 @@ pub fn is_connected<V: View>(
     session: &Session,
 ) -> Result<bool, Refusal>
     ensures does { Does V.sights refusal_fault txn.old txn.new (platform.is_connected session.now) result }
-    ensures asks { AsksOf (IsOfRecord txn.old.log txn.new.log (session_name session.now.name)) V.sights txn.old txn.new }
-    ensures same_changes { SameChanges txn.old.log txn.new.log }
-    ensures kind { IfErr result (TellsKindOf txn.new.log (kind_under (session_name session.now.name))) }
+    ensures asks { AsksOf (IsOfRecord txn.old.set txn.new.set (session_name session.now.name)) V.sights txn.old txn.new }
+    ensures same_changes { SameChanges txn.old.set txn.new.set }
+    ensures kind { IfErr result (TellsKindOf txn.new.set (kind_under (session_name session.now.name))) }
 {
     match recorded(alloc, txn, &session.name)? {
         None => Ok(false),
@@ -38,10 +38,10 @@ pub fn is_connected<V: View>(
 /// The session that is recorded under a login name. Refuses 4, 1, and then 2, 3 and 10 of the record.
 pub fn find<V: View>(alloc: Global, txn: &mut Txn<'_, V>, name: &Name) -> Result<Session, Refusal>
     ensures does { Does V.sights refusal_fault txn.old txn.new (platform.find_session name.now) result }
-    ensures asks { AsksOf (IsOfRecord txn.old.log txn.new.log (session_name name.now)) V.sights txn.old txn.new }
-    ensures same_changes { SameChanges txn.old.log txn.new.log }
-    ensures kind { IfErr result (TellsKindOf txn.new.log (kind_under (session_name name.now))) }
-    ensures length { IfErr result (TellsLengthIn txn.new.log (session_name name.now)) }
+    ensures asks { AsksOf (IsOfRecord txn.old.set txn.new.set (session_name name.now)) V.sights txn.old txn.new }
+    ensures same_changes { SameChanges txn.old.set txn.new.set }
+    ensures kind { IfErr result (TellsKindOf txn.new.set (kind_under (session_name name.now))) }
+    ensures length { IfErr result (TellsLengthIn txn.new.set (session_name name.now)) }
 {
     if is_too_long(name) {
         return Err(too_long(name));

@@ -22,10 +22,10 @@ pub fn send<V: View>(
     body: &Blob,
 ) -> Result<(), Refusal>
     ensures does { Does V.sights refusal_fault txn.old txn.new (platform.session_send session.now body.now) result }
-    ensures asks { AsksOf (IsOfRecord txn.old.log txn.new.log (session_name session.now.name)) V.sights txn.old txn.new }
-    ensures refused { OnErr result (SameChanges txn.old.log txn.new.log) }
-    ensures kind { IfErr result (TellsKindOf txn.new.log (kind_under (session_name session.now.name))) }
-    ensures length { IfErr result (TellsLengthIn txn.new.log body.now) }
+    ensures asks { AsksOf (IsOfRecord txn.old.set txn.new.set (session_name session.now.name)) V.sights txn.old txn.new }
+    ensures refused { OnErr result (SameChanges txn.old.set txn.new.set) }
+    ensures kind { IfErr result (TellsKindOf txn.new.set (kind_under (session_name session.now.name))) }
+    ensures length { IfErr result (TellsLengthIn txn.new.set body.now) }
 {
     let connected = is_connected(alloc, txn, session)?;
     if !connected {

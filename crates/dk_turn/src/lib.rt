@@ -5,8 +5,8 @@
 //! The value's own meaning, and what a call may do to it, come from the traits `Book` and `Step`. No clause says that a call gets its turn.
 #![tactic(auto)]
 
-mod blank;
 mod book;
+mod builder;
 mod empty_step;
 mod ghost_list;
 mod guarded;
@@ -17,8 +17,8 @@ mod rule;
 mod turn;
 mod watcher;
 
-pub use blank::Blank;
 pub use book::{Book, Step};
+pub use builder::TurnBuilder;
 pub use empty_step::EmptyStep;
 pub use ghost_list::{GhostList, Noting, NotingAll};
 pub use naming::Naming;

@@ -4,8 +4,8 @@ ghost use Rattle.std.specs.List.{All};
 ghost use Rattle.dk_turn.specs.Fronts.{Begins, Continues, ContinuesAll, Called, IsDealt};
 ghost use Rattle.dk_turn.specs.Rule.{dealer};
 
-use crate::blank::Blank;
 use crate::book::{Book, Step};
+use crate::builder::TurnBuilder;
 use crate::guarded::Guarded;
 use crate::naming::Naming;
 use crate::pass::Pass;
@@ -13,13 +13,17 @@ use crate::rule::{Deals, Ordered, Place, Seats, View, Words};
 use crate::watcher::Watcher;
 use atomic_table::Table;
 use std::alloc::Global;
+use std::fmt::Debug;
 use std::marker::{Model, PhantomData};
 use std::sync::atomic::AtomicU64;
 use std::sync::atomic::Ordering::SeqCst;
 use std::sync::{Mutex, Wait};
+use thiserror::Error;
 
 /// There was no memory. The book comes back.
-#[derive(Drop)]
+#[derive(Debug, Drop, Error)]
+#[error_bound(O: Debug)]
+#[error("out of memory")]
 pub struct TurnRefused<O> {
     pub book: O,
 }
@@ -50,7 +54,7 @@ impl<O: Book, J: Naming> Turn<O, J> {
     /// The lock, and its passes, with the numbers from 0 on.
     pub fn new(
         alloc: Global,
-        blank: Blank<O>,
+        blank: TurnBuilder<O>,
         book: O,
     ) -> Result<(Turn<O, J>, Vec<Pass<O, J>>), TurnRefused<O>>
         requires name { blank ≡ J.name }
@@ -67,7 +71,7 @@ impl<O: Book, J: Naming> Turn<O, J> {
     /// The lock, its passes, with the numbers from 0 on, and a watcher.
     pub fn watched(
         alloc: Global,
-        blank: Blank<O>,
+        blank: TurnBuilder<O>,
         book: O,
     ) -> Result<(Turn<O, J>, Vec<Pass<O, J>>, Watcher<O, J>), TurnRefused<O>>
         requires name { blank ≡ J.name }
@@ -76,7 +80,7 @@ impl<O: Book, J: Naming> Turn<O, J> {
         ensures watcher { IfOk result (λ r. r.2.front ≡ []) }
         ensures err { IfErr result (λ r. r.book ≡ book) }
     {
-        let Blank {
+        let TurnBuilder {
             table,
             mut seat,
             passes,

@@ -6,7 +6,7 @@ ghost use Rattle.dk_turn_books.specs.Ticks.{ticks_of, Took};
 ghost use Rattle.dk_turn_books.specs.declared.tally.Tick.{Tick};
 
 use crate::tally::{Count, Tally, Tick};
-use dk_turn::{Blank, GhostList, Naming, Pass, Turn};
+use dk_turn::{GhostList, Naming, Pass, Turn, TurnBuilder};
 use std::alloc::Global;
 use std::marker::Brand;
 use std::sync::Wait;
@@ -15,7 +15,7 @@ use std::thread::{Threads, join};
 // An empty tally behind a turn with two passes.
 pub(crate) fn begin<J: Naming>(
     alloc: Global,
-    blank: Blank<Tally>,
+    blank: TurnBuilder<Tally>,
 ) -> Option<(Turn<Tally, J>, Pass<Tally, J>, Pass<Tally, J>)>
     requires { (blank ≡ J.name) × (blank.passes ≡ 2) }
     ensures { IfSome result (λ r. (r.1 ≡ known 0 []) × (r.2 ≡ known 1 [])) }
@@ -114,7 +114,7 @@ pub(crate) fn end<J: Naming>(
 fn tally<J: Naming + Send + Sync, R: Threads + Wait + Sync>(
     rt: &R,
     alloc: Global,
-    blank: Blank<Tally>,
+    blank: TurnBuilder<Tally>,
     turns: u64,
 ) -> Option<u64>
     requires name { (blank ≡ J.name) × (blank.passes ≡ 2) }
@@ -132,11 +132,15 @@ pub fn tally_in_threads<R: Threads + Wait + Sync>(rt: &R, alloc: Global, turns: 
     requires { turns < 2 ^ 62 }
     ensures { IfSome result (λ total. total ≡ 2 * turns) }
 {
-    let blank = Blank::new(alloc, 2).ok()?;
+    let blank = TurnBuilder::new(alloc, 2).ok()?;
     tally::<Brand, R>(rt, alloc, blank, turns)
 }
 
-fn count_by_passes<J: Naming, R: Wait>(rt: &R, alloc: Global, blank: Blank<Tally>) -> Option<u64>
+fn count_by_passes<J: Naming, R: Wait>(
+    rt: &R,
+    alloc: Global,
+    blank: TurnBuilder<Tally>,
+) -> Option<u64>
     requires { blank ≡ J.name }
 {
     let ticks = GhostList::new(alloc).ok()?;
@@ -154,6 +158,6 @@ fn count_by_passes<J: Naming, R: Wait>(rt: &R, alloc: Global, blank: Blank<Tally
 /// Each of so many passes of one tally counts once, and the number at the end is answered. None where there was no memory, or
 /// no turn has so many.
 pub fn count_by_each<R: Wait>(rt: &R, alloc: Global, passes: u32) -> Option<u64> {
-    let blank = Blank::new(alloc, passes).ok()?;
+    let blank = TurnBuilder::new(alloc, passes).ok()?;
     count_by_passes::<Brand, R>(rt, alloc, blank)
 }

@@ -5,7 +5,7 @@ ghost use Rattle.dk_turn.specs.Fronts.{known, Continues, ContinuesAll};
 ghost use Rattle.dk_turn_books.specs.Legs.{legs_of, IsInTurn};
 
 use crate::relay::{CountLegs, Leg, Relay, RunLeg};
-use dk_turn::{Blank, Naming, Pass, Turn};
+use dk_turn::{Naming, Pass, Turn, TurnBuilder};
 use std::alloc::{AllocError, Global};
 use std::marker::Brand;
 use std::sync::Wait;
@@ -62,7 +62,7 @@ fn run_legs<J: Naming, R: Wait>(
 // A relay with room for this many legs, so that none of them takes memory, behind a turn with two passes.
 fn begin<J: Naming>(
     alloc: Global,
-    blank: Blank<Relay>,
+    blank: TurnBuilder<Relay>,
     room: usize,
 ) -> Option<(Turn<Relay, J>, Pass<Relay, J>, Pass<Relay, J>)>
     requires { (blank ≡ J.name) × (blank.passes ≡ 2) }
@@ -129,7 +129,7 @@ fn end<J: Naming>(
 fn race_of<J: Naming + Send + Sync, R: Threads + Wait + Sync>(
     rt: &R,
     alloc: Global,
-    blank: Blank<Relay>,
+    blank: TurnBuilder<Relay>,
     legs: usize,
 ) -> Option<Vec<Leg>>
     requires name { (blank ≡ J.name) × (blank.passes ≡ 2) }
@@ -153,6 +153,6 @@ pub fn race_in_threads<R: Threads + Wait + Sync>(
     ensures in_turn { IfSome result (λ v. IsInTurn v.items) }
     ensures all { IfSome result (λ v. length v.items ≡ 2 * legs) }
 {
-    let blank = Blank::new(alloc, 2).ok()?;
+    let blank = TurnBuilder::new(alloc, 2).ok()?;
     race_of::<Brand, R>(rt, alloc, blank, legs)
 }

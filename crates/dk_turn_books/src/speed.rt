@@ -4,7 +4,7 @@ ghost use Rattle.dk_turn.specs.Fronts.{Continues};
 
 use crate::many_turns::{begin, end};
 use crate::tally::Tally;
-use dk_turn::{Blank, EmptyStep, Naming, Pass, Turn};
+use dk_turn::{EmptyStep, Naming, Pass, Turn, TurnBuilder};
 use std::alloc::Global;
 use std::marker::Brand;
 use std::sync::atomic::AtomicU64;
@@ -40,7 +40,7 @@ pub fn locked_adds<R: Wait>(rt: &R, rounds: u64) -> u64 {
 fn empty_turns_of<J: Naming, R: Wait>(
     rt: &R,
     alloc: Global,
-    blank: Blank<Tally>,
+    blank: TurnBuilder<Tally>,
     turns: u64,
 ) -> Option<u64>
     requires { (blank ≡ J.name) × (blank.passes ≡ 2) }
@@ -56,6 +56,6 @@ fn empty_turns_of<J: Naming, R: Wait>(
 pub fn empty_turns_anew<R: Wait>(rt: &R, alloc: Global, turns: u64) -> Option<u64>
     ensures { IfSome result (λ total. total ≡ 0) }
 {
-    let blank = Blank::new(alloc, 2).ok()?;
+    let blank = TurnBuilder::new(alloc, 2).ok()?;
     empty_turns_of::<Brand, R>(rt, alloc, blank, turns)
 }

@@ -6,7 +6,7 @@ ghost use Rattle.dk_turn.specs.Fronts.{known, Continues, ContinuesAll};
 ghost use Rattle.dk_turn_books.specs.Lines.{line, own_lines, HasLine, portion};
 
 use crate::journal::{Append, Journal, Line, Portion, Recall};
-use dk_turn::{Blank, Naming, Pass, Turn};
+use dk_turn::{Naming, Pass, Turn, TurnBuilder};
 use std::alloc::Global;
 use std::marker::Brand;
 use std::sync::Wait;
@@ -72,7 +72,7 @@ pub fn portion_of<J: Naming, R: Wait>(
 // A turn with two passes.
 fn begin<J: Naming>(
     alloc: Global,
-    blank: Blank<Journal>,
+    blank: TurnBuilder<Journal>,
 ) -> Option<(Turn<Journal, J>, Pass<Journal, J>, Pass<Journal, J>)>
     requires { (blank ≡ J.name) × (blank.passes ≡ 2) }
     ensures { IfSome result (λ r. (r.1 ≡ known 0 []) × (r.2 ≡ known 1 [])) }
@@ -155,7 +155,7 @@ fn end<J: Naming>(
 pub fn append_both<J: Naming + Send + Sync, R: Threads + Wait + Sync>(
     rt: &R,
     alloc: Global,
-    blank: Blank<Journal>,
+    blank: TurnBuilder<Journal>,
     first: u64,
     second: u64,
 ) -> Option<(Vec<Line>, usize, usize, Line)>
@@ -189,7 +189,7 @@ pub fn append_both_anew<R: Threads + Wait + Sync>(
     ensures named { IfSome result (λ r. All (λ l. l.by < 2) r.0.items) }
     ensures read { IfSome result (λ r. r.3 ≡ line 0 first) }
 {
-    let Ok(blank) = Blank::new(alloc, 2) else {
+    let Ok(blank) = TurnBuilder::new(alloc, 2) else {
         return None;
     };
     append_both::<Brand, R>(rt, alloc, blank, first, second)

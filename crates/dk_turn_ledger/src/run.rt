@@ -5,7 +5,7 @@ ghost use Rattle.dk_turn_ledger.specs.Commits.{commits_of};
 
 use crate::store::Store;
 use crate::world::{Event, Side, World};
-use dk_turn::{Blank, GhostList, Naming, Pass, Turn};
+use dk_turn::{GhostList, Naming, Pass, Turn, TurnBuilder};
 use std::alloc::Global;
 use std::marker::Brand;
 use std::sync::ledger::Share;
@@ -50,7 +50,7 @@ impl<L: Side, J: Naming> StoredWorld<L, J> {
 fn commit_in_threads<L: Side + Send + Sync, J: Naming + Send + Sync, R: Threads + Wait + Sync>(
     rt: &R,
     alloc: Global,
-    blank: Blank<World<L>>,
+    blank: TurnBuilder<World<L>>,
     commits: ledger::Book<L>,
     share: Share<L>,
 ) -> Option<(u64, GhostList<Event>)>
@@ -95,7 +95,7 @@ fn with_ledger<L: Side + Send + Sync, R: Threads + Wait + Sync>(
     ensures { IfSome result (λ r. r.0 ≡ commits_of r.1) }
 {
     let (commits, share) = blank.open::<L>();
-    let Ok(turn) = Blank::new(alloc, 3) else {
+    let Ok(turn) = TurnBuilder::new(alloc, 3) else {
         return None;
     };
     commit_in_threads::<L, Brand, R>(rt, alloc, turn, commits, share)

@@ -4,7 +4,7 @@ use Rattle.std.specs.List.{AllByRecursion}
 use Rattle.dk_types.specs.declared.item.Item.{Item}
 use Rattle.dk_types.specs.declared.item.Read.{Read}
 use Rattle.dk_overlay.specs.Asked.{WasNotRead}
-use Rattle.dk_overlay.specs.Logged.{Logged}
+use Rattle.dk_overlay.specs.ReadsAndWrites.{ReadsAndWrites}
 use Rattle.dk_txn.specs.declared.txn.Txn.{Txn}
 use Rattle.dk_txn.specs.Sights.{Sights}
 use Rattle.dk_txn.specs.Asks.{kept, AskedInTurn, AsksOf, AsksNothing}
@@ -27,30 +27,30 @@ module _ {S : Type 0} (sights : Sights S) where
 
 module _ {S : Type 0} {sights : Sights S} {Of : Item → Type 0} where
   -- nothing is asked
-  pub asks_nothing : {a b : Txn S Logged} → AsksNothing a b → AsksOf Of sights a b
+  pub asks_nothing : {a b : Txn S ReadsAndWrites} → AsksNothing a b → AsksOf Of sights a b
   asks_nothing n = record { asks = []; each = tt; in_turn = (n.same_view, n.same_reads) }
 
   -- a call, and then another
-  pub asks_then : {a b c : Txn S Logged} → AsksOf Of sights a b → AsksOf Of sights b c → AsksOf Of sights a c
+  pub asks_then : {a b c : Txn S ReadsAndWrites} → AsksOf Of sights a b → AsksOf Of sights b c → AsksOf Of sights a c
   asks_then {a = a} {b = b} {c = c} p q = record {
     asks = p.asks ++ q.asks;
     each = All-join (λ r. Of r.0) p.asks q.asks p.each q.each;
-    in_turn = in_turn sights a.view.now b.view.now c.view.now a.log.reads b.log.reads c.log.reads p.asks q.asks p.in_turn q.in_turn;
+    in_turn = in_turn sights a.view.now b.view.now c.view.now a.set.reads b.set.reads c.set.reads p.asks q.asks p.in_turn q.in_turn;
   }
 
   -- another log with the same reads
-  pub asks_changed : {a b : Txn S Logged} (u : Logged) → AsksOf Of sights a b → u.reads ≡ b.log.reads → AsksOf Of sights a (record { view = b.view; log = u })
+  pub asks_changed : {a b : Txn S ReadsAndWrites} (u : ReadsAndWrites) → AsksOf Of sights a b → u.reads ≡ b.set.reads → AsksOf Of sights a (record { view = b.view; set = u })
   asks_changed {a = a} {b = b} u p same = record {
     asks = p.asks;
     each = p.each;
-    in_turn = subst (λ rs. AskedInTurn sights a.view.now a.log.reads p.asks b.view.now rs) (sym same) p.in_turn;
+    in_turn = subst (λ rs. AskedInTurn sights a.view.now a.set.reads p.asks b.view.now rs) (sym same) p.in_turn;
   }
 
   -- other items too
-  pub asks_weaker : {Also : Item → Type 0} {a b : Txn S Logged} → ((item : Item) → Of item → Also item) → AsksOf Of sights a b → AsksOf Also sights a b
+  pub asks_weaker : {Also : Item → Type 0} {a b : Txn S ReadsAndWrites} → ((item : Item) → Of item → Also item) → AsksOf Of sights a b → AsksOf Also sights a b
   asks_weaker {Also = Also} f p = record { asks = p.asks; each = All-weaker (λ q. Of q.0) (λ q. Also q.0) p.asks (λ q h. f q.0 h) p.each; in_turn = p.in_turn }
 
   -- the view is asked for an item that was not read
-  pub asks_once : {a b : Txn S Logged} (item : Item) (read : Option Read) → Of item → WasNotRead a.log.reads item → sights.asked a.view.now item b.view.now → b.log.reads ≡ a.log.reads ++ kept item read
+  pub asks_once : {a b : Txn S ReadsAndWrites} (item : Item) (read : Option Read) → Of item → WasNotRead a.set.reads item → sights.asked a.view.now item b.view.now → b.set.reads ≡ a.set.reads ++ kept item read
       → AsksOf Of sights a b
   asks_once {b = b} item read of fresh asked is = record { asks = (item, read) ∷ []; each = (of, tt); in_turn = (fresh, (b.view.now, asked, (refl, is))) }

@@ -10,18 +10,18 @@ use Rattle.dk_model.specs.Keys.{key_cmp}
 use Rattle.dk_model.specs.DurableWorlds.{Agrees}
 use Rattle.dk_model.specs.Runs.{Act, begun}
 use Rattle.dk_model.specs.Steps.{work, game_part, ended}
-use Rattle.dk_model.specs.Finishes.{IsNew, told_step, KeepsLaw}
+use Rattle.dk_model.specs.Finishes.{IsNew, step_report, KeepsLaw}
 use Rattle.dk_overlay.specs.declared.change.TaskChange.TheVariants.{Moved}
 use Rattle.dk_txn.specs.declared.finished.Finished.{Finished}
-use Rattle.dk_overlay.specs.Logged.{Logged, nothing_done}
+use Rattle.dk_overlay.specs.ReadsAndWrites.{ReadsAndWrites, nothing_done}
 use Rattle.dk_txn.specs.Current.{current}
 use Rattle.dk_txn.specs.Knowing.{IsSound, MovesAlone, MovesOwn, HasTaskLimits, OwnIsAsked}
-use Rattle.dk_txn.specs.Finishes.{told, TellsEnd}
+use Rattle.dk_txn.specs.Finishes.{report, TellsEnd}
 use Rattle.dk_txn.proofs.Layers.{at_empty}
 use Rattle.dk_txn.proofs.Sound.{sound_start}
 use Rattle.dk_txn.proofs.Owning.{current_start}
 use Rattle.dk_txn.specs.declared.txn.Txn.{Txn}
-use Rattle.dk_txn.specs.Does.{KeepsFor, DoesFor, Keeps, AllGiven, outcome_told}
+use Rattle.dk_txn.specs.Does.{KeepsFor, DoesFor, Keeps, AllGiven, outcome_of_result}
 use Rattle.dk_txn.specs.Law.{IsBegun}
 use Rattle.dk_txn.specs.Sights.{Sights}
 
@@ -33,33 +33,33 @@ never : {A : Type 0} (n : ℕ) → n ≡ suc n → A
 never n e = absurd (omega (arith, e))
 
 -- what moves no task but those of every key and moment moves none
-pub unmoved : {S : Type 0} {sights : Sights S} {a b : Txn S Logged} (run : RunNo) (at : ℕ) → a.log ≡ nothing_done run at → Keeps sights a b
-    → (k : TaskKey) (from to : ℕ) → map.get b.log.tasks k ≡ Some (Moved from to) → ⊥
+pub unmoved : {S : Type 0} {sights : Sights S} {a b : Txn S ReadsAndWrites} (run : RunNo) (at : ℕ) → a.set ≡ nothing_done run at → Keeps sights a b
+    → (k : TaskKey) (from to : ℕ) → map.get b.set.tasks k ≡ Some (Moved from to) → ⊥
 unmoved run at start p k from to h = never from (p.moves k (suc from) tt (subst (MovesAlone k (suc from)) (sym start) (nothing_moved run at k (suc from))) k from to h).1
 
 -- what moves no task but this one, from a start with nothing done, has moved no other
-pub moved_own : {P : TaskKey → ℕ → Type 0} {S : Type 0} {sights : Sights S} {a b : Txn S Logged} (run : RunNo) (at : ℕ) (key : TaskKey) (due : ℕ) → P key due
-    → a.log ≡ nothing_done run at → KeepsFor P sights a b → MovesAlone key due b.log
+pub moved_own : {P : TaskKey → ℕ → Type 0} {S : Type 0} {sights : Sights S} {a b : Txn S ReadsAndWrites} (run : RunNo) (at : ℕ) (key : TaskKey) (due : ℕ) → P key due
+    → a.set ≡ nothing_done run at → KeepsFor P sights a b → MovesAlone key due b.set
 moved_own run at key due p start k = k.moves key due p (subst (MovesAlone key due) (sym start) (nothing_moved run at key due))
 
 -- a run that did as its job does, from its start, and that tells what its end tells, keeps the law
-pub law_kept : {P : TaskKey → ℕ → Type 0} {S E : Type 0} {sights : Sights S} {told_by : E → Option AppFault} {a b : Txn S Logged} {r : Result (Unit {0}) E}
+pub law_kept : {P : TaskKey → ℕ → Type 0} {S E : Type 0} {sights : Sights S} {told_by : E → Option AppFault} {a b : Txn S ReadsAndWrites} {r : Result (Unit {0}) E}
     (rules : Job → Act (Unit {0})) (job : Job) (run : RunNo) (at : ℕ) (end : Result (Unit {0}) AppFault) (f : Finished)
-    → a.log ≡ nothing_done run at → DoesFor P sights told_by a b (work (game_part rules) job) r → outcome_told told_by r ≡ Some end
-    → OwnIsAsked job b.log → MovesOwn job b.log → HasTaskLimits job → f.reads.items ≡ b.log.reads → TellsEnd b.log job end f → KeepsLaw rules job run at f.reads.items (told f)
+    → a.set ≡ nothing_done run at → DoesFor P sights told_by a b (work (game_part rules) job) r → outcome_of_result told_by r ≡ Some end
+    → OwnIsAsked job b.set → MovesOwn job b.set → HasTaskLimits job → f.reads.items ≡ b.set.reads → TellsEnd b.set job end f → KeepsLaw rules job run at f.reads.items (report f)
 law_kept {a = a} {b = b} rules job run at end f start p is asked own fits reads tells = record {
   keeps = λ d valid agrees new stands.
-      let agrees_then : Agrees d b.log.reads = subst (Agrees d) reads agrees in
-      let same_run : b.log.run ≡ run = p.keeps.same_run ∙ ap (λ (t : Logged). t.run) start in
-      let same_at : b.log.at ≡ at = p.keeps.same_at ∙ ap (λ (t : Logged). t.at) start in
-      let sound : IsSound b.log = p.keeps.sound (subst IsSound (sym start) (sound_start run at)) in
+      let agrees_then : Agrees d b.set.reads = subst (Agrees d) reads agrees in
+      let same_run : b.set.run ≡ run = p.keeps.same_run ∙ ap (λ (t : ReadsAndWrites). t.run) start in
+      let same_at : b.set.at ≡ at = p.keeps.same_at ∙ ap (λ (t : ReadsAndWrites). t.at) start in
+      let sound : IsSound b.set = p.keeps.sound (subst IsSound (sym start) (sound_start run at)) in
       tells (record { sound = sound; asked = asked; own = own; fits = fits }) d (record { agrees = agrees_then; new = subst (IsNew d) (sym same_run) new; stands = stands })
-      ∙ ap (λ r. told_step d (ended job d (begun r b.log.at d) (end, current b.log d))) same_run
-      ∙ ap (λ m. told_step d (ended job d (begun run m d) (end, current b.log d))) same_at
-      ∙ ap (λ q. told_step d (ended job d (begun run at d) q)) (sym (p.does end is d agrees_then))
-      ∙ ap (λ s. told_step d (ended job d (begun run at d) (work (game_part rules) job s))) (ap (λ t. current t d) start ∙ current_start run at d);
+      ∙ ap (λ r. step_report d (ended job d (begun r b.set.at d) (end, current b.set d))) same_run
+      ∙ ap (λ m. step_report d (ended job d (begun run m d) (end, current b.set d))) same_at
+      ∙ ap (λ q. step_report d (ended job d (begun run at d) q)) (sym (p.does end is d agrees_then))
+      ∙ ap (λ s. step_report d (ended job d (begun run at d) (work (game_part rules) job s))) (ap (λ t. current t d) start ∙ current_start run at d);
 }
 
 -- with no reads each was given
-pub none_given : {S : Type 0} {sights : Sights S} (a : Txn S Logged) → IsBegun (a.log) → AllGiven sights a
-none_given {sights = sights} a start = record { given = subst (λ (t : Logged). AllByRecursion (λ r. sights.gave a.view.now r.0 r.1) t.reads) (sym start) tt }
+pub none_given : {S : Type 0} {sights : Sights S} (a : Txn S ReadsAndWrites) → IsBegun (a.set) → AllGiven sights a
+none_given {sights = sights} a start = record { given = subst (λ (t : ReadsAndWrites). AllByRecursion (λ r. sights.gave a.view.now r.0 r.1) t.reads) (sym start) tt }

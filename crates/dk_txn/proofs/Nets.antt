@@ -20,7 +20,7 @@ use Rattle.dk_overlay.specs.declared.change.TaskChange.{TaskChange}
 use Rattle.dk_overlay.specs.declared.change.TaskChange.TheVariants.{Added, Withdrawn, Dropped, Moved}
 use Rattle.dk_overlay.specs.Changes.{value_now, task_now, stood}
 use Rattle.dk_txn.specs.Layers.{layered, newest}
-use Rattle.dk_overlay.specs.Logged.{Logged}
+use Rattle.dk_overlay.specs.ReadsAndWrites.{ReadsAndWrites}
 use Rattle.dk_txn.specs.Current.{current}
 use Rattle.dk_overlay.specs.Picks.{picked, newly_set, taken_away, task_added, task_dropped, task_moved}
 use Rattle.dk_txn.specs.Knowing.{KnowsBefore, MovesStand}
@@ -153,7 +153,7 @@ module _ (changes : FinMap key_cmp TaskChange) (m : FinMap key_cmp Task)
       ∙ sym (find-valued key_cmp (λ (t : Task). t.due) moved q))
 
 -- the changes come to the net effects
-pub net-effects : (t : Logged) (d : DurableWorld) → KnowsBefore t d → MovesStand t d → net_changes t ≡ effects d (current t d).world
+pub net-effects : (t : ReadsAndWrites) (d : DurableWorld) → KnowsBefore t d → MovesStand t d → net_changes t ≡ effects d (current t d).world
 net-effects t d k moves = λ i. record {
   written = set_changes id_cmp ids_total ids_same t.objects d.objects k.objects same_object objects_itself i;
   removed = gone_changes id_cmp ids_total ids_same t.objects d.objects k.objects i;

@@ -17,7 +17,7 @@ use Rattle.dk_overlay.specs.Binding.{is_binding, is_bound_after}
 use Rattle.dk_overlay.specs.Changes.{value_now}
 use Rattle.dk_txn.specs.Layers.{layered, newest}
 use Rattle.dk_overlay.specs.Least.{passes, Least, lesser}
-use Rattle.dk_overlay.specs.Logged.{Logged}
+use Rattle.dk_overlay.specs.ReadsAndWrites.{ReadsAndWrites}
 use Rattle.dk_txn.specs.Current.{current}
 use Rattle.dk_overlay.proofs.Keys.{names_total, names_same}
 use Rattle.dk_txn.proofs.Layers.{get-layered}
@@ -87,16 +87,16 @@ next_is : (d : DurableWorld) (cursor : Option (List ℕ)) (said : Answer) (r : O
 next_is d cursor said r e f = subst (Least bytes_cmp (λ q. passes (is_above cursor) (λ _. true) q (map.get d.names q))) (ap next_in e ∙ sym f) (next_name-least d.names cursor)
 
 -- the loop has passed each standing name that is not above the cursor
-pub record Passed {S : Type 0} (sights : Sights S) (a b : Txn S Logged) (after cursor : Option (List ℕ)) : Type 0 where
+pub record Passed {S : Type 0} (sights : Sights S) (a b : Txn S ReadsAndWrites) (after cursor : Option (List ℕ)) : Type 0 where
   pub keeps : Keeps sights a b
-  pub same_changes : SameChanges a.log b.log
-  pub passed : (d : DurableWorld) → Agrees d b.log.reads → (q : List ℕ) → is_standing b.log d after q ≡ true → is_above cursor q ≡ true
-  pub further : (d : DurableWorld) → Agrees d b.log.reads → (q : List ℕ) → is_above cursor q ≡ true → is_above after q ≡ true
-  pub asks : AsksOf (IsNext a.log after) sights a b
-  pub next : IsNext a.log after (item.NextAfter cursor)
+  pub same_changes : SameChanges a.set b.set
+  pub passed : (d : DurableWorld) → Agrees d b.set.reads → (q : List ℕ) → is_standing b.set d after q ≡ true → is_above cursor q ≡ true
+  pub further : (d : DurableWorld) → Agrees d b.set.reads → (q : List ℕ) → is_above cursor q ≡ true → is_above after q ≡ true
+  pub asks : AsksOf (IsNext a.set after) sights a b
+  pub next : IsNext a.set after (item.NextAfter cursor)
 
 module _ {S : Type 0} {sights : Sights S} where
-  pub passed_start : {a : Txn S Logged} (after cursor : Option (List ℕ)) → cursor ≡ after → Passed sights a a after cursor
+  pub passed_start : {a : Txn S ReadsAndWrites} (after cursor : Option (List ℕ)) → cursor ≡ after → Passed sights a a after cursor
   passed_start {a = a} after cursor e = record {
     keeps = keeps_all;
     same_changes = refl;
@@ -107,19 +107,19 @@ module _ {S : Type 0} {sights : Sights S} where
   }
 
   -- one more read changes nothing of it
-  pub passed_asked : {a b c : Txn S Logged} {after cursor : Option (List ℕ)} → Passed sights a b after cursor → Keeps sights b c → SameChanges b.log c.log → Asks (item.NextAfter cursor) sights b c → Passed sights a c after cursor
+  pub passed_asked : {a b c : Txn S ReadsAndWrites} {after cursor : Option (List ℕ)} → Passed sights a b after cursor → Keeps sights b c → SameChanges b.set c.set → Asks (item.NextAfter cursor) sights b c → Passed sights a c after cursor
   passed_asked {a = a} {b = b} {c = c} {after = after} p k same asks = record {
     keeps = keeps_then p.keeps k;
-    same_changes = same ∙ ap (λ (t : Logged). record t { reads = c.log.reads }) p.same_changes;
-    passed = λ d agrees q h. p.passed d (agreed k d agrees) q (ap (λ (t : Logged). is_standing t d after q) (sym same) ∙ h);
+    same_changes = same ∙ ap (λ (t : ReadsAndWrites). record t { reads = c.set.reads }) p.same_changes;
+    passed = λ d agrees q h. p.passed d (agreed k d agrees) q (ap (λ (t : ReadsAndWrites). is_standing t d after q) (sym same) ∙ h);
     further = λ d agrees. p.further d (agreed k d agrees);
-    asks = asks_then p.asks (asks_weaker (λ q is. subst (IsNext a.log after) (sym is) p.next) asks);
+    asks = asks_then p.asks (asks_weaker (λ q is. subst (IsNext a.set after) (sym is) p.next) asks);
     next = p.next;
   }
 
-  module _ {a c : Txn S Logged} {after cursor : Option (List ℕ)} (p : Passed sights a c after cursor) (said : Answer)
-      (tells : (d : DurableWorld) → Agrees d c.log.reads → answer d (item.NextAfter cursor) ≡ said) where
-    pub passed_none : None ≡ next_in said → NextStanding c.log after None
+  module _ {a c : Txn S ReadsAndWrites} {after cursor : Option (List ℕ)} (p : Passed sights a c after cursor) (said : Answer)
+      (tells : (d : DurableWorld) → Agrees d c.set.reads → answer d (item.NextAfter cursor) ≡ said) where
+    pub passed_none : None ≡ next_in said → NextStanding c.set after None
     passed_none e = record {
       least = λ d agrees q. false_unless _ (λ h.
           contrary _
@@ -127,12 +127,12 @@ module _ {S : Type 0} {sights : Sights S} where
           (next_is d cursor said None (tells d agrees) e q));
     }
 
-    pub passed_some : (n : List ℕ) → Some n ≡ next_in said → (is_above cursor n ≡ false) ⊎ (is_some (map.get c.log.names n) ≡ false) → NextStanding c.log after (Some n)
+    pub passed_some : (n : List ℕ) → Some n ≡ next_in said → (is_above cursor n ≡ false) ⊎ (is_some (map.get c.set.names n) ≡ false) → NextStanding c.set after (Some n)
     passed_some n e stays = record {
       least = λ d agrees.
           let l : Least bytes_cmp (λ q. passes (is_above cursor) (λ _. true) q (map.get d.names q)) (Some n) = next_is d cursor said (Some n) (tells d agrees) e in
           let over : is_above cursor n ≡ true = pass_at (is_above cursor) n (map.get d.names n) l.0 in
-          let there : is_some (map.get c.log.names n) ≡ false = elim stays [ inl low ↦ contrary _ over low | inr is ↦ is ] in (
+          let there : is_some (map.get c.set.names n) ≡ false = elim stays [ inl low ↦ contrary _ over low | inr is ↦ is ] in (
             and_true _ _ (pass (is_above after) n (map.get d.names n) (p.further d agrees n over) (pass_some (is_above cursor) n (map.get d.names n) l.0)) (ap not there),
             λ q less. false_unless _ (λ h.
                 contrary _
@@ -141,7 +141,7 @@ module _ {S : Type 0} {sights : Sights S} where
           );
     }
 
-    pub passed_on : (n : List ℕ) → Some n ≡ next_in said → is_some (map.get c.log.names n) ≡ true → Passed sights a c after (Some n)
+    pub passed_on : (n : List ℕ) → Some n ≡ next_in said → is_some (map.get c.set.names n) ≡ true → Passed sights a c after (Some n)
     passed_on n e changed = record {
       keeps = p.keeps;
       same_changes = p.same_changes;
@@ -149,7 +149,7 @@ module _ {S : Type 0} {sights : Sights S} where
           let l : Least bytes_cmp (λ q. passes (is_above cursor) (λ _. true) q (map.get d.names q)) (Some n) = next_is d cursor said (Some n) (tells d agrees) e in
           ordered bytes_cmp names_total names_same n q
           (λ less. after_above (Some n) q less)
-          (λ same. contrary (is_some (map.get c.log.names q)) (subst (λ x. is_some (map.get c.log.names x) ≡ true) same changed) (not_false _ (and_right _ _ h)))
+          (λ same. contrary (is_some (map.get c.set.names q)) (subst (λ x. is_some (map.get c.set.names x) ≡ true) same changed) (not_false _ (and_right _ _ h)))
           (λ less. contrary _
           (pass (is_above cursor) q (map.get d.names q) (p.passed d agrees q h) (pass_some (is_above after) q (map.get d.names q) (and_left _ _ h)))
           (l.1 q less));
@@ -157,7 +157,7 @@ module _ {S : Type 0} {sights : Sights S} where
           let l : Least bytes_cmp (λ q. passes (is_above cursor) (λ _. true) q (map.get d.names q)) (Some n) = next_is d cursor said (Some n) (tells d agrees) e in
           p.further d agrees q (above_mono cursor n q (pass_at (is_above cursor) n (map.get d.names n) l.0) h);
       asks = p.asks;
-      next = inr (n, refl, ap (λ (t : Logged). is_some (map.get t.names n)) (sym p.same_changes) ∙ changed);
+      next = inr (n, refl, ap (λ (t : ReadsAndWrites). is_some (map.get t.names n)) (sym p.same_changes) ∙ changed);
     }
 
 changed : {X : Type 0} (at : List ℕ → Bool) (q : List ℕ) (now : Option X) (o : Option X) → ((passes at (λ _. true) q o && false) || (at q && is_some now)) ≡ passes at (λ _. true) q now
@@ -173,7 +173,7 @@ bound_where at q None None = elim (at q) as (λ t. (false || (t && false)) ≡ f
 bound_where at q None (Some x) = elim (at q) as (λ t. (((t && true) && true) || (t && false)) ≡ (t && true)) [ true ↦ refl | false ↦ refl ]
 bound_where at q (Some c) o = changed at q c.after o
 
-next_over : (t : Logged) (after r own : Option (List ℕ)) → NextStanding t after r → Least bytes_cmp (is_bound_after t.names after) own → (d : DurableWorld) → Agrees d t.reads
+next_over : (t : ReadsAndWrites) (after r own : Option (List ℕ)) → NextStanding t after r → Least bytes_cmp (is_bound_after t.names after) own → (d : DurableWorld) → Agrees d t.reads
     → next_name (layered value_now t.names d.names) after ≡ lesser bytes_cmp r own
 next_over t after r own s least d agrees =
     Least-unique bytes_cmp names_total names_same
@@ -187,14 +187,14 @@ next_over t after r own s least d agrees =
     _
     (Least-or bytes_cmp names_total names_same (is_standing t d after) (is_bound_after t.names after) r own (s.least d agrees) least))
 
-pub next_does : {S : Type 0} {sights : Sights S} {a b : Txn S Logged} (after r own least : Option (List ℕ))
-    → Keeps sights a b → SameChanges a.log b.log → NextStanding b.log after r → Least bytes_cmp (is_bound_after b.log.names after) own → least ≡ lesser bytes_cmp r own
+pub next_does : {S : Type 0} {sights : Sights S} {a b : Txn S ReadsAndWrites} (after r own least : Option (List ℕ))
+    → Keeps sights a b → SameChanges a.set b.set → NextStanding b.set after r → Least bytes_cmp (is_bound_after b.set.names after) own → least ≡ lesser bytes_cmp r own
     → Does sights refusal_fault a b (act.next_bound after) (Ok least)
 unfolding act.next_bound
 next_does {a = a} {b = b} after r own least k same s e f = record {
   keeps = k;
   does = λ o told d agrees.
-      ap (act.next_bound after) (same_current a.log b.log d same)
-      ∙ ap (λ n. (Ok n, current b.log d)) (next_over b.log after r own s e d agrees ∙ sym f)
-      ∙ ap (λ x. (x, current b.log d)) (Some_injective _ _ told);
+      ap (act.next_bound after) (same_current a.set b.set d same)
+      ∙ ap (λ n. (Ok n, current b.set d)) (next_over b.set after r own s e d agrees ∙ sym f)
+      ∙ ap (λ x. (x, current b.set d)) (Some_injective _ _ told);
 }

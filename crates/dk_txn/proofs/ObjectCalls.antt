@@ -19,7 +19,7 @@ use Rattle.dk_overlay.specs.Answers.{object_in}
 use Rattle.dk_txn.proofs.Answering.{object_in-answer}
 use Rattle.dk_overlay.specs.Changes.{value_now}
 use Rattle.dk_txn.specs.Layers.{newest}
-use Rattle.dk_overlay.specs.Logged.{Logged, changing_object, new_id, creating}
+use Rattle.dk_overlay.specs.ReadsAndWrites.{ReadsAndWrites, changing_object, new_id, creating}
 use Rattle.dk_txn.specs.Current.{current}
 use Rattle.dk_overlay.proofs.Keys.{ids_total, ids_same}
 use Rattle.dk_txn.proofs.Layers.{get-layered, layered-insert}
@@ -29,7 +29,7 @@ use Rattle.dk_txn.specs.declared.refusal.Refusal.{Refusal}
 use Rattle.dk_txn.specs.declared.refusal.Refusal.TheVariants as refusal
 use Rattle.dk_txn.specs.declared.txn.Txn.{Txn}
 use Rattle.dk_txn.specs.Refusals.{refusal_fault, TellsLength}
-use Rattle.dk_txn.specs.Does.{KeepsFor, DoesFor, Keeps, Does, SameChanges, KnownObject, CanChange, RefusesChange, failure, outcome_told}
+use Rattle.dk_txn.specs.Does.{KeepsFor, DoesFor, Keeps, Does, SameChanges, KnownObject, CanChange, RefusesChange, failure, outcome_of_result}
 use Rattle.dk_txn.proofs.Kit.{keeps_all}
 use Rattle.dk_txn.proofs.Reading.{same_current, keeps_changed, told_found}
 use Rattle.dk_txn.specs.Sights.{Sights}
@@ -42,42 +42,42 @@ le_false a b h = grind (arith, nat_tests)
 
 module _ {P : TaskKey → ℕ → Type 0} {S : Type 0} {sights : Sights S} where
   -- the run stands as it did, and the call is refused
-  pub refused_at : {a b : Txn S Logged} {A : Type 0} {f : Act A} {e : Refusal} (fault : AppFault) → KeepsFor P sights a b → SameChanges a.log b.log → refusal_fault e ≡ Some fault
-      → ((d : DurableWorld) → Agrees d b.log.reads → f (current b.log d) ≡ (Err fault, current b.log d)) → DoesFor P sights refusal_fault a b f (Err e)
+  pub refused_at : {a b : Txn S ReadsAndWrites} {A : Type 0} {f : Act A} {e : Refusal} (fault : AppFault) → KeepsFor P sights a b → SameChanges a.set b.set → refusal_fault e ≡ Some fault
+      → ((d : DurableWorld) → Agrees d b.set.reads → f (current b.set d) ≡ (Err fault, current b.set d)) → DoesFor P sights refusal_fault a b f (Err e)
   refused_at {a = a} {b = b} {f = f} fault k same is h = record {
     keeps = k;
-    does = λ s t d agrees. ap f (same_current a.log b.log d same) ∙ h d agrees ∙ ap (λ r. (r, current b.log d)) (Some_injective _ _ (sym (ap failure is) ∙ t));
+    does = λ s t d agrees. ap f (same_current a.set b.set d same) ∙ h d agrees ∙ ap (λ r. (r, current b.set d)) (Some_injective _ _ (sym (ap failure is) ∙ t));
   }
 
   -- the same where nothing was read
-  pub refused_here : {a : Txn S Logged} {A : Type 0} {f : Act A} {e : Refusal} (fault : AppFault) → refusal_fault e ≡ Some fault
-      → ((d : DurableWorld) → f (current a.log d) ≡ (Err fault, current a.log d)) → DoesFor P sights refusal_fault a a f (Err e)
+  pub refused_here : {a : Txn S ReadsAndWrites} {A : Type 0} {f : Act A} {e : Refusal} (fault : AppFault) → refusal_fault e ≡ Some fault
+      → ((d : DurableWorld) → f (current a.set d) ≡ (Err fault, current a.set d)) → DoesFor P sights refusal_fault a a f (Err e)
   refused_here {a = a} {f = f} fault is h = record {
     keeps = keeps_all;
-    does = λ s t d agrees. h d ∙ ap (λ r. (r, current a.log d)) (Some_injective _ _ (sym (ap failure is) ∙ t));
+    does = λ s t d agrees. h d ∙ ap (λ r. (r, current a.set d)) (Some_injective _ _ (sym (ap failure is) ∙ t));
   }
 
   -- the run stands as the log t says, and the call is done
-  pub done_at : {a b : Txn S Logged} {A : Type 0} {f : Act A} {x : A} (t u : Logged) → KeepsFor P sights a (record { view = b.view; log = t }) → SameChanges a.log b.log → t.reads ≡ b.log.reads → u ≡ t
-      → ((d : DurableWorld) → Agrees d b.log.reads → f (current b.log d) ≡ (Ok x, current t d)) → DoesFor P sights refusal_fault a (record { view = b.view; log = u }) f (Ok x)
+  pub done_at : {a b : Txn S ReadsAndWrites} {A : Type 0} {f : Act A} {x : A} (t u : ReadsAndWrites) → KeepsFor P sights a (record { view = b.view; set = t }) → SameChanges a.set b.set → t.reads ≡ b.set.reads → u ≡ t
+      → ((d : DurableWorld) → Agrees d b.set.reads → f (current b.set d) ≡ (Ok x, current t d)) → DoesFor P sights refusal_fault a (record { view = b.view; set = u }) f (Ok x)
   done_at {a = a} {b = b} {f = f} {x = x} t u k same reads e h =
-      subst (λ (t : Logged). DoesFor P sights refusal_fault a (record { view = b.view; log = t }) f (Ok x)) (sym e) (record {
+      subst (λ (t : ReadsAndWrites). DoesFor P sights refusal_fault a (record { view = b.view; set = t }) f (Ok x)) (sym e) (record {
         keeps = k;
-        does = λ s told d agrees. ap f (same_current a.log b.log d same) ∙ h d (subst (Agrees d) reads agrees) ∙ ap (λ r. (r, current t d)) (Some_injective _ _ told);
+        does = λ s told d agrees. ap f (same_current a.set b.set d same) ∙ h d (subst (Agrees d) reads agrees) ∙ ap (λ r. (r, current t d)) (Some_injective _ _ told);
       })
 
   -- want of memory tells nothing
-  pub forgotten : {a b : Txn S Logged} {A : Type 0} {f : Act A} → KeepsFor P sights a b → DoesFor P sights refusal_fault a b f (Err refusal.NoMemory)
+  pub forgotten : {a b : Txn S ReadsAndWrites} {A : Type 0} {f : Act A} → KeepsFor P sights a b → DoesFor P sights refusal_fault a b f (Err refusal.NoMemory)
   forgotten k = record { keeps = k; does = λ s t. cc }
 
 -- what is known of an object by a change of it, and by what the view said
-pub known_changed : (t : Logged) (id : ObjectId) (c : Change Object) → map.get t.objects id ≡ Some c → KnownObject t id c
+pub known_changed : (t : ReadsAndWrites) (id : ObjectId) (c : Change Object) → map.get t.objects id ≡ Some c → KnownObject t id c
 known_changed t id c h = record {
   after = λ d agrees. get-layered ids_total ids_same value_now t.objects d.objects id ∙ ap (λ o. newest value_now o (map.get d.objects id)) h;
   before = λ s d agrees new. (s.knows d agrees new).objects id c h;
 }
 
-pub known_asked : (t : Logged) (id : ObjectId) (said : Answer) (o b : Option Object) → map.get t.objects id ≡ None → o ≡ object_in said → b ≡ o
+pub known_asked : (t : ReadsAndWrites) (id : ObjectId) (said : Answer) (o b : Option Object) → map.get t.objects id ≡ None → o ≡ object_in said → b ≡ o
     → ((d : DurableWorld) → Agrees d t.reads → answer d (item.Object id) ≡ said) → KnownObject t id (record { before = b; after = o })
 known_asked t id said o b none e f h =
     let was : (d : DurableWorld) → Agrees d t.reads → map.get d.objects id ≡ o = λ d agrees. sym (object_in-answer (map.get d.objects id)) ∙ ap object_in (h d agrees) ∙ sym e in
@@ -87,31 +87,31 @@ known_asked t id said o b none e f h =
     }
 
 module _ {S : Type 0} {sights : Sights S} where
-  pub get_does : {a b : Txn S Logged} {id : ObjectId} {c : Change Object} → Keeps sights a b → SameChanges a.log b.log → KnownObject b.log id c → (r : Result Object Refusal) → r ≡ ok_or c.after refusal.ObjectNotFound
+  pub get_does : {a b : Txn S ReadsAndWrites} {id : ObjectId} {c : Change Object} → Keeps sights a b → SameChanges a.set b.set → KnownObject b.set id c → (r : Result Object Refusal) → r ≡ ok_or c.after refusal.ObjectNotFound
       → Does sights refusal_fault a b (act.get id) r
   unfolding act.get
   get_does {a = a} {b = b} {id = id} {c = c} k same known r e = record {
     keeps = k;
     does = λ s told d agrees.
-        ap (act.get id) (same_current a.log b.log d same)
-        ∙ ap (λ o. (found 2 o, current b.log d)) (known.after d agrees)
-        ∙ ap (λ x. (x, current b.log d)) (told_found 2 refusal.ObjectNotFound refl c.after s (ap (outcome_told refusal_fault) (sym e) ∙ told));
+        ap (act.get id) (same_current a.set b.set d same)
+        ∙ ap (λ o. (found 2 o, current b.set d)) (known.after d agrees)
+        ∙ ap (λ x. (x, current b.set d)) (told_found 2 refusal.ObjectNotFound refl c.after s (ap (outcome_of_result refusal_fault) (sym e) ∙ told));
   }
 
 -- the run after one change of an object
-pub current_changed : (t : Logged) (id : ObjectId) (c : Change Object) (d : DurableWorld) → with_object (current t d) id c.after ≡ current (changing_object t id c) d
+pub current_changed : (t : ReadsAndWrites) (id : ObjectId) (c : Change Object) (d : DurableWorld) → with_object (current t d) id c.after ≡ current (changing_object t id c) d
 current_changed t id c d = ap (λ m. record (current (changing_object t id c) d) { world = record ((current t d).world) { objects = m } }) (sym (layered-insert ids_total ids_same value_now t.objects d.objects id c))
 
 -- an object that is not there, or may not be touched, is not changed
-pub absent_unchanged : (t : Logged) (id : ObjectId) (c : Change Object) → KnownObject t id c → c.after ≡ None → RefusesChange t id refusal.ObjectNotFound
+pub absent_unchanged : (t : ReadsAndWrites) (id : ObjectId) (c : Change Object) → KnownObject t id c → c.after ≡ None → RefusesChange t id refusal.ObjectNotFound
 absent_unchanged t id c known none = λ fault is change d agrees.
     ap (λ o. change_found o id change (current t d)) (known.after d agrees ∙ none) ∙ ap (λ f. (Err f, current t d)) (Some_injective _ _ is)
 
-pub reserved_unchanged : (t : Logged) (id : ObjectId) (c : Change Object) (o : Object) → KnownObject t id c → c.after ≡ Some o → act.is_reserved_kind t.mode o.kind ≡ true → RefusesChange t id refusal.Reserved
+pub reserved_unchanged : (t : ReadsAndWrites) (id : ObjectId) (c : Change Object) (o : Object) → KnownObject t id c → c.after ≡ Some o → act.is_reserved_kind t.mode o.kind ≡ true → RefusesChange t id refusal.Reserved
 reserved_unchanged t id c o known there h = λ fault is change d agrees.
     ap (λ o. change_found o id change (current t d)) (known.after d agrees ∙ there) ∙ rw h (ap (λ f. (Err f, current t d)) (Some_injective _ _ is))
 
-pub changed_by : (t : Logged) (id : ObjectId) (c : Change Object) (can : CanChange t id c) (change : Object → Option Object) (d : DurableWorld) → Agrees d t.reads
+pub changed_by : (t : ReadsAndWrites) (id : ObjectId) (c : Change Object) (can : CanChange t id c) (change : Object → Option Object) (d : DurableWorld) → Agrees d t.reads
     → change_object id change (current t d) ≡ (Ok tt, current (changing_object t id (record { before = c.before; after = change can.there.0 })) d)
 changed_by t id c can change d agrees =
     ap (λ o. change_found o id change (current t d)) (can.known.after d agrees ∙ can.there.1)
@@ -119,56 +119,56 @@ changed_by t id c can change d agrees =
 
 module _ {S : Type 0} {sights : Sights S} where
   -- a change of an object, done
-  pub change_does : {a b : Txn S Logged} {id : ObjectId} {c : Change Object} {u : Logged} (f : Act (Unit {0})) (change : Object → Option Object) (new : Option Object)
-      → Keeps sights a b → SameChanges a.log b.log → (can : CanChange b.log id c) → new ≡ change can.there.0 → u ≡ changing_object b.log id (record { before = c.before; after = new })
-      → ((s : Run) → f s ≡ change_object id change s) → Does sights refusal_fault a (record { view = b.view; log = u }) f (Ok tt)
+  pub change_does : {a b : Txn S ReadsAndWrites} {id : ObjectId} {c : Change Object} {u : ReadsAndWrites} (f : Act (Unit {0})) (change : Object → Option Object) (new : Option Object)
+      → Keeps sights a b → SameChanges a.set b.set → (can : CanChange b.set id c) → new ≡ change can.there.0 → u ≡ changing_object b.set id (record { before = c.before; after = new })
+      → ((s : Run) → f s ≡ change_object id change s) → Does sights refusal_fault a (record { view = b.view; set = u }) f (Ok tt)
   change_does {a = a} {b = b} {id = id} {c = c} f change new k same can is e means =
       let done : Change Object = record { before = c.before; after = new } in
-      let t : Logged = changing_object b.log id done in
-      done_at t _ (keeps_changed k t refl refl refl (λ s. sound_object b.log id done s (can.known.before s)) (λ key due p m. m)) same refl e
-      (λ d agrees. means (current b.log d) ∙ changed_by b.log id c can change d agrees ∙ ap (λ o. (Ok tt, current (changing_object b.log id (record { before = c.before; after = o })) d)) (sym is))
+      let t : ReadsAndWrites = changing_object b.set id done in
+      done_at t _ (keeps_changed k t refl refl refl (λ s. sound_object b.set id done s (can.known.before s)) (λ key due p m. m)) same refl e
+      (λ d agrees. means (current b.set d) ∙ changed_by b.set id c can change d agrees ∙ ap (λ o. (Ok tt, current (changing_object b.set id (record { before = c.before; after = o })) d)) (sym is))
 
   -- and refused
-  pub change_refused : {a b : Txn S Logged} {e : Refusal} (id : ObjectId) (f : Act (Unit {0})) (change : Object → Option Object)
-      → Keeps sights a b → SameChanges a.log b.log → RefusesChange b.log id e → ((s : Run) → f s ≡ change_object id change s) → Does sights refusal_fault a b f (Err e)
+  pub change_refused : {a b : Txn S ReadsAndWrites} {e : Refusal} (id : ObjectId) (f : Act (Unit {0})) (change : Object → Option Object)
+      → Keeps sights a b → SameChanges a.set b.set → RefusesChange b.set id e → ((s : Run) → f s ≡ change_object id change s) → Does sights refusal_fault a b f (Err e)
   change_refused {a = a} {b = b} {e = e} id f change k same refuses means = record {
     keeps = k;
     does = does (refusal_fault e) refl;
   }
     where
-      does : (o : Option AppFault) → refusal_fault e ≡ o → (s : Result (Unit {0}) AppFault) → failure o ≡ Some s → (d : DurableWorld) → Agrees d b.log.reads → f (current a.log d) ≡ (s, current b.log d)
+      does : (o : Option AppFault) → refusal_fault e ≡ o → (s : Result (Unit {0}) AppFault) → failure o ≡ Some s → (d : DurableWorld) → Agrees d b.set.reads → f (current a.set d) ≡ (s, current b.set d)
       does None is s t = cc
       does (Some fault) is s t = λ d agrees.
-          ap f (same_current a.log b.log d same) ∙ means (current b.log d) ∙ refuses fault is change d agrees ∙ ap (λ r. (r, current b.log d)) (Some_injective _ _ t)
+          ap f (same_current a.set b.set d same) ∙ means (current b.set d) ∙ refuses fault is change d agrees ∙ ap (λ r. (r, current b.set d)) (Some_injective _ _ t)
 
-  pub save_long : {a : Txn S Logged} {e : Refusal} (id : ObjectId) (bytes : List ℕ) → refusal_fault e ≡ Some (Refused 4) → act.is_too_long bytes ≡ true → Does sights refusal_fault a a (act.save id bytes) (Err e)
+  pub save_long : {a : Txn S ReadsAndWrites} {e : Refusal} (id : ObjectId) (bytes : List ℕ) → refusal_fault e ≡ Some (Refused 4) → act.is_too_long bytes ≡ true → Does sights refusal_fault a a (act.save id bytes) (Err e)
   unfolding act.save
   save_long id bytes is h = refused_here (Refused 4) is (λ d. rw h refl)
 
-  module _ {a : Txn S Logged} (kind : ℕ) (bytes : List ℕ) where
-    pub create_reserved : act.is_reserved_kind a.log.mode kind ≡ true → Does sights refusal_fault a a (act.create kind bytes) (Err refusal.Reserved)
+  module _ {a : Txn S ReadsAndWrites} (kind : ℕ) (bytes : List ℕ) where
+    pub create_reserved : act.is_reserved_kind a.set.mode kind ≡ true → Does sights refusal_fault a a (act.create kind bytes) (Err refusal.Reserved)
     unfolding act.create
     create_reserved h = refused_here (Refused 6) refl (λ d. rw h refl)
 
-    pub create_long : {e : Refusal} → refusal_fault e ≡ Some (Refused 4) → act.is_reserved_kind a.log.mode kind ≡ false → act.is_too_long bytes ≡ true → Does sights refusal_fault a a (act.create kind bytes) (Err e)
+    pub create_long : {e : Refusal} → refusal_fault e ≡ Some (Refused 4) → act.is_reserved_kind a.set.mode kind ≡ false → act.is_too_long bytes ≡ true → Does sights refusal_fault a a (act.create kind bytes) (Err e)
     unfolding act.create
     create_long is free h = refused_here (Refused 4) is (λ d. rw (free, h) refl)
 
-    pub create_many : act.is_reserved_kind a.log.mode kind ≡ false → act.is_too_long bytes ≡ false → 65536 ≤ a.log.objects_made → Does sights refusal_fault a a (act.create kind bytes) (Err refusal.TooMany)
+    pub create_many : act.is_reserved_kind a.set.mode kind ≡ false → act.is_too_long bytes ≡ false → 65536 ≤ a.set.objects_made → Does sights refusal_fault a a (act.create kind bytes) (Err refusal.TooMany)
     unfolding act.create
-    create_many free short h = refused_here (Refused 8) refl (λ d. rw (free, short, le_true 65536 a.log.objects_made h) refl)
+    create_many free short h = refused_here (Refused 8) refl (λ d. rw (free, short, le_true 65536 a.set.objects_made h) refl)
 
-    pub create_does : {u : Logged} (id : ObjectId) → act.is_reserved_kind a.log.mode kind ≡ false → act.is_too_long bytes ≡ false → a.log.objects_made < 65536
-        → id ≡ new_id (a.log) → u ≡ creating (a.log) (record { kind = kind; bytes = bytes }) → Does sights refusal_fault a (record { view = a.view; log = u }) (act.create kind bytes) (Ok id)
+    pub create_does : {u : ReadsAndWrites} (id : ObjectId) → act.is_reserved_kind a.set.mode kind ≡ false → act.is_too_long bytes ≡ false → a.set.objects_made < 65536
+        → id ≡ new_id (a.set) → u ≡ creating (a.set) (record { kind = kind; bytes = bytes }) → Does sights refusal_fault a (record { view = a.view; set = u }) (act.create kind bytes) (Ok id)
     unfolding act.create
     create_does id free short few is e =
         let object : Object = record { kind = kind; bytes = bytes } in
-        let made : Logged = record (a.log) { objects_made = a.log.objects_made + 1 } in
+        let made : ReadsAndWrites = record (a.set) { objects_made = a.set.objects_made + 1 } in
         let change : Change Object = record { before = None; after = Some object } in
-        let t : Logged = creating (a.log) object in
-        done_at t _ (keeps_changed keeps_all t refl refl refl (λ s. sound_object made (new_id (a.log)) change (sound_as (a.log) made refl refl refl refl refl s) (λ d agrees new. sym (new.objects (new_id (a.log)) refl))) (λ key due p m. m)) refl refl e
-        (λ d agrees. rw (free, short, le_false 65536 a.log.objects_made few)
-        (ap (λ s. (Ok (new_id (a.log)), s)) (current_changed made (new_id (a.log)) change d) ∙ ap (λ i. (Ok i, current t d)) (sym is)))
+        let t : ReadsAndWrites = creating (a.set) object in
+        done_at t _ (keeps_changed keeps_all t refl refl refl (λ s. sound_object made (new_id (a.set)) change (sound_as (a.set) made refl refl refl refl refl s) (λ d agrees new. sym (new.objects (new_id (a.set)) refl))) (λ key due p m. m)) refl refl e
+        (λ d agrees. rw (free, short, le_false 65536 a.set.objects_made few)
+        (ap (λ s. (Ok (new_id (a.set)), s)) (current_changed made (new_id (a.set)) change d) ∙ ap (λ i. (Ok i, current t d)) (sym is)))
 
 -- saving is a change of the object, where the bytes are not too long
 pub save_means : (id : ObjectId) (bytes : List ℕ) → act.is_too_long bytes ≡ false → (s : Run) → act.save id bytes s ≡ change_object id (λ object. Some (record { kind = object.kind; bytes = bytes })) s

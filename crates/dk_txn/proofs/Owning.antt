@@ -13,7 +13,7 @@ use Rattle.dk_overlay.specs.declared.change.TaskChange.{TaskChange}
 use Rattle.dk_overlay.specs.declared.change.TaskChange.TheVariants.{Moved}
 use Rattle.dk_overlay.specs.Changes.{value_now, task_now, removing, moving}
 use Rattle.dk_txn.specs.Layers.{layered, newest}
-use Rattle.dk_overlay.specs.Logged.{Logged, nothing_done, changing_task, removing_task, moving_task}
+use Rattle.dk_overlay.specs.ReadsAndWrites.{ReadsAndWrites, nothing_done, changing_task, removing_task, moving_task}
 use Rattle.dk_txn.specs.Current.{current, passing_own}
 use Rattle.dk_model.specs.Finishes.{HasOwnTask}
 use Rattle.dk_txn.specs.Knowing.{KnowsBefore, MovesStand, MovesOwn}
@@ -34,16 +34,16 @@ current_start run at d = λ i. record (begun run at d) {
 }
 
 -- the run after a change of a task
-pub current_task : (t : Logged) (key : TaskKey) (c : TaskChange) (d : DurableWorld) (after : Option Task) → task_now c (map.get d.tasks key) ≡ after
+pub current_task : (t : ReadsAndWrites) (key : TaskKey) (c : TaskChange) (d : DurableWorld) (after : Option Task) → task_now c (map.get d.tasks key) ≡ after
     → with_task (current t d) key after ≡ current (changing_task t key c) d
 current_task t key c d after e =
     ap (λ m. record (current (changing_task t key c) d) { world = record ((current t d).world) { tasks = m } })
     (ap (with_value (layered task_now t.tasks d.tasks) key) (sym e) ∙ sym (layered-insert keys_total keys_same task_now t.tasks d.tasks key c))
 
-pub current_removed : (t : Logged) (key : TaskKey) (d : DurableWorld) → with_task (current t d) key None ≡ current (removing_task t key) d
+pub current_removed : (t : ReadsAndWrites) (key : TaskKey) (d : DurableWorld) → with_task (current t d) key None ≡ current (removing_task t key) d
 current_removed t key d = current_task t key (removing (map.get t.tasks key)) d None (removing_none (map.get t.tasks key) (map.get d.tasks key))
 
-current_moved : (t : Logged) (key : TaskKey) (due to : ℕ) (d : DurableWorld) (task : Task) → map.get (layered task_now t.tasks d.tasks) key ≡ Some task
+current_moved : (t : ReadsAndWrites) (key : TaskKey) (due to : ℕ) (d : DurableWorld) (task : Task) → map.get (layered task_now t.tasks d.tasks) key ≡ Some task
     → record (current t d) { world = record ((current t d).world) { tasks = map.insert (layered task_now t.tasks d.tasks) key (record task { due = to }) } } ≡ current (moving_task t key due to) d
 current_moved t key due to d task e =
     let now : newest task_now (map.get t.tasks key) (map.get d.tasks key) ≡ Some task = sym (get-layered keys_total keys_same task_now t.tasks d.tasks key) ∙ e in
@@ -51,7 +51,7 @@ current_moved t key due to d task e =
     (ap (with_value (layered task_now t.tasks d.tasks) key) (sym (moving_some (map.get t.tasks key) (map.get d.tasks key) due to task now))
     ∙ sym (layered-insert keys_total keys_same task_now t.tasks d.tasks key (moving (map.get t.tasks key) due to)))
 
-passed : (t : Logged) (d : DurableWorld) (key : TaskKey) (due period : ℕ) (o : Option Task) → map.get (layered task_now t.tasks d.tasks) key ≡ o → is_some o ≡ true
+passed : (t : ReadsAndWrites) (d : DurableWorld) (key : TaskKey) (due period : ℕ) (o : Option Task) → map.get (layered task_now t.tasks d.tasks) key ≡ o → is_some o ≡ true
     → own_found o key due period (current t d) ≡ (Ok true, current (passing_own t key due period) d)
 passed t d key due period None e h = cc
 passed t d key due period (Some task) e h =
@@ -64,7 +64,7 @@ passed t d key due period (Some task) e h =
     ]
 
 -- a pending task of its own is passed
-pub own_passed : (t : Logged) (d : DurableWorld) (key : TaskKey) (due period : ℕ) → is_some (map.get (layered task_now t.tasks d.tasks) key) ≡ true
+pub own_passed : (t : ReadsAndWrites) (d : DurableWorld) (key : TaskKey) (due period : ℕ) → is_some (map.get (layered task_now t.tasks d.tasks) key) ≡ true
     → own_task key due period (current t d) ≡ (Ok true, current (passing_own t key due period) d)
 unfolding own_task
 own_passed t d key due period h = passed t d key due period _ refl h
@@ -74,13 +74,13 @@ absent None key due period s h = refl
 absent (Some task) key due period s h = cc
 
 -- of one that is not pending nothing is done
-pub own_absent : (t : Logged) (d : DurableWorld) (key : TaskKey) (due period : ℕ) → is_some (map.get (layered task_now t.tasks d.tasks) key) ≡ false
+pub own_absent : (t : ReadsAndWrites) (d : DurableWorld) (key : TaskKey) (due period : ℕ) → is_some (map.get (layered task_now t.tasks d.tasks) key) ≡ false
     → own_task key due period (current t d) ≡ (Ok false, current t d)
 unfolding own_task
 own_absent t d key due period h = absent _ key due period (current t d) h
 
 -- what is known of the task after it was passed
-pub knows_passed : (t : Logged) (d : DurableWorld) (key : TaskKey) (due period : ℕ) → KnowsBefore t d → is_some (map.get (layered task_now t.tasks d.tasks) key) ≡ true
+pub knows_passed : (t : ReadsAndWrites) (d : DurableWorld) (key : TaskKey) (due period : ℕ) → KnowsBefore t d → is_some (map.get (layered task_now t.tasks d.tasks) key) ≡ true
     → KnowsBefore (passing_own t key due period) d
 knows_passed t d key due period k h =
     let there = ap is_some (sym (get-layered keys_total keys_same task_now t.tasks d.tasks key)) ∙ h in
@@ -92,7 +92,7 @@ knows_passed t d key due period k h =
     ]
 
 -- the moves of a log whose own task was passed
-pub moves_passed : (P : TaskKey → ℕ → Type 0) (t : Logged) (key : TaskKey) (due period : ℕ) → P key due
+pub moves_passed : (P : TaskKey → ℕ → Type 0) (t : ReadsAndWrites) (key : TaskKey) (due period : ℕ) → P key due
     → ((k : TaskKey) (from to : ℕ) → map.get t.tasks k ≡ Some (Moved from to) → P k from)
     → (k : TaskKey) (from to : ℕ) → map.get (passing_own t key due period).tasks k ≡ Some (Moved from to) → P k from
 moves_passed P t key due period here others =
@@ -107,7 +107,7 @@ moves_passed P t key due period here others =
     ]
 
 -- where no task was moved but the job's own, the moved ones stand as they were moved from
-pub moves_stand : (j : Job) (t : Logged) (d : DurableWorld) → MovesOwn j t → HasOwnTask d j → MovesStand t d
+pub moves_stand : (j : Job) (t : ReadsAndWrites) (d : DurableWorld) → MovesOwn j t → HasOwnTask d j → MovesStand t d
 moves_stand (job.Task key due period kind arg) t d own stands = λ k from to h task e.
     let mine = own k from to h in
     ap (λ (x : Task). x.due) (stands task (ap (map.get d.tasks) (sym mine.0) ∙ e)) ∙ sym mine.1

@@ -19,10 +19,10 @@ use Rattle.dk_txn.specs.declared.finished.Finished.{Finished}
 use Rattle.dk_overlay.specs.Asked.{IsAsked}
 use Rattle.dk_overlay.specs.Changes.{task_now}
 use Rattle.dk_txn.specs.Layers.{layered}
-use Rattle.dk_overlay.specs.Logged.{Logged, nothing_done}
+use Rattle.dk_overlay.specs.ReadsAndWrites.{ReadsAndWrites, nothing_done}
 use Rattle.dk_txn.specs.Current.{current, passing_own}
 use Rattle.dk_txn.specs.Knowing.{MovesStand, Fits}
-use Rattle.dk_model.specs.Finishes.{told_step}
+use Rattle.dk_model.specs.Finishes.{step_report}
 use Rattle.dk_txn.specs.Finishes.{MayBeIn, IsLogOf, IsKeptIn, IsKept, TellsFailed, TellsEnd}
 use Rattle.dk_overlay.specs.NetChanges.{net_changes}
 use Rattle.dk_overlay.proofs.Keys.{keys_total, keys_same}
@@ -31,33 +31,33 @@ use Rattle.dk_txn.proofs.Sound.{nothing_known}
 use Rattle.dk_txn.proofs.Owning.{current_start, own_passed, own_absent, knows_passed, moves_passed, moves_stand}
 use Rattle.dk_txn.proofs.Nets.{net-effects}
 
-no_moves : (t : Logged) (d : DurableWorld) → MovesStand (nothing_done t.run t.at) d
+no_moves : (t : ReadsAndWrites) (d : DurableWorld) → MovesStand (nothing_done t.run t.at) d
 no_moves t d = λ k from to h. at_empty key_cmp (λ _ _. (task : Task) → map.get d.tasks k ≡ Some task → task.due ≡ from) k (Moved from to) h
 
 -- a failed run keeps nothing of a job that is no task
-pub kept_nothing : (t : Logged) (j : Job) → ((d : DurableWorld) → kept_by j (begun t.run t.at d) ≡ begun t.run t.at d) → IsKept t j (nothing_done t.run t.at)
-kept_nothing t j same = λ log d may. record { is = current_start t.run t.at d ∙ sym (same d); knows = nothing_known t.run t.at d; moves = no_moves t d }
+pub kept_nothing : (t : ReadsAndWrites) (j : Job) → ((d : DurableWorld) → kept_by j (begun t.run t.at d) ≡ begun t.run t.at d) → IsKept t j (nothing_done t.run t.at)
+kept_nothing t j same = λ set d may. record { is = current_start t.run t.at d ∙ sym (same d); knows = nothing_known t.run t.at d; moves = no_moves t d }
 
-module _ (t : Logged) (key : TaskKey) (due period kind : ℕ) (arg : List ℕ) where
+module _ (t : ReadsAndWrites) (key : TaskKey) (due period kind : ℕ) (arg : List ℕ) where
   -- whether the task is pending under no changes
   bare : (d : DurableWorld) (b : Bool) → is_some (map.get d.tasks key) ≡ b → is_some (map.get (layered task_now (nothing_done t.run t.at).tasks d.tasks) key) ≡ b
   bare d b h = ap (λ m. is_some (map.get m key)) (layered-empty keys_total keys_same task_now d.tasks) ∙ h
 
   -- nor of its own task, where that is not pending
   pub kept_absent : (IsAsked t.reads (ask.Task key) → (d : DurableWorld) → Agrees d t.reads → is_some (map.get d.tasks key) ≡ false) → IsKept t (job.Task key due period kind arg) (nothing_done t.run t.at)
-  kept_absent none = λ log d may. record {
-    is = ap (λ p. p.1) (sym (own_absent (nothing_done t.run t.at) d key due period (bare d false (none log.asked d may.agrees)))) ∙ ap (λ s. (own_task key due period s).1) (current_start t.run t.at d);
+  kept_absent none = λ set d may. record {
+    is = ap (λ p. p.1) (sym (own_absent (nothing_done t.run t.at) d key due period (bare d false (none set.asked d may.agrees)))) ∙ ap (λ s. (own_task key due period s).1) (current_start t.run t.at d);
     knows = nothing_known t.run t.at d;
     moves = no_moves t d;
   }
 
   -- it keeps that its own task was passed, where it is pending
-  pub kept_passed : (k : Logged) → (IsAsked t.reads (ask.Task key) → (d : DurableWorld) → Agrees d t.reads → is_some (map.get d.tasks key) ≡ true)
+  pub kept_passed : (k : ReadsAndWrites) → (IsAsked t.reads (ask.Task key) → (d : DurableWorld) → Agrees d t.reads → is_some (map.get d.tasks key) ≡ true)
       → (Fits due period → k ≡ passing_own (nothing_done t.run t.at) key due period) → IsKept t (job.Task key due period kind arg) k
-  kept_passed k there is = λ log d may.
-      let pending = bare d true (there log.asked d may.agrees) in
+  kept_passed k there is = λ set d may.
+      let pending = bare d true (there set.asked d may.agrees) in
       let start = nothing_done t.run t.at in
-      subst (λ k. IsKeptIn t (job.Task key due period kind arg) k d) (sym (is log.fits)) (record {
+      subst (λ k. IsKeptIn t (job.Task key due period kind arg) k d) (sym (is set.fits)) (record {
         is = ap (λ p. p.1) (sym (own_passed start d key due period pending)) ∙ ap (λ s. (own_task key due period s).1) (current_start t.run t.at d);
         knows = knows_passed start d key due period (nothing_known t.run t.at d) pending;
         moves = λ q from to h task e.
@@ -68,10 +68,10 @@ module _ (t : Logged) (key : TaskKey) (due period kind : ℕ) (arg : List ℕ) w
       })
 
 -- a failed run tells what it keeps
-pub tells_failed : (t : Logged) (j : Job) (fault : AppFault) (k : Logged) (f : Finished) → IsKept t j k
+pub tells_failed : (t : ReadsAndWrites) (j : Job) (fault : AppFault) (k : ReadsAndWrites) (f : Finished) → IsKept t j k
     → f.outcome ≡ outcome.Fail fault → f.effects ≡ net_changes k → f.touched.items ≡ k.touched → f.outs.items ≡ failed_outs j → TellsFailed t j fault f
-tells_failed t j fault k f kept end written touched outs = λ log d may.
-    let w = kept log d may in
+tells_failed t j fault k f kept end written touched outs = λ set d may.
+    let w = kept set d may in
     λ i. record {
       outcome = end i;
       effects = (written ∙ net-effects k d w.knows w.moves ∙ ap (λ (s : Run). effects d s.world) w.is) i;
@@ -79,31 +79,31 @@ tells_failed t j fault k f kept end written touched outs = λ log d may.
       outs = outs i;
     }
 
-module _ (t : Logged) (j : Job) (log : IsLogOf t j) (d : DurableWorld) (may : MayBeIn t j d) where
+module _ (t : ReadsAndWrites) (j : Job) (set : IsLogOf t j) (d : DurableWorld) (may : MayBeIn t j d) where
   net : net_changes t ≡ effects d (current t d).world
-  net = net-effects t d (log.sound.knows d may.agrees may.new) (moves_stand j t d log.own may.stands)
+  net = net-effects t d (set.sound.knows d may.agrees may.new) (moves_stand j t d set.own may.stands)
 
   size : nat_lt EFFECTS_MOST_BYTES (effects_length (net_changes t)) ≡ is_too_large d (current t d).world
   unfolding is_too_large
   size = ap (λ e. nat_lt EFFECTS_MOST_BYTES (effects_length e)) net
 
 -- a run that came to its end tells all that it did
-pub tells_done : (t : Logged) (j : Job) (f : Finished) → nat_lt EFFECTS_MOST_BYTES (effects_length (net_changes t)) ≡ false
+pub tells_done : (t : ReadsAndWrites) (j : Job) (f : Finished) → nat_lt EFFECTS_MOST_BYTES (effects_length (net_changes t)) ≡ false
     → f.outcome ≡ outcome.Ok → f.effects ≡ net_changes t → f.touched.items ≡ t.touched → f.outs.items ≡ t.outs → TellsEnd t j (Ok tt) f
-tells_done t j f small end written touched outs = λ log d may.
-    (λ i. record { outcome = end i; effects = (written ∙ net t j log d may) i; touched = touched i; outs = outs i })
-    ∙ ap (λ b. told_step d (if b then failed j (begun t.run t.at d) TooLarge else record { outcome = outcome.Ok; world = (current t d).world; touched = t.touched; outs = t.outs }))
-    (sym (sym (size t j log d may) ∙ small))
+tells_done t j f small end written touched outs = λ set d may.
+    (λ i. record { outcome = end i; effects = (written ∙ net t j set d may) i; touched = touched i; outs = outs i })
+    ∙ ap (λ b. step_report d (if b then failed j (begun t.run t.at d) TooLarge else record { outcome = outcome.Ok; world = (current t d).world; touched = t.touched; outs = t.outs }))
+    (sym (sym (size t j set d may) ∙ small))
 
 -- one whose effects are too large fails
-pub tells_large : (t : Logged) (j : Job) (f : Finished) → nat_lt EFFECTS_MOST_BYTES (effects_length (net_changes t)) ≡ true → TellsFailed t j TooLarge f → TellsEnd t j (Ok tt) f
-tells_large t j f large tells = λ log d may.
-    tells log d may
-    ∙ ap (λ b. told_step d (if b then failed j (begun t.run t.at d) TooLarge else record { outcome = outcome.Ok; world = (current t d).world; touched = t.touched; outs = t.outs }))
-    (sym (sym (size t j log d may) ∙ large))
+pub tells_large : (t : ReadsAndWrites) (j : Job) (f : Finished) → nat_lt EFFECTS_MOST_BYTES (effects_length (net_changes t)) ≡ true → TellsFailed t j TooLarge f → TellsEnd t j (Ok tt) f
+tells_large t j f large tells = λ set d may.
+    tells set d may
+    ∙ ap (λ b. step_report d (if b then failed j (begun t.run t.at d) TooLarge else record { outcome = outcome.Ok; world = (current t d).world; touched = t.touched; outs = t.outs }))
+    (sym (sym (size t j set d may) ∙ large))
 
 -- a failed run keeps nothing of a job that is none of a task
-pub kept_default : (t : Logged) (j : Job) → ((key : TaskKey) (due period kind : ℕ) (arg : List ℕ) → j ≡ job.Task key due period kind arg → ⊥) → IsKept t j (nothing_done t.run t.at)
+pub kept_default : (t : ReadsAndWrites) (j : Job) → ((key : TaskKey) (due period kind : ℕ) (arg : List ℕ) → j ≡ job.Task key due period kind arg → ⊥) → IsKept t j (nothing_done t.run t.at)
 kept_default t job.Initialize isnt = kept_nothing t job.Initialize (λ d. refl)
 kept_default t (job.Login conn name) isnt = kept_nothing t (job.Login conn name) (λ d. refl)
 kept_default t (job.Message conn name body) isnt = kept_nothing t (job.Message conn name body) (λ d. refl)

@@ -16,7 +16,7 @@ use Rattle.dk_overlay.specs.declared.change.TaskChange.{TaskChange}
 use Rattle.dk_overlay.specs.declared.change.TaskChange.TheVariants.{Added, Withdrawn, Dropped, Moved}
 use Rattle.dk_overlay.specs.Changes.{task_now, moved_to, stood, removing, moving}
 use Rattle.dk_txn.specs.Layers.{newest}
-use Rattle.dk_overlay.specs.Logged.{Logged, nothing_done, reading, changing_object, changing_name}
+use Rattle.dk_overlay.specs.ReadsAndWrites.{ReadsAndWrites, nothing_done, reading, changing_object, changing_name}
 use Rattle.dk_model.specs.Finishes.{IsNew}
 use Rattle.dk_txn.specs.Knowing.{KnowsBefore, IsSound}
 use Rattle.dk_overlay.proofs.Keys.{ids_total, ids_same, keys_total, keys_same, names_total, names_same}
@@ -39,7 +39,7 @@ nothing_known run at d = record {
 pub sound_start : (run : RunNo) (at : ℕ) → IsSound (nothing_done run at)
 sound_start run at = record { knows = λ d agrees new. nothing_known run at d }
 
-pub sound_reading : (t : Logged) (item : Item) (read : Read) → IsSound t → IsSound (reading t item read)
+pub sound_reading : (t : ReadsAndWrites) (item : Item) (read : Read) → IsSound t → IsSound (reading t item read)
 sound_reading t item read s = record {
   knows = λ d agrees new.
       let k : KnowsBefore t d = s.knows d (Agrees-front d t.reads ((item, read) ∷ []) agrees) new in
@@ -47,7 +47,7 @@ sound_reading t item read s = record {
 }
 
 -- what is as it was in all that a change knows is sound
-pub sound_as : (t u : Logged) → u.reads ≡ t.reads → u.run ≡ t.run → u.objects ≡ t.objects → u.names ≡ t.names → u.tasks ≡ t.tasks → IsSound t → IsSound u
+pub sound_as : (t u : ReadsAndWrites) → u.reads ≡ t.reads → u.run ≡ t.run → u.objects ≡ t.objects → u.names ≡ t.names → u.tasks ≡ t.tasks → IsSound t → IsSound u
 sound_as t u reads run objects names tasks s = record {
   knows = λ d agrees new.
       let k : KnowsBefore t d = s.knows d (subst (Agrees d) reads agrees) (subst (IsNew d) run new) in
@@ -58,7 +58,7 @@ sound_as t u reads run objects names tasks s = record {
       };
 }
 
-pub sound_object : (t : Logged) (id : ObjectId) (c : Change Object) → IsSound t
+pub sound_object : (t : ReadsAndWrites) (id : ObjectId) (c : Change Object) → IsSound t
     → ((d : DurableWorld) → Agrees d t.reads → IsNew d t.run → c.before ≡ map.get d.objects id) → IsSound (changing_object t id c)
 sound_object t id c s before = record {
   knows = λ d agrees new.
@@ -66,7 +66,7 @@ sound_object t id c s before = record {
       record { objects = at_changed ids_total ids_same t.objects id c (λ q x. x.before ≡ map.get d.objects q) (before d agrees new) k.objects; names = k.names; tasks = k.tasks };
 }
 
-pub sound_name : (t : Logged) (name : List ℕ) (c : Change ObjectId) → IsSound t
+pub sound_name : (t : ReadsAndWrites) (name : List ℕ) (c : Change ObjectId) → IsSound t
     → ((d : DurableWorld) → Agrees d t.reads → IsNew d t.run → c.before ≡ map.get d.names name) → IsSound (changing_name t name c)
 sound_name t name c s before = record {
   knows = λ d agrees new.
@@ -75,11 +75,11 @@ sound_name t name c s before = record {
 }
 
 -- a change of a task, listed as written or not
-pub knows_task : (t : Logged) (key : TaskKey) (c : TaskChange) (d : DurableWorld) → KnowsBefore t d → is_some (map.get d.tasks key) ≡ stood c
+pub knows_task : (t : ReadsAndWrites) (key : TaskKey) (c : TaskChange) (d : DurableWorld) → KnowsBefore t d → is_some (map.get d.tasks key) ≡ stood c
     → KnowsBefore (record t { tasks = map.insert t.tasks key c }) d
 knows_task t key c d k before = record { objects = k.objects; names = k.names; tasks = at_changed keys_total keys_same t.tasks key c (λ q x. is_some (map.get d.tasks q) ≡ stood x) before k.tasks }
 
-pub sound_task : (t : Logged) (key : TaskKey) (c : TaskChange) → IsSound t
+pub sound_task : (t : ReadsAndWrites) (key : TaskKey) (c : TaskChange) → IsSound t
     → ((d : DurableWorld) → Agrees d t.reads → IsNew d t.run → is_some (map.get d.tasks key) ≡ stood c) → IsSound (record t { tasks = map.insert t.tasks key c })
 sound_task t key c s before = record { knows = λ d agrees new. knows_task t key c d (s.knows d agrees new) (before d agrees new) }
 

@@ -20,7 +20,7 @@ use Rattle.dk_overlay.specs.Answers.{is_pending}
 use Rattle.dk_txn.proofs.Answering.{is_pending-answer}
 use Rattle.dk_overlay.specs.Changes.{task_now, task_made, moved_to, settled, removing}
 use Rattle.dk_txn.specs.Layers.{newest}
-use Rattle.dk_overlay.specs.Logged.{Logged, changing_task, new_key, scheduling, removing_task, moving_task, sending}
+use Rattle.dk_overlay.specs.ReadsAndWrites.{ReadsAndWrites, changing_task, new_key, scheduling, removing_task, moving_task, sending}
 use Rattle.dk_txn.specs.Current.{current, passing_own}
 use Rattle.dk_model.specs.Finishes.{IsNew}
 use Rattle.dk_txn.specs.Knowing.{IsSound, MovesAlone}
@@ -68,10 +68,10 @@ asked_there (Some Dropped) x e = cc
 asked_there (Some (Moved from to)) x e = moved_there to x
 
 -- whether a task is pending, by the changes, and by what the view said
-pub task_settled : (t : Logged) (key : TaskKey) (b : Bool) → settled (map.get t.tasks key) ≡ Some b → KnownTask t key b
+pub task_settled : (t : ReadsAndWrites) (key : TaskKey) (b : Bool) → settled (map.get t.tasks key) ≡ Some b → KnownTask t key b
 task_settled t key b e = λ d agrees. ap is_some (get-layered keys_total keys_same task_now t.tasks d.tasks key) ∙ settled_there (map.get t.tasks key) (map.get d.tasks key) b e
 
-pub task_asked : (t : Logged) (key : TaskKey) (said : Answer) (b : Bool) → settled (map.get t.tasks key) ≡ None → b ≡ is_pending said
+pub task_asked : (t : ReadsAndWrites) (key : TaskKey) (said : Answer) (b : Bool) → settled (map.get t.tasks key) ≡ None → b ≡ is_pending said
     → ((d : DurableWorld) → Agrees d t.reads → answer d (item.Task key) ≡ said) → KnownTask t key b
 task_asked t key said b none e h = λ d agrees.
     ap is_some (get-layered keys_total keys_same task_now t.tasks d.tasks key) ∙ asked_there (map.get t.tasks key) (map.get d.tasks key) none
@@ -86,18 +86,18 @@ uncancelled None key s h = refl
 uncancelled (Some task) key s h = cc
 
 -- a change that moves no task
-moves_but : (t : Logged) (key : TaskKey) (c : TaskChange) → ((from to : ℕ) → c ≡ Moved from to → ⊥) → (k : TaskKey) (due : ℕ) → MovesAlone k due t → MovesAlone k due (changing_task t key c)
+moves_but : (t : ReadsAndWrites) (key : TaskKey) (c : TaskChange) → ((from to : ℕ) → c ≡ Moved from to → ⊥) → (k : TaskKey) (due : ℕ) → MovesAlone k due t → MovesAlone k due (changing_task t key c)
 moves_but t key c never k due m = λ q from to h.
     at_changed keys_total keys_same t.tasks key c (λ q c. (from to : ℕ) → c ≡ Moved from to → (q ≡ k) × (from ≡ due)) (λ from to e. absurd (never from to e)) (λ q c h from to e. m q from to (h ∙ ap Some e)) q (Moved from to) h from to refl
 
-sound_removed : (t : Logged) (key : TaskKey) → KnownTask t key true → IsSound t → IsSound (removing_task t key)
+sound_removed : (t : ReadsAndWrites) (key : TaskKey) → KnownTask t key true → IsSound t → IsSound (removing_task t key)
 sound_removed t key known s =
     let c = removing (map.get t.tasks key) in
     sound_as (record t { tasks = map.insert t.tasks key c }) (removing_task t key) refl refl refl refl refl
     (sound_task t key c s (λ d agrees new. removing_stood (map.get t.tasks key) (map.get d.tasks key) (ap is_some (sym (get-layered keys_total keys_same task_now t.tasks d.tasks key)) ∙ known d agrees) ((s.knows d agrees new).tasks key)))
 
 -- passing its own task leaves what the run read, its number and its moment
-module _ (t : Logged) (key : TaskKey) (due period : ℕ) where
+module _ (t : ReadsAndWrites) (key : TaskKey) (due period : ℕ) where
   passing_reads : (passing_own t key due period).reads ≡ t.reads
   passing_reads = elim (period == 0) as (λ b. (if b then removing_task t key else moving_task t key due (next_due due period t.at)).reads ≡ t.reads) [ true ↦ refl | false ↦ refl ]
 
@@ -116,58 +116,58 @@ module _ (t : Logged) (key : TaskKey) (due period : ℕ) where
 
 module _ {S : Type 0} {sights : Sights S} where
   -- the rules say the same in other words
-  pub does_as : {P : TaskKey → ℕ → Type 0} {a b : Txn S Logged} {E A : Type 0} {told : E → Option AppFault} {f : Act A} {r : Result A E} (g : Act A)
+  pub does_as : {P : TaskKey → ℕ → Type 0} {a b : Txn S ReadsAndWrites} {E A : Type 0} {told : E → Option AppFault} {f : Act A} {r : Result A E} (g : Act A)
       → ((s : Run) → f s ≡ g s) → DoesFor P sights told a b g r → DoesFor P sights told a b f r
-  does_as {a = a} g same p = record { keeps = p.keeps; does = λ s t d agrees. same (current a.log d) ∙ p.does s t d agrees }
+  does_as {a = a} g same p = record { keeps = p.keeps; does = λ s t d agrees. same (current a.set d) ∙ p.does s t d agrees }
 
-  pub cancel_does : {a b : Txn S Logged} {u : Logged} (key : TaskKey) → Keeps sights a b → SameChanges a.log b.log → KnownTask b.log key true → u ≡ removing_task b.log key
-      → Does sights refusal_fault a (record { view = b.view; log = u }) (act.cancel key) (Ok tt)
+  pub cancel_does : {a b : Txn S ReadsAndWrites} {u : ReadsAndWrites} (key : TaskKey) → Keeps sights a b → SameChanges a.set b.set → KnownTask b.set key true → u ≡ removing_task b.set key
+      → Does sights refusal_fault a (record { view = b.view; set = u }) (act.cancel key) (Ok tt)
   unfolding act.cancel
   cancel_does {a = a} {b = b} key k same known e =
-      let t : Logged = removing_task b.log key in
-      done_at t _ (keeps_changed k t refl refl refl (sound_removed b.log key known) (λ q due p m. moves_but b.log key (removing (map.get b.log.tasks key)) (λ from to e. removing_unmoved (map.get b.log.tasks key) from to e) q due m)) same refl e
-      (λ d agrees. cancelled _ key (current b.log d) (known d agrees) ∙ ap (λ s. (Ok tt, s)) (current_removed b.log key d))
+      let t : ReadsAndWrites = removing_task b.set key in
+      done_at t _ (keeps_changed k t refl refl refl (sound_removed b.set key known) (λ q due p m. moves_but b.set key (removing (map.get b.set.tasks key)) (λ from to e. removing_unmoved (map.get b.set.tasks key) from to e) q due m)) same refl e
+      (λ d agrees. cancelled _ key (current b.set d) (known d agrees) ∙ ap (λ s. (Ok tt, s)) (current_removed b.set key d))
 
-  pub cancel_refused : {a b : Txn S Logged} (key : TaskKey) → Keeps sights a b → SameChanges a.log b.log → KnownTask b.log key false → Does sights refusal_fault a b (act.cancel key) (Err refusal.ObjectNotFound)
+  pub cancel_refused : {a b : Txn S ReadsAndWrites} (key : TaskKey) → Keeps sights a b → SameChanges a.set b.set → KnownTask b.set key false → Does sights refusal_fault a b (act.cancel key) (Err refusal.ObjectNotFound)
   unfolding act.cancel
-  cancel_refused {b = b} key k same known = refused_at (Refused 2) k same refl (λ d agrees. uncancelled _ key (current b.log d) (known d agrees))
+  cancel_refused {b = b} key k same known = refused_at (Refused 2) k same refl (λ d agrees. uncancelled _ key (current b.set d) (known d agrees))
 
-  pub own_does : {a b : Txn S Logged} {u : Logged} (key : TaskKey) (due period : ℕ) → Keeps sights a b → SameChanges a.log b.log → KnownTask b.log key true → u ≡ passing_own b.log key due period
-      → DoesFor (Only key due) sights refusal_fault a (record { view = b.view; log = u }) (own_task key due period) (Ok true)
+  pub own_does : {a b : Txn S ReadsAndWrites} {u : ReadsAndWrites} (key : TaskKey) (due period : ℕ) → Keeps sights a b → SameChanges a.set b.set → KnownTask b.set key true → u ≡ passing_own b.set key due period
+      → DoesFor (Only key due) sights refusal_fault a (record { view = b.view; set = u }) (own_task key due period) (Ok true)
   own_does {a = a} {b = b} key due period k same known e =
-      let t : Logged = passing_own b.log key due period in
+      let t : ReadsAndWrites = passing_own b.set key due period in
       done_at t _
-      (keeps_changed (keeps_for k) t (passing_reads b.log key due period) (passing_run b.log key due period) (passing_at b.log key due period) (sound_passed b.log key due period known)
-      (λ q from p m. moves_passed (λ x n. (x ≡ q) × (n ≡ from)) b.log key due period (sym p.0, sym p.1) m))
-      same (passing_reads b.log key due period) e (λ d agrees. own_passed b.log d key due period (known d agrees))
+      (keeps_changed (keeps_for k) t (passing_reads b.set key due period) (passing_run b.set key due period) (passing_at b.set key due period) (sound_passed b.set key due period known)
+      (λ q from p m. moves_passed (λ x n. (x ≡ q) × (n ≡ from)) b.set key due period (sym p.0, sym p.1) m))
+      same (passing_reads b.set key due period) e (λ d agrees. own_passed b.set d key due period (known d agrees))
 
-  pub own_none : {a b : Txn S Logged} (key : TaskKey) (due period : ℕ) → Keeps sights a b → SameChanges a.log b.log → KnownTask b.log key false
+  pub own_none : {a b : Txn S ReadsAndWrites} (key : TaskKey) (due period : ℕ) → Keeps sights a b → SameChanges a.set b.set → KnownTask b.set key false
       → DoesFor (Only key due) sights refusal_fault a b (own_task key due period) (Ok false)
   own_none {a = a} {b = b} key due period k same known = record {
     keeps = keeps_for k;
-    does = λ s t d agrees. ap (own_task key due period) (same_current a.log b.log d same) ∙ own_absent b.log d key due period (known d agrees) ∙ ap (λ r. (r, current b.log d)) (Some_injective _ _ t);
+    does = λ s t d agrees. ap (own_task key due period) (same_current a.set b.set d same) ∙ own_absent b.set d key due period (known d agrees) ∙ ap (λ r. (r, current b.set d)) (Some_injective _ _ t);
   }
 
-  module _ {a : Txn S Logged} (kind : ℕ) (arg : List ℕ) (delay period : ℕ) where
-    pub add_many : 65536 ≤ a.log.tasks_made → Does sights refusal_fault a a (act.scheduled kind arg delay period) (Err refusal.TooMany)
-    add_many h = refused_here (Refused 8) refl (λ d. rw (le_true 65536 a.log.tasks_made h) refl)
+  module _ {a : Txn S ReadsAndWrites} (kind : ℕ) (arg : List ℕ) (delay period : ℕ) where
+    pub add_many : 65536 ≤ a.set.tasks_made → Does sights refusal_fault a a (act.scheduled kind arg delay period) (Err refusal.TooMany)
+    add_many h = refused_here (Refused 8) refl (λ d. rw (le_true 65536 a.set.tasks_made h) refl)
 
-    pub add_does : {u : Logged} (key : TaskKey) (task : Scheduled) → a.log.tasks_made < 65536 → task ≡ record { due = a.log.at + delay; period = period; kind = kind; arg = arg }
-        → key ≡ new_key (a.log) → u ≡ scheduling (a.log) task → Does sights refusal_fault a (record { view = a.view; log = u }) (act.scheduled kind arg delay period) (Ok key)
+    pub add_does : {u : ReadsAndWrites} (key : TaskKey) (task : Scheduled) → a.set.tasks_made < 65536 → task ≡ record { due = a.set.at + delay; period = period; kind = kind; arg = arg }
+        → key ≡ new_key (a.set) → u ≡ scheduling (a.set) task → Does sights refusal_fault a (record { view = a.view; set = u }) (act.scheduled kind arg delay period) (Ok key)
     add_does key task few what is e =
-        let made : Logged = record (a.log) { tasks_made = a.log.tasks_made + 1 } in
-        let s : Scheduled = record { due = a.log.at + delay; period = period; kind = kind; arg = arg } in
-        let t : Logged = scheduling (a.log) s in
+        let made : ReadsAndWrites = record (a.set) { tasks_made = a.set.tasks_made + 1 } in
+        let s : Scheduled = record { due = a.set.at + delay; period = period; kind = kind; arg = arg } in
+        let t : ReadsAndWrites = scheduling (a.set) s in
         done_at t _
         (keeps_changed keeps_all t refl refl refl
-        (λ sound. sound_as (record made { tasks = map.insert made.tasks (new_key (a.log)) (Added s) }) t refl refl refl refl refl
-        (sound_task made (new_key (a.log)) (Added s) (sound_as (a.log) made refl refl refl refl refl sound) (λ d agrees new. ap is_some (new.tasks (new_key (a.log)) refl))))
-        (λ q due p m. moves_but made (new_key (a.log)) (Added s) (λ from to e. cc) q due m))
-        refl refl (e ∙ ap (scheduling (a.log)) what)
-        (λ d agrees. rw (le_false 65536 a.log.tasks_made few)
-        (ap (λ r. (Ok (new_key (a.log)), r)) (current_task made (new_key (a.log)) (Added s) d (Some (task_made s)) refl) ∙ ap (λ k. (Ok k, current t d)) (sym is)))
+        (λ sound. sound_as (record made { tasks = map.insert made.tasks (new_key (a.set)) (Added s) }) t refl refl refl refl refl
+        (sound_task made (new_key (a.set)) (Added s) (sound_as (a.set) made refl refl refl refl refl sound) (λ d agrees new. ap is_some (new.tasks (new_key (a.set)) refl))))
+        (λ q due p m. moves_but made (new_key (a.set)) (Added s) (λ from to e. cc) q due m))
+        refl refl (e ∙ ap (scheduling (a.set)) what)
+        (λ d agrees. rw (le_false 65536 a.set.tasks_made few)
+        (ap (λ r. (Ok (new_key (a.set)), r)) (current_task made (new_key (a.set)) (Added s) d (Some (task_made s)) refl) ∙ ap (λ k. (Ok k, current t d)) (sym is)))
 
-  module _ {a : Txn S Logged} (kind : ℕ) (arg : List ℕ) (delay : ℕ) where
+  module _ {a : Txn S ReadsAndWrites} (kind : ℕ) (arg : List ℕ) (delay : ℕ) where
     pub schedule_long : {e : Refusal} → refusal_fault e ≡ Some (Refused 4) → act.is_too_long arg ≡ true → Does sights refusal_fault a a (act.schedule kind arg delay) (Err e)
     unfolding act.schedule
     schedule_long is h = refused_here (Refused 4) is (λ d. rw h refl)
@@ -176,7 +176,7 @@ module _ {S : Type 0} {sights : Sights S} where
     unfolding act.schedule
     schedule_late short h = refused_here (Refused 5) refl (λ d. rw (short, lt_true 1099511627776 delay h) refl)
 
-    pub schedule_does : {b : Txn S Logged} {r : Result TaskKey Refusal} → act.is_too_long arg ≡ false → delay ≤ 1099511627776
+    pub schedule_does : {b : Txn S ReadsAndWrites} {r : Result TaskKey Refusal} → act.is_too_long arg ≡ false → delay ≤ 1099511627776
         → Does sights refusal_fault a b (act.scheduled kind arg delay 0) r → Does sights refusal_fault a b (act.schedule kind arg delay) r
     unfolding act.schedule
     schedule_does short near p = does_as (act.scheduled kind arg delay 0) (λ s. rw (short, lt_false 1099511627776 delay near) refl) p
@@ -190,24 +190,24 @@ module _ {S : Type 0} {sights : Sights S} where
     unfolding act.schedule_periodic
     periodic_bad period short h = refused_here (Refused 5) refl (λ d. rw (short, h) refl)
 
-    pub periodic_does : (period : ℕ) {b : Txn S Logged} {r : Result TaskKey Refusal} → act.is_too_long arg ≡ false → (nat_lt 1099511627776 delay || nat_lt 1099511627776 period || period == 0) ≡ false
+    pub periodic_does : (period : ℕ) {b : Txn S ReadsAndWrites} {r : Result TaskKey Refusal} → act.is_too_long arg ≡ false → (nat_lt 1099511627776 delay || nat_lt 1099511627776 period || period == 0) ≡ false
         → Does sights refusal_fault a b (act.scheduled kind arg delay period) r → Does sights refusal_fault a b (act.schedule_periodic kind arg delay period) r
     unfolding act.schedule_periodic
     periodic_does period short good p = does_as (act.scheduled kind arg delay period) (λ s. rw (short, good) refl) p
 
-  module _ {a : Txn S Logged} (to : ConnNo) (out : Out) where
+  module _ {a : Txn S ReadsAndWrites} (to : ConnNo) (out : Out) where
     pub send_long : {e : Refusal} → refusal_fault e ≡ Some (Refused 4) → 1048576 < length (act.body_of out) → Does sights refusal_fault a a (act.send to out) (Err e)
     unfolding act.send
     send_long is h = refused_here (Refused 4) is (λ d. rw (lt_true 1048576 (length (act.body_of out)) h) refl)
 
-    pub send_many : length (act.body_of out) ≤ 1048576 → 65536 ≤ length a.log.outs → Does sights refusal_fault a a (act.send to out) (Err refusal.TooMany)
+    pub send_many : length (act.body_of out) ≤ 1048576 → 65536 ≤ length a.set.outs → Does sights refusal_fault a a (act.send to out) (Err refusal.TooMany)
     unfolding act.send
-    send_many short h = refused_here (Refused 8) refl (λ d. rw (lt_false 1048576 (length (act.body_of out)) short, le_true 65536 (length a.log.outs) h) refl)
+    send_many short h = refused_here (Refused 8) refl (λ d. rw (lt_false 1048576 (length (act.body_of out)) short, le_true 65536 (length a.set.outs) h) refl)
 
-    pub send_does : {u : Logged} → length (act.body_of out) ≤ 1048576 → length a.log.outs < 65536 → u ≡ sending (a.log) to out
-        → Does sights refusal_fault a (record { view = a.view; log = u }) (act.send to out) (Ok tt)
+    pub send_does : {u : ReadsAndWrites} → length (act.body_of out) ≤ 1048576 → length a.set.outs < 65536 → u ≡ sending (a.set) to out
+        → Does sights refusal_fault a (record { view = a.view; set = u }) (act.send to out) (Ok tt)
     unfolding act.send
     send_does short few e =
-        let t : Logged = sending (a.log) to out in
-        done_at t _ (keeps_changed keeps_all t refl refl refl (λ s. sound_as (a.log) t refl refl refl refl refl s) (λ q due p m. m)) refl refl e
-        (λ d agrees. rw (lt_false 1048576 (length (act.body_of out)) short, le_false 65536 (length a.log.outs) few) refl)
+        let t : ReadsAndWrites = sending (a.set) to out in
+        done_at t _ (keeps_changed keeps_all t refl refl refl (λ s. sound_as (a.set) t refl refl refl refl refl s) (λ q due p m. m)) refl refl e
+        (λ d agrees. rw (lt_false 1048576 (length (act.body_of out)) short, le_false 65536 (length a.set.outs) few) refl)

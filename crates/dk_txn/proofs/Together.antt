@@ -18,7 +18,7 @@ use Rattle.dk_model.specs.Runs.{Run, Act, and_then, carry_on, change_found, unbi
 use Rattle.dk_model.specs.Finishes.{IsNew}
 use Rattle.dk_overlay.specs.declared.change.Change.{Change}
 use Rattle.dk_overlay.specs.Changes.{value_now}
-use Rattle.dk_overlay.specs.Logged.{Logged, changing_object, changing_name, new_id, creating}
+use Rattle.dk_overlay.specs.ReadsAndWrites.{ReadsAndWrites, changing_object, changing_name, new_id, creating}
 use Rattle.dk_overlay.proofs.Keys.{ids_total, ids_same}
 use Rattle.dk_overlay.proofs.Tests.{Some_injective}
 use Rattle.dk_txn.specs.Current.{current}
@@ -40,11 +40,11 @@ use Rattle.dk_txn.proofs.ObjectCalls.{done_at, current_changed, le_false, forgot
 use Rattle.dk_txn.proofs.NameCalls.{current_named, there_found}
 
 -- what stands, still stands after more reads
-pub stands_later : {S : Type 0} {sights : Sights S} {a b : Txn S Logged} (id : ObjectId) → Keeps sights a b → SameChanges a.log b.log → Stands a.log id → Stands b.log id
-stands_later {a = a} {b = b} id k same stands d agrees = ap (λ (s : Run). is_some (map.get s.world.objects id)) (sym (same_current a.log b.log d same)) ∙ stands d (agreed k d agrees)
+pub stands_later : {S : Type 0} {sights : Sights S} {a b : Txn S ReadsAndWrites} (id : ObjectId) → Keeps sights a b → SameChanges a.set b.set → Stands a.set id → Stands b.set id
+stands_later {a = a} {b = b} id k same stands d agrees = ap (λ (s : Run). is_some (map.get s.world.objects id)) (sym (same_current a.set b.set d same)) ∙ stands d (agreed k d agrees)
 
 -- what stands is not refused to the platform
-pub never_refused : (t : Logged) (id : ObjectId) (e : Refusal) → Stands t id → t.mode ≡ Platform → RefusesChange t id e → (fault : AppFault) → refusal_fault e ≡ Some fault → (d : DurableWorld) → Agrees d t.reads → ⊥
+pub never_refused : (t : ReadsAndWrites) (id : ObjectId) (e : Refusal) → Stands t id → t.mode ≡ Platform → RefusesChange t id e → (fault : AppFault) → refusal_fault e ≡ Some fault → (d : DurableWorld) → Agrees d t.reads → ⊥
 never_refused t id e stands mode refuses fault is d agrees = by (map.get (current t d).world.objects id) (stands d agrees) (refuses fault is (λ object. None) d agrees)
   where
     by : (o : Option Object) → is_some o ≡ true → change_found o id (λ object. None) (current t d) ≡ (Err fault, current t d) → ⊥
@@ -54,19 +54,19 @@ never_refused t id e stands mode refuses fault is d agrees = by (map.get (curren
         let told : ◌≡◌ {A = Result (Unit {0}) AppFault} (Ok tt) (Err fault) = ap (λ q. q.0) (rw free at h) in absurd cc
 
 -- a refusal that no agreeing world can bring
-pub never_comes : {S E A : Type 0} {sights : Sights S} {told : E → Option AppFault} {a b : Txn S Logged} {e : E} {f : Act A} → Keeps sights a b
-    → ((fault : AppFault) → told e ≡ Some fault → (d : DurableWorld) → Agrees d b.log.reads → ⊥) → Does sights told a b f (Err e)
+pub never_comes : {S E A : Type 0} {sights : Sights S} {told : E → Option AppFault} {a b : Txn S ReadsAndWrites} {e : E} {f : Act A} → Keeps sights a b
+    → ((fault : AppFault) → told e ≡ Some fault → (d : DurableWorld) → Agrees d b.set.reads → ⊥) → Does sights told a b f (Err e)
 never_comes {A = A} {told = told} {a = a} {b = b} {e = e} {f = f} k never = record { keeps = k; does = by (told e) refl }
   where
-    by : (o : Option AppFault) → told e ≡ o → (s : Result A AppFault) → failure o ≡ Some s → (d : DurableWorld) → Agrees d b.log.reads → f (current a.log d) ≡ (s, current b.log d)
+    by : (o : Option AppFault) → told e ≡ o → (s : Result A AppFault) → failure o ≡ Some s → (d : DurableWorld) → Agrees d b.set.reads → f (current a.set d) ≡ (s, current b.set d)
     by None is s t = cc
     by (Some fault) is s t = λ d agrees. absurd (never fault is d agrees)
 
 -- there was no memory, and only reads were added
-pub starves : {S A : Type 0} {sights : Sights S} {a b : Txn S Logged} {f : Act A} {u : Logged} {r : Result A Refusal} → Keeps sights a b → u ≡ b.log → IsErrAnd r (λ h. h ≡ refusal.NoMemory)
-    → Does sights refusal_fault a (record { view = b.view; log = u }) f r
+pub starves : {S A : Type 0} {sights : Sights S} {a b : Txn S ReadsAndWrites} {f : Act A} {u : ReadsAndWrites} {r : Result A Refusal} → Keeps sights a b → u ≡ b.set → IsErrAnd r (λ h. h ≡ refusal.NoMemory)
+    → Does sights refusal_fault a (record { view = b.view; set = u }) f r
 starves {sights = sights} {a = a} {b = b} {f = f} {r = Err h} k e is =
-    subst (λ (l : Logged). Does sights refusal_fault a (record { view = b.view; log = l }) f (Err h)) (sym e) (subst (λ (x : Refusal). Does sights refusal_fault a b f (Err x)) (sym is) (forgotten k))
+    subst (λ (l : ReadsAndWrites). Does sights refusal_fault a (record { view = b.view; set = l }) f (Err h)) (sym e) (subst (λ (x : Refusal). Does sights refusal_fault a b f (Err x)) (sym is) (forgotten k))
 starves {r = Ok x} k e is = absurd is
 
 -- two steps that are answered
@@ -74,13 +74,13 @@ two_steps : {A B : Type 0} (f : Act A) (g : A → Act B) (x : A) (y : B) (s u v 
 unfolding and_then
 two_steps f g x y s u v first second = ap (λ q. carry_on q.0 g q.1) first ∙ second
 
-module _ (t : Logged) (d : DurableWorld) where
+module _ (t : ReadsAndWrites) (d : DurableWorld) where
   -- an object is made
   created_at : (kind : ℕ) (bytes : List ℕ) → act.is_reserved_kind t.mode kind ≡ false → act.is_too_long bytes ≡ false → t.objects_made < 65536
       → act.create kind bytes (current t d) ≡ (Ok (new_id t), current (creating t (record { kind = kind; bytes = bytes })) d)
   unfolding act.create
   created_at kind bytes free short few =
-      let numbered : Logged = record t { objects_made = t.objects_made + 1 } in
+      let numbered : ReadsAndWrites = record t { objects_made = t.objects_made + 1 } in
       rw (free, short, le_false 65536 t.objects_made few) (ap (λ s. (Ok (new_id t), s)) (current_changed numbered (new_id t) (record { before = None; after = Some (record { kind = kind; bytes = bytes }) }) d))
 
   -- a name is bound, or unbound where it is bound
@@ -107,7 +107,7 @@ module _ (t : Logged) (d : DurableWorld) where
         ∙ rw free (ap (λ s. (Ok tt, s)) (current_changed t id (record { before = before; after = Some (record { kind = object.kind; bytes = bytes }) }) d)))
 
 -- after one object was saved, each that stood stands with its kind
-still_there : (t : Logged) (id q : ObjectId) (bytes : List ℕ) (before : Option Object) (object other : Object) (d : DurableWorld) → map.get (layered value_now t.objects d.objects) id ≡ Some object → map.get (layered value_now t.objects d.objects) q ≡ Some other
+still_there : (t : ReadsAndWrites) (id q : ObjectId) (bytes : List ℕ) (before : Option Object) (object other : Object) (d : DurableWorld) → map.get (layered value_now t.objects d.objects) id ≡ Some object → map.get (layered value_now t.objects d.objects) q ≡ Some other
     → (now : Object) × (map.get (layered value_now (map.insert t.objects id (record { before = before; after = Some (record { kind = object.kind; bytes = bytes }) })) d.objects) q ≡ Some now) × (now.kind ≡ other.kind)
 still_there t id q bytes before object other d there stood =
     let change : Change Object = record { before = before; after = Some (record { kind = object.kind; bytes = bytes }) } in
@@ -129,8 +129,8 @@ with_bytes_is : (c : Change Object) (object : Object) (bytes : List ℕ) → c.a
 with_bytes_is c object bytes is = ap (λ o. with_bytes (record { before = c.before; after = o }) bytes) is
 
 -- what changes that were made together keep, with the view as it was
-keeps_so : {S : Type 0} {sights : Sights S} {a b : Txn S Logged} → Keeps sights a b → (t : Logged) → t.reads ≡ b.log.reads → t.run ≡ b.log.run → t.at ≡ b.log.at → t.tasks ≡ b.log.tasks → (IsSound a.log → IsSound t)
-    → Keeps sights a (record { view = b.view; log = t })
+keeps_so : {S : Type 0} {sights : Sights S} {a b : Txn S ReadsAndWrites} → Keeps sights a b → (t : ReadsAndWrites) → t.reads ≡ b.set.reads → t.run ≡ b.set.run → t.at ≡ b.set.at → t.tasks ≡ b.set.tasks → (IsSound a.set → IsSound t)
+    → Keeps sights a (record { view = b.view; set = t })
 keeps_so {sights = sights} {b = b} k t reads run at tasks sound = record {
   same_view = k.same_view;
   reads_stay = (k.reads_stay.0, reads ∙ k.reads_stay.1);
@@ -145,73 +145,73 @@ keeps_so {sights = sights} {b = b} k t reads run at tasks sound = record {
 
 module _ {S : Type 0} {sights : Sights S} where
   -- an object was made and a name bound to it
-  pub bound_new : {a b : Txn S Logged} {name : List ℕ} {c : Change ObjectId} {u : Logged} (kind : ℕ) (bytes : List ℕ) → a.log.mode ≡ Platform → act.is_too_long bytes ≡ false → a.log.objects_made < 65536
-      → Keeps sights a b → SameChanges a.log b.log → KnownName b.log name c
-      → u ≡ changing_name (creating b.log (record { kind = kind; bytes = bytes })) name (record { before = c.before; after = Some (new_id b.log) })
-      → Does sights refusal_fault a (record { view = b.view; log = u }) (and_then (act.create kind bytes) (λ id. act.bind name id)) (Ok tt)
+  pub bound_new : {a b : Txn S ReadsAndWrites} {name : List ℕ} {c : Change ObjectId} {u : ReadsAndWrites} (kind : ℕ) (bytes : List ℕ) → a.set.mode ≡ Platform → act.is_too_long bytes ≡ false → a.set.objects_made < 65536
+      → Keeps sights a b → SameChanges a.set b.set → KnownName b.set name c
+      → u ≡ changing_name (creating b.set (record { kind = kind; bytes = bytes })) name (record { before = c.before; after = Some (new_id b.set) })
+      → Does sights refusal_fault a (record { view = b.view; set = u }) (and_then (act.create kind bytes) (λ id. act.bind name id)) (Ok tt)
   bound_new {a = a} {b = b} {name = name} {c = c} kind bytes mode short few k same known e =
       let object : Object = record { kind = kind; bytes = bytes } in
-      let numbered : Logged = record (b.log) { objects_made = b.log.objects_made + 1 } in
+      let numbered : ReadsAndWrites = record (b.set) { objects_made = b.set.objects_made + 1 } in
       let made : Change Object = record { before = None; after = Some object } in
-      let t : Logged = changing_name (creating b.log object) name (record { before = c.before; after = Some (new_id b.log) }) in
-      let mode_now : b.log.mode ≡ Platform = ap (λ (l : Logged). l.mode) same ∙ mode in
-      let few_now : b.log.objects_made < 65536 = subst (λ n. n < 65536) (sym (ap (λ (l : Logged). l.objects_made) same)) few in
-      let sound : IsSound a.log → IsSound t =
+      let t : ReadsAndWrites = changing_name (creating b.set object) name (record { before = c.before; after = Some (new_id b.set) }) in
+      let mode_now : b.set.mode ≡ Platform = ap (λ (l : ReadsAndWrites). l.mode) same ∙ mode in
+      let few_now : b.set.objects_made < 65536 = subst (λ n. n < 65536) (sym (ap (λ (l : ReadsAndWrites). l.objects_made) same)) few in
+      let sound : IsSound a.set → IsSound t =
       λ s. let own = k.sound s in
-      sound_name (creating b.log object) name (record { before = c.before; after = Some (new_id b.log) })
-      (sound_object numbered (new_id b.log) made (sound_as b.log numbered refl refl refl refl refl own) (λ d agrees new. sym (new.objects (new_id b.log) refl))) (λ d agrees new. known.before own d agrees new) in
+      sound_name (creating b.set object) name (record { before = c.before; after = Some (new_id b.set) })
+      (sound_object numbered (new_id b.set) made (sound_as b.set numbered refl refl refl refl refl own) (λ d agrees new. sym (new.objects (new_id b.set) refl))) (λ d agrees new. known.before own d agrees new) in
       done_at t _ (keeps_so k t refl refl refl refl sound) same refl e (λ d agrees.
-      two_steps (act.create kind bytes) (λ id. act.bind name id) (new_id b.log) tt (current b.log d) (current (creating b.log object) d) (current t d)
-      (created_at b.log d kind bytes (ap (λ m. act.is_reserved_kind m kind) mode_now) short few_now)
-      (bound_at (creating b.log object) d name c.before (new_id b.log) (ap (λ m. act.is_reserved_name m name) mode_now)))
+      two_steps (act.create kind bytes) (λ id. act.bind name id) (new_id b.set) tt (current b.set d) (current (creating b.set object) d) (current t d)
+      (created_at b.set d kind bytes (ap (λ m. act.is_reserved_kind m kind) mode_now) short few_now)
+      (bound_at (creating b.set object) d name c.before (new_id b.set) (ap (λ m. act.is_reserved_name m name) mode_now)))
 
-  module _ {a b c : Txn S Logged} (k : Keeps sights a b) (l : Keeps sights b c) (same : SameChanges a.log b.log) (again : SameChanges b.log c.log) where
-    still_same : SameChanges a.log c.log
-    still_same = again ∙ ap (λ (t : Logged). record t { reads = c.log.reads }) same
+  module _ {a b c : Txn S ReadsAndWrites} (k : Keeps sights a b) (l : Keeps sights b c) (same : SameChanges a.set b.set) (again : SameChanges b.set c.set) where
+    still_same : SameChanges a.set c.set
+    still_same = again ∙ ap (λ (t : ReadsAndWrites). record t { reads = c.set.reads }) same
 
     -- a name was unbound and an object removed
-    pub both_gone : {name : List ℕ} {id : ObjectId} {n : Change ObjectId} {o : Change Object} {u : Logged} → a.log.mode ≡ Platform → KnownName b.log name n → is_some n.after ≡ true → CanChange c.log id o
-        → u ≡ changing_object (changing_name c.log name (record { before = n.before; after = None })) id (record { before = o.before; after = None })
-        → Does sights refusal_fault a (record { view = c.view; log = u }) (and_then (act.unbind name) (λ _. act.remove id)) (Ok tt)
+    pub both_gone : {name : List ℕ} {id : ObjectId} {n : Change ObjectId} {o : Change Object} {u : ReadsAndWrites} → a.set.mode ≡ Platform → KnownName b.set name n → is_some n.after ≡ true → CanChange c.set id o
+        → u ≡ changing_object (changing_name c.set name (record { before = n.before; after = None })) id (record { before = o.before; after = None })
+        → Does sights refusal_fault a (record { view = c.view; set = u }) (and_then (act.unbind name) (λ _. act.remove id)) (Ok tt)
     both_gone {name = name} {id = id} {n = n} {o = o} mode known there can e =
         let unbound : Change ObjectId = record { before = n.before; after = None } in
         let removed : Change Object = record { before = o.before; after = None } in
-        let mid : Logged = changing_name c.log name unbound in
-        let t : Logged = changing_object mid id removed in
-        let mode_now : c.log.mode ≡ Platform = ap (λ (t : Logged). t.mode) still_same ∙ mode in
-        let sound : IsSound a.log → IsSound t =
+        let mid : ReadsAndWrites = changing_name c.set name unbound in
+        let t : ReadsAndWrites = changing_object mid id removed in
+        let mode_now : c.set.mode ≡ Platform = ap (λ (t : ReadsAndWrites). t.mode) still_same ∙ mode in
+        let sound : IsSound a.set → IsSound t =
         λ s. let own = k.sound s in
-        sound_object mid id removed (sound_name c.log name unbound (l.sound own) (λ d agrees new. known.before own d (agreed l d agrees) (subst (IsNew d) l.same_run new))) (λ d agrees new. can.known.before (l.sound own) d agrees new) in
+        sound_object mid id removed (sound_name c.set name unbound (l.sound own) (λ d agrees new. known.before own d (agreed l d agrees) (subst (IsNew d) l.same_run new))) (λ d agrees new. can.known.before (l.sound own) d agrees new) in
         done_at t _ (keeps_so (keeps_then k l) t refl refl refl refl sound) still_same refl e (λ d agrees.
-        two_steps (act.unbind name) (λ _. act.remove id) tt tt (current c.log d) (current mid d) (current t d)
-        (unbound_at c.log d name n.before n.after (ap (λ (t : Logged). map.get (layered value_now t.names d.names) name) again ∙ known.after d (agreed l d agrees)) there (ap (λ m. act.is_reserved_name m name) mode_now))
+        two_steps (act.unbind name) (λ _. act.remove id) tt tt (current c.set d) (current mid d) (current t d)
+        (unbound_at c.set d name n.before n.after (ap (λ (t : ReadsAndWrites). map.get (layered value_now t.names d.names) name) again ∙ known.after d (agreed l d agrees)) there (ap (λ m. act.is_reserved_name m name) mode_now))
         (removed_at mid d id o.before can.there.0 (can.known.after d agrees ∙ can.there.1) can.there.2))
 
     -- two objects were saved
-    pub both_saved : {first second : ObjectId} {f s : Change Object} {u : Logged} (payload behind : List ℕ) → act.is_too_long payload ≡ false → act.is_too_long behind ≡ false → CanChange b.log first f → CanChange c.log second s
-        → u ≡ changing_object (changing_object c.log first (with_bytes f payload)) second (with_bytes s behind)
-        → Does sights refusal_fault a (record { view = c.view; log = u }) (and_then (act.save first payload) (λ _. act.save second behind)) (Ok tt)
+    pub both_saved : {first second : ObjectId} {f s : Change Object} {u : ReadsAndWrites} (payload behind : List ℕ) → act.is_too_long payload ≡ false → act.is_too_long behind ≡ false → CanChange b.set first f → CanChange c.set second s
+        → u ≡ changing_object (changing_object c.set first (with_bytes f payload)) second (with_bytes s behind)
+        → Does sights refusal_fault a (record { view = c.view; set = u }) (and_then (act.save first payload) (λ _. act.save second behind)) (Ok tt)
     both_saved {first = first} {second = second} {f = f} {s = s} payload behind short next_short can next e =
         let one : Change Object = record { before = f.before; after = Some (record { kind = can.there.0.kind; bytes = payload }) } in
         let two : Change Object = record { before = s.before; after = Some (record { kind = next.there.0.kind; bytes = behind }) } in
-        let mid : Logged = changing_object c.log first one in
-        let t : Logged = changing_object mid second two in
+        let mid : ReadsAndWrites = changing_object c.set first one in
+        let t : ReadsAndWrites = changing_object mid second two in
         let is : with_bytes f payload ≡ one = with_bytes_is f can.there.0 payload can.there.1 in
         let next_is : with_bytes s behind ≡ two = with_bytes_is s next.there.0 behind next.there.1 in
-        let sound : IsSound a.log → IsSound t =
+        let sound : IsSound a.set → IsSound t =
         λ h. let own = k.sound h in
-        sound_object mid second two (sound_object c.log first one (l.sound own) (λ d agrees new. can.known.before own d (agreed l d agrees) (subst (IsNew d) l.same_run new))) (λ d agrees new. next.known.before (l.sound own) d agrees new) in
-        done_at t _ (keeps_so (keeps_then k l) t refl refl refl refl sound) still_same refl (e ∙ (λ i. changing_object (changing_object c.log first (is i)) second (next_is i))) (λ d agrees.
-        let there = ap (λ (t : Logged). map.get (layered value_now t.objects d.objects) first) again ∙ can.known.after d (agreed l d agrees) ∙ can.there.1 in
-        let now = still_there c.log first second payload f.before can.there.0 next.there.0 d there (next.known.after d agrees ∙ next.there.1) in
-        two_steps (act.save first payload) (λ _. act.save second behind) tt tt (current c.log d) (current mid d) (current t d)
-        (saved_at c.log d first f.before can.there.0 there (ap (λ (t : Logged). act.is_reserved_kind t.mode can.there.0.kind) again ∙ can.there.2) payload short)
-        (saved_at mid d second s.before now.0 now.1 (ap (λ n. act.is_reserved_kind c.log.mode n) now.2 ∙ next.there.2) behind next_short
+        sound_object mid second two (sound_object c.set first one (l.sound own) (λ d agrees new. can.known.before own d (agreed l d agrees) (subst (IsNew d) l.same_run new))) (λ d agrees new. next.known.before (l.sound own) d agrees new) in
+        done_at t _ (keeps_so (keeps_then k l) t refl refl refl refl sound) still_same refl (e ∙ (λ i. changing_object (changing_object c.set first (is i)) second (next_is i))) (λ d agrees.
+        let there = ap (λ (t : ReadsAndWrites). map.get (layered value_now t.objects d.objects) first) again ∙ can.known.after d (agreed l d agrees) ∙ can.there.1 in
+        let now = still_there c.set first second payload f.before can.there.0 next.there.0 d there (next.known.after d agrees ∙ next.there.1) in
+        two_steps (act.save first payload) (λ _. act.save second behind) tt tt (current c.set d) (current mid d) (current t d)
+        (saved_at c.set d first f.before can.there.0 there (ap (λ (t : ReadsAndWrites). act.is_reserved_kind t.mode can.there.0.kind) again ∙ can.there.2) payload short)
+        (saved_at mid d second s.before now.0 now.1 (ap (λ n. act.is_reserved_kind c.set.mode n) now.2 ∙ next.there.2) behind next_short
         ∙ ap (λ n. (Ok tt, current (changing_object mid second (record { before = s.before; after = Some (record { kind = n; bytes = behind }) })) d)) now.2))
 
   -- all these messages were sent
-  pub all_sent : {a : Txn S Logged} {u : Logged} (messages : List (ConnNo × Out)) → u ≡ record (a.log) { outs = a.log.outs ++ messages } → Does sights refusal_fault a (record { view = a.view; log = u }) (send_all messages) (Ok tt)
+  pub all_sent : {a : Txn S ReadsAndWrites} {u : ReadsAndWrites} (messages : List (ConnNo × Out)) → u ≡ record (a.set) { outs = a.set.outs ++ messages } → Does sights refusal_fault a (record { view = a.view; set = u }) (send_all messages) (Ok tt)
   unfolding send_all
   all_sent {a = a} messages e =
-      let t : Logged = record (a.log) { outs = a.log.outs ++ messages } in
-      done_at t _ (keeps_so keeps_all t refl refl refl refl (λ s. sound_as a.log t refl refl refl refl refl s)) refl refl e (λ d agrees. refl)
+      let t : ReadsAndWrites = record (a.set) { outs = a.set.outs ++ messages } in
+      done_at t _ (keeps_so keeps_all t refl refl refl refl (λ s. sound_as a.set t refl refl refl refl refl s)) refl refl e (λ d agrees. refl)

@@ -5,11 +5,11 @@ use Rattle.dk_model.specs.DurableWorlds.{DurableWorld, last_with}
 use Rattle.dk_model.specs.Runs.{Run}
 use Rattle.dk_model.specs.Steps.{next_due}
 use Rattle.dk_overlay.specs.Changes.{value_now, task_now}
-use Rattle.dk_overlay.specs.Logged.{Logged, removing_task, moving_task}
+use Rattle.dk_overlay.specs.ReadsAndWrites.{ReadsAndWrites, removing_task, moving_task}
 use Rattle.dk_txn.specs.Layers.{layered}
 
 -- the run in its midst that the log comes to, where the world before it is d
-abbrev pub current : Logged → DurableWorld → Run
+abbrev pub current : ReadsAndWrites → DurableWorld → Run
 current t d = record {
   world = record {
     objects = layered value_now t.objects d.objects;
@@ -28,5 +28,5 @@ current t d = record {
 }
 
 -- what a run does to its own task, where that is pending: a once-task is taken away, and a periodic one gets its next due moment
-abbrev pub passing_own : Logged → TaskKey → ℕ → ℕ → Logged
+abbrev pub passing_own : ReadsAndWrites → TaskKey → ℕ → ℕ → ReadsAndWrites
 passing_own t key due period = if period == 0 then removing_task t key else moving_task t key due (next_due due period t.at)

@@ -15,7 +15,7 @@ use Rattle.dk_overlay.specs.declared.change.Change.{Change}
 use Rattle.dk_overlay.specs.Changes.{value_now, task_now}
 use Rattle.dk_txn.specs.Layers.{layered}
 use Rattle.dk_overlay.specs.Least.{passes, Least}
-use Rattle.dk_overlay.specs.Logged.{Logged}
+use Rattle.dk_overlay.specs.ReadsAndWrites.{ReadsAndWrites}
 use Rattle.dk_txn.specs.Current.{current}
 use Rattle.dk_model.specs.Finishes.{IsNew}
 use Rattle.dk_txn.specs.Knowing.{IsSound, MovesAlone}
@@ -26,25 +26,25 @@ use Rattle.dk_txn.specs.Sights.{Sights}
 use Rattle.dk_txn.specs.Asks.{AsksAny}
 
 -- only reads were added
-abbrev pub SameChanges : Logged → Logged → Type 0
+abbrev pub SameChanges : ReadsAndWrites → ReadsAndWrites → Type 0
 SameChanges a b = b ≡ record a { reads = b.reads }
 
 -- each read was given by the view
-pub record AllGiven {S : Type 0} (sights : Sights S) (t : Txn S Logged) : Type 0 where
-  pub given : AllByRecursion (λ r. sights.gave t.view.now r.0 r.1) t.log.reads
+pub record AllGiven {S : Type 0} (sights : Sights S) (t : Txn S ReadsAndWrites) : Type 0 where
+  pub given : AllByRecursion (λ r. sights.gave t.view.now r.0 r.1) t.set.reads
 
 -- what a call keeps, however it ends: the view is the same, or what it becomes as it is asked, for no item that was read by then; reads were only
 -- added, each of them given by the view; the changes know what was there before, and no task was moved but those for which P holds, of its key and its due moment
-pub record KeepsFor (P : TaskKey → ℕ → Type 0) {S : Type 0} (sights : Sights S) (a b : Txn S Logged) : Type 0 where
+pub record KeepsFor (P : TaskKey → ℕ → Type 0) {S : Type 0} (sights : Sights S) (a b : Txn S ReadsAndWrites) : Type 0 where
   pub same_view : b.view.ghost_name ≡ a.view.ghost_name
-  pub reads_stay : (more : List (Item × Read)) × (b.log.reads ≡ a.log.reads ++ more)
+  pub reads_stay : (more : List (Item × Read)) × (b.set.reads ≡ a.set.reads ++ more)
   pub becomes : sights.becomes a.view.now b.view.now
   pub asks : AsksAny sights a b
   pub given : AllGiven sights a → AllGiven sights b
-  pub same_run : b.log.run ≡ a.log.run
-  pub same_at : b.log.at ≡ a.log.at
-  pub sound : IsSound a.log → IsSound b.log
-  pub moves : (key : TaskKey) (due : ℕ) → P key due → MovesAlone key due a.log → MovesAlone key due b.log
+  pub same_run : b.set.run ≡ a.set.run
+  pub same_at : b.set.at ≡ a.set.at
+  pub sound : IsSound a.set → IsSound b.set
+  pub moves : (key : TaskKey) (due : ℕ) → P key due → MovesAlone key due a.set → MovesAlone key due b.set
 
 -- the outcome of a fault, if there is one
 abbrev pub failure : {A : Type 0} → Option AppFault → Option (Result A AppFault)
@@ -52,19 +52,19 @@ failure None = None
 failure (Some fault) = Some (Err fault)
 
 -- the outcome that a result tells: none, where memory was refused
-abbrev pub outcome_told : {E A : Type 0} → (E → Option AppFault) → Result A E → Option (Result A AppFault)
-outcome_told told (Ok x) = Some (Ok x)
-outcome_told told (Err e) = failure (told e)
+abbrev pub outcome_of_result : {E A : Type 0} → (E → Option AppFault) → Result A E → Option (Result A AppFault)
+outcome_of_result told (Ok x) = Some (Ok x)
+outcome_of_result told (Err e) = failure (told e)
 
 -- in every agreeing world, the call does f and answers as f does; `told` says which fault an error tells
-pub record DoesFor (P : TaskKey → ℕ → Type 0) {S E A : Type 0} (sights : Sights S) (told : E → Option AppFault) (a b : Txn S Logged) (f : Act A) (r : Result A E) : Type 0 where
+pub record DoesFor (P : TaskKey → ℕ → Type 0) {S E A : Type 0} (sights : Sights S) (told : E → Option AppFault) (a b : Txn S ReadsAndWrites) (f : Act A) (r : Result A E) : Type 0 where
   pub keeps : KeepsFor P sights a b
-  pub does : (s : Result A AppFault) → outcome_told told r ≡ Some s → (d : DurableWorld) → Agrees d b.log.reads → f (current a.log d) ≡ (s, current b.log d)
+  pub does : (s : Result A AppFault) → outcome_of_result told r ≡ Some s → (d : DurableWorld) → Agrees d b.set.reads → f (current a.set d) ≡ (s, current b.set d)
 
 -- in every agreeing world, what was left to do at first is what is left to do now
-pub record LeadsFor (P : TaskKey → ℕ → Type 0) {S C : Type 0} (sights : Sights S) (a b : Txn S Logged) (f g : Act C) : Type 0 where
+pub record LeadsFor (P : TaskKey → ℕ → Type 0) {S C : Type 0} (sights : Sights S) (a b : Txn S ReadsAndWrites) (f g : Act C) : Type 0 where
   pub keeps : KeepsFor P sights a b
-  pub leads : (d : DurableWorld) → Agrees d b.log.reads → f (current a.log d) ≡ g (current b.log d)
+  pub leads : (d : DurableWorld) → Agrees d b.set.reads → f (current a.set d) ≡ g (current b.set d)
 
 -- no task is moved
 abbrev pub Every : TaskKey → ℕ → Type 0
@@ -75,48 +75,48 @@ abbrev pub Only : TaskKey → ℕ → TaskKey → ℕ → Type 0
 Only key due k from = (k ≡ key) × (from ≡ due)
 
 -- what a call keeps that moves no task
-abbrev pub Keeps : {S : Type 0} → Sights S → Txn S Logged → Txn S Logged → Type 0
+abbrev pub Keeps : {S : Type 0} → Sights S → Txn S ReadsAndWrites → Txn S ReadsAndWrites → Type 0
 Keeps = KeepsFor Every
 
 -- the call does f, and moves no task
-abbrev pub Does : {S E A : Type 0} → Sights S → (E → Option AppFault) → Txn S Logged → Txn S Logged → Act A → Result A E → Type 0
+abbrev pub Does : {S E A : Type 0} → Sights S → (E → Option AppFault) → Txn S ReadsAndWrites → Txn S ReadsAndWrites → Act A → Result A E → Type 0
 Does = DoesFor Every
 
 -- what was left to do at first is what is left to do now, and no task was moved
-abbrev pub Leads : {S C : Type 0} → Sights S → Txn S Logged → Txn S Logged → Act C → Act C → Type 0
+abbrev pub Leads : {S C : Type 0} → Sights S → Txn S ReadsAndWrites → Txn S ReadsAndWrites → Act C → Act C → Type 0
 Leads = LeadsFor Every
 
 -- c is what an object was and is
-pub record KnownObject (t : Logged) (id : ObjectId) (c : Change Object) : Type 0 where
+pub record KnownObject (t : ReadsAndWrites) (id : ObjectId) (c : Change Object) : Type 0 where
   pub after : (d : DurableWorld) → Agrees d t.reads → map.get (layered value_now t.objects d.objects) id ≡ c.after
   pub before : IsSound t → (d : DurableWorld) → Agrees d t.reads → IsNew d t.run → c.before ≡ map.get d.objects id
 
 -- in each agreeing world there is an object under the id
-abbrev pub Stands : Logged → ObjectId → Type 0
+abbrev pub Stands : ReadsAndWrites → ObjectId → Type 0
 Stands t id = (d : DurableWorld) → Agrees d t.reads → is_some (map.get (current t d).world.objects id) ≡ true
 
 -- c is that of an object that stands and may be touched
-pub record CanChange (t : Logged) (id : ObjectId) (c : Change Object) : Type 0 where
+pub record CanChange (t : ReadsAndWrites) (id : ObjectId) (c : Change Object) : Type 0 where
   pub known : KnownObject t id c
   pub there : (object : Object) × (c.after ≡ Some object) × (is_reserved_kind t.mode object.kind ≡ false)
 
 -- any change of the object is refused so
-abbrev pub RefusesChange : Logged → ObjectId → Refusal → Type 0
+abbrev pub RefusesChange : ReadsAndWrites → ObjectId → Refusal → Type 0
 RefusesChange t id e = (fault : AppFault) → refusal_fault e ≡ Some fault → (change : Object → Option Object) (d : DurableWorld) → Agrees d t.reads → change_object id change (current t d) ≡ (Err fault, current t d)
 
 -- c is what a name was bound to and is
-pub record KnownName (t : Logged) (name : List ℕ) (c : Change ObjectId) : Type 0 where
+pub record KnownName (t : ReadsAndWrites) (name : List ℕ) (c : Change ObjectId) : Type 0 where
   pub after : (d : DurableWorld) → Agrees d t.reads → map.get (layered value_now t.names d.names) name ≡ c.after
   pub before : IsSound t → (d : DurableWorld) → Agrees d t.reads → IsNew d t.run → c.before ≡ map.get d.names name
 
 -- b says whether a task is pending
-abbrev pub KnownTask : Logged → TaskKey → Bool → Type 0
+abbrev pub KnownTask : ReadsAndWrites → TaskKey → Bool → Type 0
 KnownTask t key b = (d : DurableWorld) → Agrees d t.reads → is_some (map.get (layered task_now t.tasks d.tasks) key) ≡ b
 
 -- whether a name above the given one stands in d and was not changed
-abbrev pub is_standing : Logged → DurableWorld → Option (List ℕ) → List ℕ → Bool
+abbrev pub is_standing : ReadsAndWrites → DurableWorld → Option (List ℕ) → List ℕ → Bool
 is_standing t d after q = passes (is_above after) (λ _. true) q (map.get d.names q) && not (is_some (map.get t.names q))
 
 -- r is the least such name
-pub record NextStanding (t : Logged) (after : Option (List ℕ)) (r : Option (List ℕ)) : Type 0 where
+pub record NextStanding (t : ReadsAndWrites) (after : Option (List ℕ)) (r : Option (List ℕ)) : Type 0 where
   pub least : (d : DurableWorld) → Agrees d t.reads → Least bytes_cmp (is_standing t d after) r

@@ -15,28 +15,28 @@ use Rattle.dk_overlay.specs.declared.change.TaskChange.{TaskChange}
 use Rattle.dk_overlay.specs.declared.change.TaskChange.TheVariants.{Moved}
 use Rattle.dk_overlay.specs.Changes.{stood}
 use Rattle.dk_overlay.specs.Asked.{IsAsked}
-use Rattle.dk_overlay.specs.Logged.{Logged}
+use Rattle.dk_overlay.specs.ReadsAndWrites.{ReadsAndWrites}
 
 -- each change knows what d had before
-pub record KnowsBefore (t : Logged) (d : DurableWorld) : Type 0 where
+pub record KnowsBefore (t : ReadsAndWrites) (d : DurableWorld) : Type 0 where
   pub objects : (id : ObjectId) (c : Change Object) → map.get t.objects id ≡ Some c → c.before ≡ map.get d.objects id
   pub names : (name : List ℕ) (c : Change ObjectId) → map.get t.names name ≡ Some c → c.before ≡ map.get d.names name
   pub tasks : (key : TaskKey) (c : TaskChange) → map.get t.tasks key ≡ Some c → is_some (map.get d.tasks key) ≡ stood c
 
 -- it knows that of every world in which its run may be
-pub record IsSound (t : Logged) : Type 0 where
+pub record IsSound (t : ReadsAndWrites) : Type 0 where
   pub knows : (d : DurableWorld) → Agrees d t.reads → IsNew d t.run → KnowsBefore t d
 
 -- each task that was moved stands in d with the due moment that it was moved from
-abbrev pub MovesStand : Logged → DurableWorld → Type 0
+abbrev pub MovesStand : ReadsAndWrites → DurableWorld → Type 0
 MovesStand t d = (key : TaskKey) (from to : ℕ) → map.get t.tasks key ≡ Some (Moved from to) → (task : Task) → map.get d.tasks key ≡ Some task → task.due ≡ from
 
 -- no task was moved but this one, from this due moment
-abbrev pub MovesAlone : TaskKey → ℕ → Logged → Type 0
+abbrev pub MovesAlone : TaskKey → ℕ → ReadsAndWrites → Type 0
 MovesAlone key due t = (k : TaskKey) (from to : ℕ) → map.get t.tasks k ≡ Some (Moved from to) → (k ≡ key) × (from ≡ due)
 
 -- no task was moved but the job's own
-abbrev pub MovesOwn : Job → Logged → Type 0
+abbrev pub MovesOwn : Job → ReadsAndWrites → Type 0
 MovesOwn (job.Task key due period kind arg) t = MovesAlone key due t
 MovesOwn job.Initialize t = (k : TaskKey) (from to : ℕ) → map.get t.tasks k ≡ Some (Moved from to) → ⊥
 MovesOwn (job.Login conn name) t = (k : TaskKey) (from to : ℕ) → map.get t.tasks k ≡ Some (Moved from to) → ⊥
@@ -45,7 +45,7 @@ MovesOwn (job.Channel conn name channel body) t = (k : TaskKey) (from to : ℕ) 
 MovesOwn (job.Disconnect conn name graceful) t = (k : TaskKey) (from to : ℕ) → map.get t.tasks k ≡ Some (Moved from to) → ⊥
 
 -- the run asked whether the job's own task is pending
-abbrev pub OwnIsAsked : Job → Logged → Type 0
+abbrev pub OwnIsAsked : Job → ReadsAndWrites → Type 0
 OwnIsAsked (job.Task key due period kind arg) t = IsAsked t.reads (ask.Task key)
 OwnIsAsked job.Initialize t = Unit {0}
 OwnIsAsked (job.Login conn name) t = Unit {0}

@@ -12,7 +12,7 @@ ghost use Rattle.dk_txn.specs.Current.{passing_own};
 
 use crate::finished::Finished;
 use crate::sizes::is_too_large;
-use dk_overlay::{Log, LogParts, says_pending};
+use dk_overlay::{ReadWriteParts, ReadWriteSet, says_pending};
 use dk_types::{AppFault, ConnNo, Item, Job, NoMemory, Out, Outcome, TaskKey};
 use std::alloc::Global;
 
@@ -42,37 +42,37 @@ fn failed_outs(alloc: Global, job: &Job) -> Result<Vec<(ConnNo, Out)>, NoMemory>
 /// periodic one gets its next due moment. `due` is the moment that it is due before the run, `period` its
 /// period or 0, in ms.
 pub(crate) fn pass_own_task(
-    log: &mut Log,
+    set: &mut ReadWriteSet,
     key: TaskKey,
     due: u64,
     period: u64,
 ) -> Result<(), NoMemory>
-    ensures ok { OnOk result (Fits due period → log.new ≡ passing_own log.old key due period) }
-    ensures err { OnErr result (log.new ≡ log.old) }
+    ensures ok { OnOk result (Fits due period → set.new ≡ passing_own set.old key due period) }
+    ensures err { OnErr result (set.new ≡ set.old) }
 {
     if period == 0 {
-        log.remove_task(key)
+        set.remove_task(key)
     } else {
-        let to = next_due(due, period, log.at());
-        log.move_task(key, due, to)
+        let to = next_due(due, period, set.at());
+        set.move_task(key, due, to)
     }
 }
 
 /// Whether the run was told that the task is pending.
-fn was_pending(log: &Log, key: TaskKey) -> bool
-    ensures { IsAsked log.now.reads (ask.Task key) → (d : DurableWorld) → Agrees d log.now.reads → is_some (map.get d.tasks key) ≡ result }
+fn was_pending(set: &ReadWriteSet, key: TaskKey) -> bool
+    ensures { IsAsked set.now.reads (ask.Task key) → (d : DurableWorld) → Agrees d set.now.reads → is_some (map.get d.tasks key) ≡ result }
 {
-    match log.read(&Item::Task(key)) {
+    match set.read(&Item::Task(key)) {
         None => false,
         Some(read) => says_pending(&read.answer),
     }
 }
 
 /// What a failed run keeps: what it does to its own task.
-fn kept(log: &Log, job: &Job) -> Result<Log, NoMemory>
-    ensures { IfOk result (IsKept log.now job.now) }
+fn kept(set: &ReadWriteSet, job: &Job) -> Result<ReadWriteSet, NoMemory>
+    ensures { IfOk result (IsKept set.now job.now) }
 {
-    let mut kept = Log::new(log.allocator(), log.run(), log.at());
+    let mut kept = ReadWriteSet::new(set.allocator(), set.run(), set.at());
     if let Job::Task {
         key,
         due,
@@ -81,7 +81,7 @@ fn kept(log: &Log, job: &Job) -> Result<Log, NoMemory>
         arg: _,
     } = job
     {
-        if was_pending(log, *key) {
+        if was_pending(set, *key) {
             pass_own_task(&mut kept, *key, *due, *period)?;
         }
     }
@@ -89,20 +89,20 @@ fn kept(log: &Log, job: &Job) -> Result<Log, NoMemory>
 }
 
 /// What the run tells where it failed.
-fn fail(log: Log, job: &Job, fault: AppFault) -> Result<Finished, NoMemory>
-    ensures reads { IfOk result (λ f. f.reads.items ≡ log.reads) }
+fn fail(set: ReadWriteSet, job: &Job, fault: AppFault) -> Result<Finished, NoMemory>
+    ensures reads { IfOk result (λ f. f.reads.items ≡ set.reads) }
     ensures once { IfOk result (λ f. IsOnce f.reads.items) }
-    ensures told { IfOk result (TellsFailed log job.now fault) }
+    ensures told { IfOk result (TellsFailed set job.now fault) }
 {
-    let kept = kept(&log, job)?;
+    let kept = kept(&set, job)?;
     let effects = kept.effects()?;
-    let outs = failed_outs(log.allocator(), job)?;
-    let LogParts {
+    let outs = failed_outs(set.allocator(), job)?;
+    let ReadWriteParts {
         reads,
         touched: _,
         outs: _,
-    } = log.into_parts();
-    let LogParts {
+    } = set.into_parts();
+    let ReadWriteParts {
         reads: _,
         touched,
         outs: _,
@@ -117,16 +117,16 @@ fn fail(log: Log, job: &Job, fault: AppFault) -> Result<Finished, NoMemory>
 }
 
 /// What the run tells where it came to its end.
-fn come_to_end(log: Log, job: &Job) -> Result<Finished, NoMemory>
-    ensures reads { IfOk result (λ f. f.reads.items ≡ log.reads) }
+fn come_to_end(set: ReadWriteSet, job: &Job) -> Result<Finished, NoMemory>
+    ensures reads { IfOk result (λ f. f.reads.items ≡ set.reads) }
     ensures once { IfOk result (λ f. IsOnce f.reads.items) }
-    ensures told { IfOk result (TellsEnd log job.now (Ok tt)) }
+    ensures told { IfOk result (TellsEnd set job.now (Ok tt)) }
 {
-    let effects = log.effects()?;
+    let effects = set.effects()?;
     if is_too_large(&effects) {
-        return fail(log, job, AppFault::TooLarge);
+        return fail(set, job, AppFault::TooLarge);
     }
-    let parts = log.into_parts();
+    let parts = set.into_parts();
     Ok(Finished {
         reads: parts.reads,
         effects,
@@ -138,13 +138,17 @@ fn come_to_end(log: Log, job: &Job) -> Result<Finished, NoMemory>
 
 /// What the run tells at its end. A run whose effects are too large fails, and a failed run keeps what it did to
 /// its own task alone.
-pub(crate) fn finish(log: Log, job: &Job, end: Result<(), AppFault>) -> Result<Finished, NoMemory>
-    ensures reads { IfOk result (λ f. f.reads.items ≡ log.reads) }
+pub(crate) fn finish(
+    set: ReadWriteSet,
+    job: &Job,
+    end: Result<(), AppFault>,
+) -> Result<Finished, NoMemory>
+    ensures reads { IfOk result (λ f. f.reads.items ≡ set.reads) }
     ensures once { IfOk result (λ f. IsOnce f.reads.items) }
-    ensures told { IfOk result (TellsEnd log job.now end) }
+    ensures told { IfOk result (TellsEnd set job.now end) }
 {
     match end {
-        Ok(()) => come_to_end(log, job),
-        Err(fault) => fail(log, job, fault),
+        Ok(()) => come_to_end(set, job),
+        Err(fault) => fail(set, job, fault),
     }
 }

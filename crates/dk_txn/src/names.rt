@@ -54,10 +54,10 @@ impl<'a, V: View> Txn<'a, V> {
     pub(crate) fn known_name(&mut self, name: &Name) -> Result<Change<ObjectId>, NoMemory>
         ensures keeps { Keeps V.sights self.old self.new }
         ensures asks { Asks (ask.Bound name.now) V.sights self.old self.new }
-        ensures same_changes { SameChanges self.old.log self.new.log }
-        ensures known { IfOk result (KnownName self.new.log name.now) }
+        ensures same_changes { SameChanges self.old.set self.new.set }
+        ensures known { IfOk result (KnownName self.new.set name.now) }
     {
-        match self.log.name(name) {
+        match self.set.name(name) {
             Some(change) => Ok(change),
             None => {
                 let item = Item::Bound(name.clone()?);
@@ -75,7 +75,7 @@ impl<'a, V: View> Txn<'a, V> {
     pub fn bound(&mut self, name: &Name) -> Result<ObjectId, Refusal>
         ensures does { Does V.sights refusal_fault self.old self.new (act.bound name.now) result }
         ensures asks { Asks (ask.Bound name.now) V.sights self.old self.new }
-        ensures refused { OnErr result (SameChanges self.old.log self.new.log) }
+        ensures refused { OnErr result (SameChanges self.old.set self.new.set) }
     {
         let known = self.known_name(name)?;
         known.after.ok_or(Refusal::NameNotBound)
@@ -85,7 +85,7 @@ impl<'a, V: View> Txn<'a, V> {
     pub fn binding(&mut self, name: &Name) -> Result<Option<ObjectId>, Refusal>
         ensures does { Does V.sights refusal_fault self.old self.new (bindings.binding name.now) result }
         ensures asks { Asks (ask.Bound name.now) V.sights self.old self.new }
-        ensures same_changes { SameChanges self.old.log self.new.log }
+        ensures same_changes { SameChanges self.old.set self.new.set }
     {
         let known = self.known_name(name)?;
         Ok(known.after)
@@ -96,9 +96,9 @@ impl<'a, V: View> Txn<'a, V> {
     pub fn bind(&mut self, name: &Name, id: ObjectId) -> Result<(), Refusal>
         ensures does { Does V.sights refusal_fault self.old self.new (act.bind name.now id) result }
         ensures asks { Asks (ask.Bound name.now) V.sights self.old self.new }
-        ensures refused { OnErr result (SameChanges self.old.log self.new.log) }
+        ensures refused { OnErr result (SameChanges self.old.set self.new.set) }
     {
-        if is_reserved_name(self.log.mode(), name) {
+        if is_reserved_name(self.set.mode(), name) {
             return Err(Refusal::Reserved);
         }
         let known = self.known_name(name)?;
@@ -106,7 +106,7 @@ impl<'a, V: View> Txn<'a, V> {
             before: known.before,
             after: Some(id),
         };
-        self.log.change_name(name, change)?;
+        self.set.change_name(name, change)?;
         Ok(())
     }
 
@@ -114,9 +114,9 @@ impl<'a, V: View> Txn<'a, V> {
     pub fn unbind(&mut self, name: &Name) -> Result<(), Refusal>
         ensures does { Does V.sights refusal_fault self.old self.new (act.unbind name.now) result }
         ensures asks { Asks (ask.Bound name.now) V.sights self.old self.new }
-        ensures refused { OnErr result (SameChanges self.old.log self.new.log) }
+        ensures refused { OnErr result (SameChanges self.old.set self.new.set) }
     {
-        if is_reserved_name(self.log.mode(), name) {
+        if is_reserved_name(self.set.mode(), name) {
             return Err(Refusal::Reserved);
         }
         let known = self.known_name(name)?;
@@ -127,16 +127,16 @@ impl<'a, V: View> Txn<'a, V> {
             before: known.before,
             after: None,
         };
-        self.log.change_name(name, change)?;
+        self.set.change_name(name, change)?;
         Ok(())
     }
 
     /// The least name above the given one that was bound before the run and that the run has not touched.
     fn next_standing(&mut self, after: Option<&Name>) -> Result<Option<Name>, NoMemory>
         ensures keeps { Keeps V.sights self.old self.new }
-        ensures asks { AsksOf (IsNext self.old.log (option_copied after.entry)) V.sights self.old self.new }
-        ensures same_changes { SameChanges self.old.log self.new.log }
-        ensures next { IfOk result (NextStanding self.new.log (option_copied after.entry)) }
+        ensures asks { AsksOf (IsNext self.old.set (option_copied after.entry)) V.sights self.old self.new }
+        ensures same_changes { SameChanges self.old.set self.new.set }
+        ensures next { IfOk result (NextStanding self.new.set (option_copied after.entry)) }
     {
         let mut cursor = copy_after(after)?;
         'names: loop {
@@ -146,7 +146,7 @@ impl<'a, V: View> Txn<'a, V> {
                 None => return Ok(None),
                 Some(name) => {
                     // A name that is not above is told by no world, and could be told for ever.
-                    if !is_above(&cursor, &name) || self.log.name(&name).is_none() {
+                    if !is_above(&cursor, &name) || self.set.name(&name).is_none() {
                         return Ok(Some(name));
                     }
                     cursor = Some(name);
@@ -159,11 +159,11 @@ impl<'a, V: View> Txn<'a, V> {
     /// shown. Refuses 7 alone.
     pub fn next_bound(&mut self, after: Option<&Name>) -> Result<Option<Name>, Refusal>
         ensures does { Does V.sights refusal_fault self.old self.new (act.next_bound (option_copied after.entry)) result }
-        ensures asks { AsksOf (IsNext self.old.log (option_copied after.entry)) V.sights self.old self.new }
-        ensures refused { OnErr result (SameChanges self.old.log self.new.log) }
+        ensures asks { AsksOf (IsNext self.old.set (option_copied after.entry)) V.sights self.old self.new }
+        ensures refused { OnErr result (SameChanges self.old.set self.new.set) }
     {
         let standing = self.next_standing(after)?;
-        let bound = copy_after(self.log.next_bound(after))?;
+        let bound = copy_after(self.set.next_bound(after))?;
         Ok(lesser(standing, bound))
     }
 }

@@ -20,10 +20,10 @@ impl<'a, V: View> Txn<'a, V> {
     fn known_object(&mut self, id: ObjectId) -> Result<Change<Object>, NoMemory>
         ensures keeps { Keeps V.sights self.old self.new }
         ensures asks { Asks (ask.Object id) V.sights self.old self.new }
-        ensures same_changes { SameChanges self.old.log self.new.log }
-        ensures known { IfOk result (KnownObject self.new.log id) }
+        ensures same_changes { SameChanges self.old.set self.new.set }
+        ensures known { IfOk result (KnownObject self.new.set id) }
     {
-        match self.log.object(id)? {
+        match self.set.object(id)? {
             Some(change) => Ok(change),
             None => {
                 let after = object_of_answer(self.ask(Item::Object(id))?);
@@ -37,9 +37,9 @@ impl<'a, V: View> Txn<'a, V> {
     pub(crate) fn changeable(&mut self, id: ObjectId) -> Result<Change<Object>, Refusal>
         ensures keeps { Keeps V.sights self.old self.new }
         ensures asks { Asks (ask.Object id) V.sights self.old self.new }
-        ensures same_changes { SameChanges self.old.log self.new.log }
-        ensures ok { IfOk result (CanChange self.new.log id) }
-        ensures err { IfErr result (RefusesChange self.new.log id) }
+        ensures same_changes { SameChanges self.old.set self.new.set }
+        ensures ok { IfOk result (CanChange self.new.set id) }
+        ensures err { IfErr result (RefusesChange self.new.set id) }
         ensures length { (bytes : List ℕ) → IfErr result (TellsLength bytes) }
     {
         let known = self.known_object(id)?;
@@ -47,7 +47,7 @@ impl<'a, V: View> Txn<'a, V> {
             None => return Err(Refusal::ObjectNotFound),
             Some(object) => object.kind,
         };
-        if is_reserved_kind(self.log.mode(), kind) {
+        if is_reserved_kind(self.set.mode(), kind) {
             return Err(Refusal::Reserved);
         }
         Ok(known)
@@ -57,7 +57,7 @@ impl<'a, V: View> Txn<'a, V> {
     pub fn get(&mut self, id: ObjectId) -> Result<Object, Refusal>
         ensures does { Does V.sights refusal_fault self.old self.new (act.get id) result }
         ensures asks { Asks (ask.Object id) V.sights self.old self.new }
-        ensures same_changes { SameChanges self.old.log self.new.log }
+        ensures same_changes { SameChanges self.old.set self.new.set }
         ensures length { (bytes : List ℕ) → IfErr result (TellsLength bytes) }
     {
         let known = self.known_object(id)?;
@@ -69,26 +69,26 @@ impl<'a, V: View> Txn<'a, V> {
     pub fn create(&mut self, kind: u16, bytes: Blob) -> Result<ObjectId, Refusal>
         ensures does { Does V.sights refusal_fault self.old self.new (act.create kind bytes) result }
         ensures asks { AsksNothing self.old self.new }
-        ensures refused { OnErr result (SameChanges self.old.log self.new.log) }
+        ensures refused { OnErr result (SameChanges self.old.set self.new.set) }
         ensures length { IfErr result (TellsLength bytes) }
     {
-        if is_reserved_kind(self.log.mode(), kind) {
+        if is_reserved_kind(self.set.mode(), kind) {
             return Err(Refusal::Reserved);
         }
         if is_too_long(&bytes) {
             return Err(too_long(&bytes));
         }
-        if self.log.objects_made() as u64 >= OBJECTS_MOST_COUNT {
+        if self.set.objects_made() as u64 >= OBJECTS_MOST_COUNT {
             return Err(Refusal::TooMany);
         }
-        Ok(self.log.create_object(Object { kind, bytes })?)
+        Ok(self.set.create_object(Object { kind, bytes })?)
     }
 
     /// Gives an object these bytes, under its old kind. Refuses 4, 2, 6.
     pub fn save(&mut self, id: ObjectId, bytes: Blob) -> Result<(), Refusal>
         ensures does { Does V.sights refusal_fault self.old self.new (act.save id bytes) result }
         ensures asks { Asks (ask.Object id) V.sights self.old self.new }
-        ensures refused { OnErr result (SameChanges self.old.log self.new.log) }
+        ensures refused { OnErr result (SameChanges self.old.set self.new.set) }
         ensures length { IfErr result (TellsLength bytes) }
     {
         if is_too_long(&bytes) {
@@ -103,7 +103,7 @@ impl<'a, V: View> Txn<'a, V> {
             before: known.before,
             after: Some(Object { kind, bytes }),
         };
-        self.log.change_object(id, change)?;
+        self.set.change_object(id, change)?;
         Ok(())
     }
 
@@ -111,10 +111,10 @@ impl<'a, V: View> Txn<'a, V> {
     pub fn mark(&mut self, id: ObjectId) -> Result<(), Refusal>
         ensures does { Does V.sights refusal_fault self.old self.new (act.mark id) result }
         ensures asks { Asks (ask.Object id) V.sights self.old self.new }
-        ensures refused { OnErr result (SameChanges self.old.log self.new.log) }
+        ensures refused { OnErr result (SameChanges self.old.set self.new.set) }
     {
         let known = self.changeable(id)?;
-        self.log.change_object(id, known)?;
+        self.set.change_object(id, known)?;
         Ok(())
     }
 
@@ -122,14 +122,14 @@ impl<'a, V: View> Txn<'a, V> {
     pub fn remove(&mut self, id: ObjectId) -> Result<(), Refusal>
         ensures does { Does V.sights refusal_fault self.old self.new (act.remove id) result }
         ensures asks { Asks (ask.Object id) V.sights self.old self.new }
-        ensures refused { OnErr result (SameChanges self.old.log self.new.log) }
+        ensures refused { OnErr result (SameChanges self.old.set self.new.set) }
     {
         let known = self.changeable(id)?;
         let change = Change {
             before: known.before,
             after: None,
         };
-        self.log.change_object(id, change)?;
+        self.set.change_object(id, change)?;
         Ok(())
     }
 }

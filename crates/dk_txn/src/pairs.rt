@@ -39,31 +39,31 @@ impl<'a, V: View> Txn<'a, V> {
 
     /// A new object, and the name bound to it. Refuses 4, 8.
     pub fn create_bound(&mut self, name: &Name, kind: u16, bytes: Blob) -> Result<(), Refusal>
-        requires { self.old.log.mode ≡ mode.Platform }
+        requires { self.old.set.mode ≡ mode.Platform }
         ensures does { Does V.sights refusal_fault self.old self.new (act.and_then (act.create kind bytes) (λ id. act.bind name.now id)) result }
         ensures asks { Asks (ask.Bound name.now) V.sights self.old self.new }
-        ensures refused { OnErr result (SameChanges self.old.log self.new.log) }
+        ensures refused { OnErr result (SameChanges self.old.set self.new.set) }
         ensures length { IfErr result (TellsLength bytes) }
     {
         if is_too_long(&bytes) {
             return Err(too_long(&bytes));
         }
-        if self.log.objects_made() as u64 >= OBJECTS_MOST_COUNT {
+        if self.set.objects_made() as u64 >= OBJECTS_MOST_COUNT {
             return Err(Refusal::TooMany);
         }
         let known = self.known_name(name)?;
-        self.log
+        self.set
             .create_named(Object { kind, bytes }, name, known.before)?;
         Ok(())
     }
 
     /// Takes the name's binding away, and an object that stands. Refuses 1.
     pub fn unbind_and_remove(&mut self, name: &Name, id: ObjectId) -> Result<(), Refusal>
-        requires platform { self.old.log.mode ≡ mode.Platform }
-        requires stands { Stands self.old.log id }
+        requires platform { self.old.set.mode ≡ mode.Platform }
+        requires stands { Stands self.old.set id }
         ensures does { Does V.sights refusal_fault self.old self.new (act.and_then (act.unbind name.now) (λ _. act.remove id)) result }
         ensures asks { AsksOf (EitherOf (ask.Bound name.now) (ask.Object id)) V.sights self.old self.new }
-        ensures refused { OnErr result (SameChanges self.old.log self.new.log) }
+        ensures refused { OnErr result (SameChanges self.old.set self.new.set) }
     {
         let known = self.known_name(name)?;
         if known.after.is_none() {
@@ -78,7 +78,7 @@ impl<'a, V: View> Txn<'a, V> {
             before: object.before,
             after: None,
         };
-        self.log.change_named(name, unbound, id, removed)?;
+        self.set.change_named(name, unbound, id, removed)?;
         Ok(())
     }
 
@@ -90,17 +90,17 @@ impl<'a, V: View> Txn<'a, V> {
         second: ObjectId,
         behind: Blob,
     ) -> Result<(), Refusal>
-        requires platform { self.old.log.mode ≡ mode.Platform }
+        requires platform { self.old.set.mode ≡ mode.Platform }
         requires short { (act.is_too_long payload ≡ false) × (act.is_too_long behind ≡ false) }
-        requires stand { Stands self.old.log first × Stands self.old.log second }
+        requires stand { Stands self.old.set first × Stands self.old.set second }
         ensures does { Does V.sights refusal_fault self.old self.new (act.and_then (act.save first payload) (λ _. act.save second behind)) result }
         ensures asks { AsksOf (EitherOf (ask.Object first) (ask.Object second)) V.sights self.old self.new }
-        ensures refused { OnErr result (SameChanges self.old.log self.new.log) }
+        ensures refused { OnErr result (SameChanges self.old.set self.new.set) }
     {
         let known = self.changeable(first)?;
         let next = self.changeable(second)?;
         let change = rewritten(known, payload);
-        self.log
+        self.set
             .change_two(first, change, second, rewritten(next, behind))?;
         Ok(())
     }

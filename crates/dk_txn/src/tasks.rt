@@ -27,11 +27,11 @@ impl<'a, V: View> Txn<'a, V> {
     fn is_pending(&mut self, key: TaskKey) -> Result<bool, NoMemory>
         ensures keeps { Keeps V.sights self.old self.new }
         ensures asks { Asks (ask.Task key) V.sights self.old self.new }
-        ensures same_changes { SameChanges self.old.log self.new.log }
-        ensures known { IfOk result (KnownTask self.new.log key) }
-        ensures asked { IfOk result (λ _. map.get self.old.log.tasks key ≡ None → IsAsked self.new.log.reads (ask.Task key)) }
+        ensures same_changes { SameChanges self.old.set self.new.set }
+        ensures known { IfOk result (KnownTask self.new.set key) }
+        ensures asked { IfOk result (λ _. map.get self.old.set.tasks key ≡ None → IsAsked self.new.set.reads (ask.Task key)) }
     {
-        match self.log.task_settled(key) {
+        match self.set.task_settled(key) {
             Some(there) => Ok(there),
             None => {
                 let said = self.ask(Item::Task(key))?;
@@ -51,27 +51,27 @@ impl<'a, V: View> Txn<'a, V> {
         requires { delay ≤ DELAY_MOST_MS }
         ensures does { Does V.sights refusal_fault self.old self.new (act.scheduled kind arg delay period) result }
         ensures asks { AsksNothing self.old self.new }
-        ensures refused { OnErr result (SameChanges self.old.log self.new.log) }
+        ensures refused { OnErr result (SameChanges self.old.set self.new.set) }
         ensures length { IfErr result (TellsLength arg) }
     {
-        if self.log.tasks_made() as u64 >= TASKS_MOST_COUNT {
+        if self.set.tasks_made() as u64 >= TASKS_MOST_COUNT {
             return Err(Refusal::TooMany);
         }
-        let due = self.log.at() + delay;
+        let due = self.set.at() + delay;
         let task = Scheduled {
             due,
             period,
             kind,
             arg,
         };
-        Ok(self.log.schedule_task(task)?)
+        Ok(self.set.schedule_task(task)?)
     }
 
     /// A once-task that is due at the run's moment and the delay, in ms (`TaskManager.scheduleTask`). Refuses 4, 5, 8.
     pub fn schedule(&mut self, kind: u16, arg: Blob, delay: u64) -> Result<TaskKey, Refusal>
         ensures does { Does V.sights refusal_fault self.old self.new (act.schedule kind arg delay) result }
         ensures asks { AsksNothing self.old self.new }
-        ensures refused { OnErr result (SameChanges self.old.log self.new.log) }
+        ensures refused { OnErr result (SameChanges self.old.set self.new.set) }
         ensures length { IfErr result (TellsLength arg) }
     {
         if is_too_long(&arg) {
@@ -94,7 +94,7 @@ impl<'a, V: View> Txn<'a, V> {
     ) -> Result<TaskKey, Refusal>
         ensures does { Does V.sights refusal_fault self.old self.new (act.schedule_periodic kind arg delay period) result }
         ensures asks { AsksNothing self.old self.new }
-        ensures refused { OnErr result (SameChanges self.old.log self.new.log) }
+        ensures refused { OnErr result (SameChanges self.old.set self.new.set) }
         ensures length { IfErr result (TellsLength arg) }
     {
         if is_too_long(&arg) {
@@ -110,12 +110,12 @@ impl<'a, V: View> Txn<'a, V> {
     pub fn cancel(&mut self, key: TaskKey) -> Result<(), Refusal>
         ensures does { Does V.sights refusal_fault self.old self.new (act.cancel key) result }
         ensures asks { Asks (ask.Task key) V.sights self.old self.new }
-        ensures refused { OnErr result (SameChanges self.old.log self.new.log) }
+        ensures refused { OnErr result (SameChanges self.old.set self.new.set) }
     {
         if !self.is_pending(key)? {
             return Err(Refusal::ObjectNotFound);
         }
-        self.log.remove_task(key)?;
+        self.set.remove_task(key)?;
         Ok(())
     }
 
@@ -123,18 +123,18 @@ impl<'a, V: View> Txn<'a, V> {
     pub fn send(&mut self, to: ConnNo, out: Out) -> Result<(), Refusal>
         ensures does { Does V.sights refusal_fault self.old self.new (act.send to out) result }
         ensures asks { AsksNothing self.old self.new }
-        ensures refused { OnErr result (SameChanges self.old.log self.new.log) }
-        ensures same_mode { self.new.log.mode ≡ self.old.log.mode }
+        ensures refused { OnErr result (SameChanges self.old.set self.new.set) }
+        ensures same_mode { self.new.set.mode ≡ self.old.set.mode }
         ensures length { IfErr result (TellsLength (act.body_of out)) }
     {
         let len = body_len(&out);
         if len > BODY_MOST_BYTES {
             return Err(Refusal::TooLong { len });
         }
-        if self.log.outs_made() >= MESSAGES_MOST_COUNT {
+        if self.set.outs_made() >= MESSAGES_MOST_COUNT {
             return Err(Refusal::TooMany);
         }
-        self.log.add_out(to, out)?;
+        self.set.add_out(to, out)?;
         Ok(())
     }
 
@@ -142,21 +142,21 @@ impl<'a, V: View> Txn<'a, V> {
     /// the run may send so many more. Refuses 7 alone.
     pub fn send_all(&mut self, messages: Vec<(ConnNo, Out)>) -> Result<(), Refusal>
         requires short { AllByRecursion (λ m. act.is_too_long (act.body_of m.1) ≡ false) messages.items }
-        requires room { nat_lt MESSAGES_MOST_COUNT (length self.old.log.outs + length messages.items) ≡ false }
+        requires room { nat_lt MESSAGES_MOST_COUNT (length self.old.set.outs + length messages.items) ≡ false }
         ensures does { Does V.sights refusal_fault self.old self.new (sent_all messages.items) result }
         ensures asks { AsksNothing self.old self.new }
-        ensures refused { OnErr result (SameChanges self.old.log self.new.log) }
-        ensures same_mode { self.new.log.mode ≡ self.old.log.mode }
+        ensures refused { OnErr result (SameChanges self.old.set self.new.set) }
+        ensures same_mode { self.new.set.mode ≡ self.old.set.mode }
     {
-        self.log.add_outs(messages)?;
+        self.set.add_outs(messages)?;
         Ok(())
     }
 
     /// Whether the run may send so many more messages.
     pub fn has_room_for(&self, messages: u64) -> bool
-        ensures { result ≡ not (nat_lt MESSAGES_MOST_COUNT (length self.now.log.outs + messages)) }
+        ensures { result ≡ not (nat_lt MESSAGES_MOST_COUNT (length self.now.set.outs + messages)) }
     {
-        self.log.outs_made().saturating_add(messages) <= MESSAGES_MOST_COUNT
+        self.set.outs_made().saturating_add(messages) <= MESSAGES_MOST_COUNT
     }
 
     /// What an occurrence does to the run's own task, which is due at `due` with this period or 0, in ms: false where it is
@@ -167,14 +167,14 @@ impl<'a, V: View> Txn<'a, V> {
         requires period { period ≤ PERIOD_MOST_MS }
         ensures does { DoesFor (Only key due) V.sights refusal_fault self.old self.new (own_act key due period) result }
         ensures asks { Asks (ask.Task key) V.sights self.old self.new }
-        ensures refused { OnErr result (SameChanges self.old.log self.new.log) }
-        ensures same_mode { self.new.log.mode ≡ self.old.log.mode }
-        ensures asked { IfOk result (λ _. map.get self.old.log.tasks key ≡ None → IsAsked self.new.log.reads (ask.Task key)) }
+        ensures refused { OnErr result (SameChanges self.old.set self.new.set) }
+        ensures same_mode { self.new.set.mode ≡ self.old.set.mode }
+        ensures asked { IfOk result (λ _. map.get self.old.set.tasks key ≡ None → IsAsked self.new.set.reads (ask.Task key)) }
     {
         if !self.is_pending(key)? {
             return Ok(false);
         }
-        pass_own_task(&mut self.log, key, due, period)?;
+        pass_own_task(&mut self.set, key, due, period)?;
         Ok(true)
     }
 }

@@ -8,13 +8,13 @@ use Rattle.dk_types.specs.Rest.{Rest}
 use Rattle.dk_types.specs.Payload.{whole}
 
 -- what a call tells of a field that was taken at this place
-abbrev pub told_of : {X : Type 0} → ℕ → Result X WireRefused → Result X PayloadRefused
-told_of at (Ok x) = Ok x
-told_of at (Err wire.NoMemory) = Err NoMemory
-told_of at (Err (wire.Short need have)) = Err (NotInGrammar at)
-told_of at (Err (wire.Extra place)) = Err (NotInGrammar at)
-told_of at (Err (wire.BadTag place tag)) = Err (NotInGrammar at)
-told_of at (Err wire.TooLong) = Err (NotInGrammar at)
+abbrev pub located : {X : Type 0} → ℕ → Result X WireRefused → Result X PayloadRefused
+located at (Ok x) = Ok x
+located at (Err wire.NoMemory) = Err NoMemory
+located at (Err (wire.Short need have)) = Err (NotInGrammar at)
+located at (Err (wire.Extra place)) = Err (NotInGrammar at)
+located at (Err (wire.BadTag place tag)) = Err (NotInGrammar at)
+located at (Err wire.TooLong) = Err (NotInGrammar at)
 
 -- a refusal is the fault of reading, unless memory ran out
 abbrev pub Misses : {Y : Type 0} → PayloadRefused → Result Y ℕ → Type 0

@@ -2,7 +2,7 @@
 ghost use Rattle.std.specs.Prelude.{◌≡◌, ◌≢◌, Ok, IfErr, MatchResult};
 ghost use Rattle.dk_wire.specs.declared.payload.PayloadRefused.TheVariants.{NoMemory as OutOfMemory};
 ghost use Rattle.dk_types.specs.Payload.{next_u8, next_u16, next_u32, next_u64, next_name, next_blob, next_id, next_key, next_end};
-ghost use Rattle.dk_wire.specs.Payload.{Gives, Misses, told_of};
+ghost use Rattle.dk_wire.specs.Payload.{Gives, Misses, located};
 
 use crate::reader::Reader;
 use dk_types::{Blob, Name, NoMemory, ObjectId, TaskKey, WireRefused};
@@ -134,7 +134,7 @@ impl<'a> Reader<'a> {
 }
 
 fn told<T>(at: u64, taken: Result<T, WireRefused>) -> Result<T, PayloadRefused>
-    ensures { result ≡ told_of at taken }
+    ensures { result ≡ located at taken }
 {
     match taken {
         Ok(x) => Ok(x),

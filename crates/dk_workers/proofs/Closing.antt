@@ -11,9 +11,9 @@ use Rattle.dk_model.specs.Transcripts.{Plays, playing, transcript_text}
 use Rattle.dk_script.proofs.OrderTold.{order_of-transcript_text}
 use Rattle.dk_play_laws.specs.LineEvents.{Said, playing_at}
 use Rattle.dk_play_laws.specs.Phased.{HavePlayed}
-use Rattle.dk_play_laws.specs.Told.{told_of, AreKept}
-use Rattle.dk_play_laws.proofs.Told.{silent_told, told_all}
-use Rattle.dk_workers.specs.Played.{IsSavedAt, IsShown, IsSaved, IsToldPlay, IsPlayCause, IsDiskFault, IsCounted, IsSettled, IsTextOf}
+use Rattle.dk_play_laws.specs.Reported.{reported_of, AreKept}
+use Rattle.dk_play_laws.proofs.Reported.{silent_told, told_all}
+use Rattle.dk_workers.specs.Played.{IsSavedAt, IsShown, IsSaved, IsReportedPlay, IsPlayCause, IsDiskFault, IsCounted, IsSettled, IsTextOf}
 use Rattle.dk_workers.specs.declared.play.fault.PlayFault.{PlayFault}
 use Rattle.dk_workers.specs.declared.play.fault.PlayFault.TheVariants as fault
 use Rattle.dk_workers.specs.declared.play.saving.Saved.{Saved}
@@ -57,7 +57,7 @@ module _ (o : Opened) (workers : ℕ) (asked : Bool) (script : List (List Line))
   store_saved saved.TooLarge at shown is = inr (inl (shown, at))
   store_saved saved.AtEnd at shown is = inr (inr shown)
 
-  small_told : (phases : List (List Event)) → AreSmall phases → AreSmall (map told_of phases)
+  small_told : (phases : List (List Event)) → AreSmall phases → AreSmall (map reported_of phases)
   small_told [] small = tt
   small_told (events ∷ phases) small = (told_all IsSmall events small.0, small_told phases small.1)
 
@@ -65,23 +65,23 @@ module _ (o : Opened) (workers : ℕ) (asked : Bool) (script : List (List Line))
   module _ (marks : List ℕ) (s : Said) (played : HavePlayed o workers ([] ∷ script) history marks s) (commits tasks : ℕ) (commits_are : commits ≡ (world_after o history).durable.commits)
       (tasks_are : tasks ≡ maps.len (world_after o history).durable.tasks) (text : List ℕ) (kept : AreKept history) (is_text : text ≡ transcript_text (phases_of history marks) commits tasks) where
     abbrev phases : List (List Event)
-    phases = map told_of (phases_of history marks)
+    phases = map reported_of (phases_of history marks)
 
-    is_told : text ≡ transcript_text phases commits tasks
-    is_told = is_text ∙ sym (silent_told (phases_of history marks) commits tasks)
+    is_reported : text ≡ transcript_text phases commits tasks
+    is_reported = is_text ∙ sym (silent_told (phases_of history marks) commits tasks)
 
     order_is : (played.played kept).order ≡ order_of text
     order_is =
         order_of-Plays o.rules (playing (opening_of o)) ([] ∷ script) (played.played kept).order phases (playing_at (world_after o history) s) (played.played kept).plays
-        ∙ sym (ap order_of is_told ∙ order_of-transcript_text phases commits tasks (small_told (phases_of history marks) played.small))
+        ∙ sym (ap order_of is_reported ∙ order_of-transcript_text phases commits tasks (small_told (phases_of history marks) played.small))
 
-    pub told_play : IsToldPlay o workers script history text
+    pub told_play : IsReportedPlay o workers script history text
     told_play = record {
       transcript = record {
         phases = phases;
         end = playing_at (world_after o history) s;
         plays = subst (λ (order : List (List OrderItem)). Plays o.rules (playing (opening_of o)) ([] ∷ script) order phases (playing_at (world_after o history) s)) order_is (played.played kept).plays;
-        told = is_told ∙ ap (λ (n : ℕ). transcript_text phases n tasks) commits_are ∙ ap (λ (n : ℕ). transcript_text phases (world_after o history).durable.commits n) tasks_are;
+        told = is_reported ∙ ap (λ (n : ℕ). transcript_text phases n tasks) commits_are ∙ ap (λ (n : ℕ). transcript_text phases (world_after o history).durable.commits n) tasks_are;
       };
       ended = refl;
       turns = λ one. subst (AllByRecursion AreInTurn) order_is ((played.played kept).turns one);

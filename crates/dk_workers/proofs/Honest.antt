@@ -14,7 +14,7 @@ use Rattle.dk_model.specs.Openings.{opening}
 use Rattle.dk_model.specs.Sights.{grants, IsHonestRead}
 use Rattle.dk_laws.proofs.ClaimedOnce.{claimed_once}
 use Rattle.dk_txn.specs.declared.finished.Finished.{Finished}
-use Rattle.dk_txn.specs.Finishes.{told}
+use Rattle.dk_txn.specs.Finishes.{report}
 use Rattle.dk_txn.specs.Knowing.{HasTaskLimits}
 use Rattle.dk_core.specs.StampedWorlds.{Stamped, seen_now}
 use Rattle.dk_core.specs.Changes.{IsFirstConflict}
@@ -69,8 +69,8 @@ module _ (rules : Meaning) (lawful : AreLawful rules) (c : Core) (claimed : Clai
     )
 
     -- a run that keeps the law, and read the world as it stands, is honest
-    pub honest_now : (f : Finished) → KeepsLaw rules claimed.job claimed.run claimed.at f.reads.items (told f) → AreReadsNow c.world f.reads.items
-        → IsHonest rules (opening d budget) events claimed.job claimed.run claimed.at f.reads.items (told f)
+    pub honest_now : (f : Finished) → KeepsLaw rules claimed.job claimed.run claimed.at f.reads.items (report f) → AreReadsNow c.world f.reads.items
+        → IsHonest rules (opening d budget) events claimed.job claimed.run claimed.at f.reads.items (report f)
     honest_now f law all = record { law = law; honest = honest_reads f.reads.items all }
 
 -- events one after another

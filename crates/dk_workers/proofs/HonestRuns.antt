@@ -13,7 +13,7 @@ use Rattle.dk_model.specs.Legal.{Opened, opening_of, IsFront, IsLegal}
 use Rattle.dk_model.specs.Sights.{IsHonestRead}
 use Rattle.dk_laws.proofs.LaterOn.{claims_stand, claimed_within}
 use Rattle.dk_txn.specs.declared.finished.Finished.{Finished}
-use Rattle.dk_txn.specs.Finishes.{told}
+use Rattle.dk_txn.specs.Finishes.{report}
 use Rattle.dk_txn.specs.Knowing.{HasTaskLimits}
 use Rattle.dk_game.proofs.Lent.{job_fits}
 use Rattle.dk_core.specs.declared.claimed.Claimed.{Claimed}
@@ -59,12 +59,12 @@ front_of_claim o c old new claim a b began ends g = front_goes o c old new a b b
 -- a run that keeps the law of the host's rules, and read what the look gave, is honest
 pub honest_by : (o : Opened) (rules : Meaning) → o.rules ≡ rules → (new : Known Event) (c : Claimed) → IsClaimOf o new c → (b : Looking) → b.pass ≡ new → b.run ≡ c.run
     → (j : Job) (run : RunNo) (at : ℕ) → j ≡ c.job → run ≡ c.run → at ≡ c.at → (r : Result Finished NoMemory)
-    → IfOk r (λ f. KeepsLaw rules j run at f.reads.items (told f)) → IfOk r (λ f. AllByRecursion (λ x. IsGiven o b x.0 x.1) f.reads.items)
+    → IfOk r (λ f. KeepsLaw rules j run at f.reads.items (report f)) → IfOk r (λ f. AllByRecursion (λ x. IsGiven o b x.0 x.1) f.reads.items)
     → IfOk r (IsHonestAt o new.front c)
 honest_by o rules same new c claim b ends is j run at same_job same_run same_at (Ok f) law given = record {
-  law = subst (λ m. KeepsLaw m c.job c.run c.at f.reads.items (told f)) (sym same)
-      (subst (λ x. KeepsLaw rules x c.run c.at f.reads.items (told f)) same_job
-      (subst (λ x. KeepsLaw rules j x c.at f.reads.items (told f)) same_run (subst (λ x. KeepsLaw rules j run x f.reads.items (told f)) same_at law)));
+  law = subst (λ m. KeepsLaw m c.job c.run c.at f.reads.items (report f)) (sym same)
+      (subst (λ x. KeepsLaw rules x c.run c.at f.reads.items (report f)) same_job
+      (subst (λ x. KeepsLaw rules j x c.at f.reads.items (report f)) same_run (subst (λ x. KeepsLaw rules j run x f.reads.items (report f)) same_at law)));
   honest = subst (λ (p : Known Event). AllByRecursion (λ x. IsHonestRead o.rules (opening_of o) p.front c.run x.0 x.1) f.reads.items) ends
       (subst (λ n. AllByRecursion (λ x. IsHonestRead o.rules (opening_of o) b.pass.front n x.0 x.1) f.reads.items) is given);
 }

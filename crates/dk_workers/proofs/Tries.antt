@@ -8,7 +8,7 @@ use Rattle.dk_types.specs.declared.event.Event.TheVariants as event
 use Rattle.dk_model.specs.Legal.{Opened, opening_of, IsFront, pass_of}
 use Rattle.dk_laws.proofs.LaterOn.{front_on, honest_on}
 use Rattle.dk_txn.specs.declared.finished.Finished.{Finished}
-use Rattle.dk_txn.specs.Finishes.{told}
+use Rattle.dk_txn.specs.Finishes.{report}
 use Rattle.dk_core.specs.declared.claimed.Claimed.{Claimed}
 use Rattle.dk_turn.specs.Fronts.{Known, own}
 use Rattle.dk_turn.proofs.Beginnings.{own-append, prefix_self}
@@ -98,7 +98,7 @@ module _ (o : Opened) (c : Claimed) (f : Finished) (old new : Known Event) (numb
     finished = f;
     seen = new.front;
     begins = prefix_self new.front;
-    honest = subst (λ es. IsHonestAt o es c f) (sym goes.all) (honest_on o.rules (opening_of o) old.front goes.later c.job c.run c.at f.reads.items (told f) honest);
+    honest = subst (λ es. IsHonestAt o es c f) (sym goes.all) (honest_on o.rules (opening_of o) old.front goes.later c.job c.run c.at f.reads.items (report f) honest);
     holds = back.1;
   }
 

@@ -7,24 +7,24 @@ use Rattle.dk_workers.specs.declared.play.fault.PlayFault.{PlayFault}
 use Rattle.dk_workers.specs.declared.play.fault.PlayFault.TheVariants as fault
 
 -- by which fault a play ends before the main pass works: by none where nothing was left to run, or the budget was spent
-abbrev pub early_told : Worked → Option PlayFault
-early_told worked.Idle = None
-early_told (worked.Spent granted) = None
-early_told (worked.Exhausted next) = Some (fault.Exhausted next)
-early_told worked.DiskFault = Some fault.DiskFault
-early_told (worked.Stopped faults) = Some fault.DiskFault
-early_told (worked.JournalFull length) = Some (fault.JournalFull length)
-early_told worked.NoMemory = Some fault.NoMemory
+abbrev pub early_end : Worked → Option PlayFault
+early_end worked.Idle = None
+early_end (worked.Spent granted) = None
+early_end (worked.Exhausted next) = Some (fault.Exhausted next)
+early_end worked.DiskFault = Some fault.DiskFault
+early_end (worked.Stopped faults) = Some fault.DiskFault
+early_end (worked.JournalFull length) = Some (fault.JournalFull length)
+early_end worked.NoMemory = Some fault.NoMemory
 
 -- what the main pass's answer is to a play: a stopped store is a fault of its disk
-abbrev pub end_told : Worked → Result (Unit {0}) PlayFault
-end_told worked.Idle = Ok tt
-end_told (worked.Spent granted) = Err (fault.Budget granted)
-end_told (worked.Exhausted next) = Err (fault.Exhausted next)
-end_told worked.DiskFault = Err fault.DiskFault
-end_told (worked.Stopped faults) = Err fault.DiskFault
-end_told (worked.JournalFull length) = Err (fault.JournalFull length)
-end_told worked.NoMemory = Err fault.NoMemory
+abbrev pub main_end : Worked → Result (Unit {0}) PlayFault
+main_end worked.Idle = Ok tt
+main_end (worked.Spent granted) = Err (fault.Budget granted)
+main_end (worked.Exhausted next) = Err (fault.Exhausted next)
+main_end worked.DiskFault = Err fault.DiskFault
+main_end (worked.Stopped faults) = Err fault.DiskFault
+main_end (worked.JournalFull length) = Err (fault.JournalFull length)
+main_end worked.NoMemory = Err fault.NoMemory
 
 -- a line is not entered for want of memory, or of a number
 abbrev pub IsLineFault : PlayFault → Type 0

@@ -52,7 +52,7 @@ IsSaved o history first epoch = (epoch ≡ first + 1) ⊎ ((epoch ≡ first) × 
 
 -- THE TRANSCRIPT of a script: a play from the opening on in the order that the text itself tells, which ends in the world after the history; by one worker each claim is followed at
 -- once by the commit of its run
-pub record IsToldPlay (o : Opened) (workers : ℕ) (script : List (List Line)) (history : List Event) (text : List ℕ) : Type 0 where
+pub record IsReportedPlay (o : Opened) (workers : ℕ) (script : List (List Line)) (history : List Event) (text : List ℕ) : Type 0 where
   pub transcript : IsTranscript o.rules (opening_of o) script (order_of text) text
   pub ended : transcript.end.world ≡ world_after o history
   pub turns : workers ≡ 1 → AllByRecursion AreInTurn (order_of text)
@@ -101,7 +101,7 @@ IsStaged asked o script marks_of saved_of (Err fault.NoMemory) workers main = Is
 
 -- the transcript of the script, or why there is none
 pub record IsTextOf (o : Opened) (workers : ℕ) (asked : Bool) (script : List (List Line)) (history : List Event) (faults : Option ℕ) (first epoch before after : ℕ) (text : Result (List ℕ) PlayFault) : Type 0 where
-  pub told : IfOk text (IsToldPlay o workers script history)
+  pub told : IfOk text (IsReportedPlay o workers script history)
   pub whole : IfOk text (λ t. faults ≡ None)
   pub is_saved : IsTrue asked → IfOk text (λ t. IsSaved o history first epoch)
   pub cause : IfErr text (IsPlayCause o history before after)

@@ -26,7 +26,7 @@ use dk_game::Game;
 use dk_host::{Hosting, OpenedStore};
 use dk_model::Line;
 use dk_script::Script;
-use dk_turn::Blank;
+use dk_turn::TurnBuilder;
 use dk_types::{Blob, Listed};
 pub use drains::drain;
 pub use fault::PlayFault;
@@ -78,7 +78,7 @@ fn play_on_ledgers<
     ensures play { IsUnopened store.home result.home result.text ⊎ IsPlayOn W.opened workers asked script.now M.tells W.began (M.past result.home) W.first before (M.counted result.home) result.text }
     ensures opening { M.opening result.home ≡ W.opening }
 {
-    match Blank::new(alloc, workers + 1) {
+    match TurnBuilder::new(alloc, workers + 1) {
         Ok(blank) => play_on_turn::<W, Brand, G, M, T, R>(
             rt, alloc, blank, commits, places, game, script, store, workers, budget, asked, before,
             gate,

@@ -1,7 +1,7 @@
 //! One job after another.
 ghost use Rattle.std.specs.Prelude.{◌≡◌, IfOk};
 ghost use Rattle.dk_model.specs.Finishes.{KeepsLaw};
-ghost use Rattle.dk_txn.specs.Finishes.{told};
+ghost use Rattle.dk_txn.specs.Finishes.{report};
 ghost use Rattle.dk_core.specs.Cores.{IsGranted};
 ghost use Rattle.dk_workers.specs.Working.{AreReadsNow, CommitsOrGivesBack, EndsRun, RepresentsSome, Works};
 
@@ -43,7 +43,7 @@ fn run_claimed<G: Game>(
     requires standing { RepresentsSome (G.rules game.now) core.now }
     requires granted { IsGranted core.now claimed.now }
     ensures job { IfOk result (λ ran. ran.0 ≡ claimed.now.job) }
-    ensures law { IfOk result (λ ran. KeepsLaw (G.rules game.now) claimed.now.job claimed.now.run claimed.now.at ran.1.reads.items (told ran.1)) }
+    ensures law { IfOk result (λ ran. KeepsLaw (G.rules game.now) claimed.now.job claimed.now.run claimed.now.at ran.1.reads.items (report ran.1)) }
     ensures now { IfOk result (λ ran. AreReadsNow core.now.world ran.1.reads.items) }
 {
     let job = claimed.copy_job()?;

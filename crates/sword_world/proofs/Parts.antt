@@ -9,7 +9,7 @@ use Rattle.dk_types.specs.declared.fault.AppFault.{AppFault}
 use Rattle.dk_types.specs.declared.fault.AppFault.TheVariants.{Refused}
 use Rattle.dk_model.specs.Runs.{Run, Act, and_then, refuse, TOO_LONG}
 use Rattle.dk_model.specs.References.{get_as}
-use Rattle.dk_overlay.specs.Logged.{Logged}
+use Rattle.dk_overlay.specs.ReadsAndWrites.{ReadsAndWrites}
 use Rattle.dk_txn.specs.Current.{current}
 use Rattle.dk_overlay.proofs.Tests.{Some_injective}
 use Rattle.dk_txn.specs.declared.txn.Txn.{Txn}
@@ -38,34 +38,34 @@ known_as name s = refl
 
 module _ {S : Type 0} {sights : Sights S} where
   -- want of memory tells nothing
-  pub starves : {a : Txn S Logged} {A : Type 0} {f : Act A} {r : Result A Halt} → IsErrAnd r (λ h. h ≡ halt.NoMemory) → Does sights halt_fault a a f r
+  pub starves : {a : Txn S ReadsAndWrites} {A : Type 0} {f : Act A} {r : Result A Halt} → IsErrAnd r (λ h. h ≡ halt.NoMemory) → Does sights halt_fault a a f r
   starves {r = Err h} is = record { keeps = keeps_all; does = λ s t d agrees. absurd (untold (halt_fault h) (ap halt_fault is) s t) }
   starves {r = Ok x} is = absurd is
 
   -- a name that would be too long is refused
-  pub turned_away : {a : Txn S Logged} {A : Type 0} → Does sights halt_fault a a (refuse {A = A} TOO_LONG) (Err (halt.Fault (Refused TOO_LONG)))
-  turned_away {a = a} = record { keeps = keeps_all; does = λ s t d agrees. ap (λ r. (r, current a.log d)) (Some_injective _ _ t) }
+  pub turned_away : {a : Txn S ReadsAndWrites} {A : Type 0} → Does sights halt_fault a a (refuse {A = A} TOO_LONG) (Err (halt.Fault (Refused TOO_LONG)))
+  turned_away {a = a} = record { keeps = keeps_all; does = λ s t d agrees. ap (λ r. (r, current a.set d)) (Some_injective _ _ t) }
 
-  module _ {A : Type 0} (kind : ℕ) (read : List ℕ → Option A) (label : A → List ℕ) {a b : Txn S Logged} (ids : List ObjectId) (i : ℕ) (d : ObjectId) where
+  module _ {A : Type 0} (kind : ℕ) (read : List ℕ → Option A) (label : A → List ℕ) {a b : Txn S ReadsAndWrites} (ids : List ObjectId) (i : ℕ) (d : ObjectId) where
     -- what is left begins with the next object
     labels_at : (so_far : List (List ℕ)) → i < length ids → Leads sights a b (labels_from kind read label [] ids) (labels_from kind read label so_far (drop i ids))
         → Leads sights a b (labels_from kind read label [] ids) (and_then (get_as kind read (get_or ids i d)) (λ x. labels_from kind read label (so_far ++ label x ∷ []) (drop (i + 1) ids)))
     labels_at so_far h before = subst (λ l. Leads sights a b (labels_from kind read label [] ids) (labels_from kind read label so_far l)) (rest_is ids i d h) before
 
     -- one more object tells its label
-    pub labels_more : {c : Txn S Logged} (so_far more : List (List ℕ)) (x : A) → i < length ids → Does sights refusal_fault b c (get_as kind read (get_or ids i d)) (Ok x) → more ≡ so_far ++ label x ∷ []
+    pub labels_more : {c : Txn S ReadsAndWrites} (so_far more : List (List ℕ)) (x : A) → i < length ids → Does sights refusal_fault b c (get_as kind read (get_or ids i d)) (Ok x) → more ≡ so_far ++ label x ∷ []
         → Leads sights a b (labels_from kind read label [] ids) (labels_from kind read label so_far (drop i ids)) → Leads sights a c (labels_from kind read label [] ids) (labels_from kind read label more (drop (i + 1) ids))
     labels_more {c = c} so_far more x h p is before =
         subst (λ m. Leads sights a c (labels_from kind read label [] ids) (labels_from kind read label m (drop (i + 1) ids))) (sym is) (leads_then _ (labels_at so_far h before) p)
 
     -- an object that is refused ends the list
-    pub labels_halt : {c : Txn S Logged} {e : Refusal} {r : Result (List (List ℕ)) Halt} (so_far : List (List ℕ)) → i < length ids → Does sights refusal_fault b c (get_as kind read (get_or ids i d)) (Err e)
+    pub labels_halt : {c : Txn S ReadsAndWrites} {e : Refusal} {r : Result (List (List ℕ)) Halt} (so_far : List (List ℕ)) → i < length ids → Does sights refusal_fault b c (get_as kind read (get_or ids i d)) (Err e)
         → IsErrAnd r (λ h. halt_fault h ≡ refusal_fault e) → Leads sights a b (labels_from kind read label [] ids) (labels_from kind read label so_far (drop i ids)) → Does sights halt_fault a c (labels kind read label ids) r
     unfolding labels
     labels_halt so_far h p is before = leads_does (labels_at so_far h before) (halts _ p is)
 
     -- there is no memory for one more label
-    pub labels_starve : {c : Txn S Logged} {r : Result (List (List ℕ)) Halt} (so_far : List (List ℕ)) (x : A) → i < length ids → Does sights refusal_fault b c (get_as kind read (get_or ids i d)) (Ok x)
+    pub labels_starve : {c : Txn S ReadsAndWrites} {r : Result (List (List ℕ)) Halt} (so_far : List (List ℕ)) (x : A) → i < length ids → Does sights refusal_fault b c (get_as kind read (get_or ids i d)) (Ok x)
         → IsErrAnd r (λ h. h ≡ halt.NoMemory) → Leads sights a b (labels_from kind read label [] ids) (labels_from kind read label so_far (drop i ids)) → Does sights halt_fault a c (labels kind read label ids) r
     unfolding labels
     labels_starve so_far x h p is before = leads_does (leads_then _ (labels_at so_far h before) p) (starves is)

@@ -12,7 +12,7 @@ use dk_edge::{Clock, Link, Listener, Sink, Source, Spawner};
 use dk_game::Game;
 use dk_host::{Host, Hosting, OpenedStore, WorldBook};
 use dk_pump::Tally;
-use dk_turn::{Blank, Naming};
+use dk_turn::{Naming, TurnBuilder};
 use dk_workers::Gate;
 use std::alloc::{AllocGlobal, Global};
 use std::random::RandomSource;
@@ -54,7 +54,7 @@ pub(crate) fn serve_on_turn<
 >(
     rt: &R,
     alloc: Global,
-    blank: Blank<WorldBook<W>>,
+    blank: TurnBuilder<WorldBook<W>>,
     commits: ledger::Blank,
     places: ledger::Blank,
     game: &G,

@@ -12,7 +12,7 @@ use super::tallies::read_counters;
 use dk_demos::Counters;
 use dk_disk::Home;
 use dk_host::{Host, Hosting, OpenedStore, WorldBook};
-use dk_turn::{Blank, Naming, Pass};
+use dk_turn::{Naming, Pass, TurnBuilder};
 use dk_types::NoMemory;
 use dk_workers::{Gate, drain};
 use std::alloc::Global;
@@ -69,7 +69,7 @@ fn run_on_turn<
 >(
     rt: &R,
     alloc: Global,
-    blank: Blank<WorldBook<W>>,
+    blank: TurnBuilder<WorldBook<W>>,
     commits: ledger::Blank,
     places: ledger::Blank,
     game: &Counters,
@@ -147,7 +147,7 @@ fn run_on_ledgers<
     ensures commits { IfOk result (λ totals. totals.commits ≡ game.now.tasks + 1) }
     ensures counts { IfOk result (λ totals. totals.counts.items ≡ plain_counts game.now.seed game.now.tasks) }
 {
-    let Ok(blank) = Blank::new(alloc, workers + 1) else {
+    let Ok(blank) = TurnBuilder::new(alloc, workers + 1) else {
         return Err(NoMemory);
     };
     run_on_turn::<W, Brand, M, T, R>(rt, alloc, blank, commits, places, game, store, gate)

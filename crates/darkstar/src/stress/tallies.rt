@@ -17,7 +17,7 @@ use std::sync::Wait;
 const COUNTERS: u8 = 16;
 
 /// The count of an object that was answered; an absent one, and one that is no counter, counts 0.
-fn count_told(alloc: Global, answer: Answer) -> Result<u64, NoMemory>
+fn count_reported(alloc: Global, answer: Answer) -> Result<u64, NoMemory>
     ensures { IfOk result (λ count. count ≡ count_in (object_in answer)) }
 {
     let Some(object) = object_of_answer(answer) else {
@@ -46,7 +46,7 @@ fn read_counter<W: Hosting, J: Naming, M: Home, R: Wait>(
         return Ok(0);
     };
     let object = host.read(rt, pass, &Item::Object(id))?;
-    count_told(alloc, object.answer)
+    count_reported(alloc, object.answer)
 }
 
 /// The counts of all counters, in order.

@@ -1,7 +1,7 @@
 //! Commits of finished runs.
 ghost use Rattle.std.specs.Prelude.{◌≡◌, ◌+◌, ◌<◌, ◌^◌, OnOk};
 ghost use Rattle.dk_model.specs.Effects.{after};
-ghost use Rattle.dk_txn.specs.Finishes.{told};
+ghost use Rattle.dk_txn.specs.Finishes.{report};
 ghost use Rattle.dk_core.specs.StampedWorlds.{durable_of, with_room};
 ghost use Rattle.dk_core.specs.Rooms.{places_of as effects_places, HasPlaces, HasRoom, IsNoLess};
 ghost use Rattle.dk_core.specs.Publishing.{published, committed};
@@ -39,7 +39,7 @@ impl StampedWorld {
         ensures durable { durable_of self.new ≡ after (next_entry self.old run finished.effects) (durable_of self.old) }
         ensures stamps { StampsAfter self.old self.new finished.effects finished.touched.items }
         ensures claims { ClaimsAfter self.old self.new finished.effects }
-        ensures steps { CommitsSteps self.old self.new run (told finished) }
+        ensures steps { CommitsSteps self.old self.new run (report finished) }
     {
         let FinishedParts {
             effects,

@@ -3,7 +3,7 @@
 use crate::book::WorldBook;
 use crate::hosting::Hosting;
 use crate::right::CommitRight;
-use crate::steps::Told;
+use crate::steps::Call;
 use dk_core::{Claimed, PrepareRefused, Prepared};
 use dk_turn::{NotingAll, Step};
 use dk_txn::Finished;
@@ -66,7 +66,7 @@ pub(crate) struct Publish<W: Hosting> {
     pub(crate) right: CommitRight<W>,
 }
 
-impl<'a, W: Hosting> NotingAll<Told<'a, Committed, u64>, Event> for Publish<W> {
+impl<'a, W: Hosting> NotingAll<Call<'a, Committed, u64>, Event> for Publish<W> {
     ghost use Rattle.std.specs.Prelude.{[], ◌∷◌};
     ghost use Rattle.dk_types.specs.declared.event.Event.TheVariants as event;
 
@@ -110,8 +110,8 @@ impl<W: Hosting> Step<WorldBook<W>> for Publish<W> {
             seq,
             outcome,
         });
-        book.history.enter::<Told<'_, Committed, u64>, Publish<W>>(
-            &Told {
+        book.history.enter::<Call<'_, Committed, u64>, Publish<W>>(
+            &Call {
                 pass,
                 ask: &committed,
                 reply: &seq,

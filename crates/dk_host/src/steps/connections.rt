@@ -5,7 +5,7 @@ use crate::hosting::Hosting;
 use crate::keeping::{
     connect_event, hand_event, kept_input, kept_messages, kept_name, post_event, room_for_post,
 };
-use crate::steps::Told;
+use crate::steps::Call;
 use dk_core::{ConnectRefused, Handed, PostRefused};
 use dk_turn::{NotingAll, Step};
 use dk_types::{ConnNo, Event, Input, Name, NoMemory};
@@ -17,7 +17,7 @@ pub(crate) struct Connect<'a> {
     pub(crate) name: &'a Name,
 }
 
-impl<'a, 'b> NotingAll<Told<'b, Name, Result<ConnNo, ConnectRefused>>, Event> for Connect<'a> {
+impl<'a, 'b> NotingAll<Call<'b, Name, Result<ConnNo, ConnectRefused>>, Event> for Connect<'a> {
     ghost use Rattle.dk_host.specs.Calls.{connect_events};
 
     ghost entries = { λ t. connect_events t.pass t.ask.now t.reply.now };
@@ -39,8 +39,8 @@ impl<'a, W: Hosting> Step<WorldBook<W>> for Connect<'a> {
         let reply = book.core.connect(self.name);
         let event = connect_event(pass, name, &reply);
         book.history
-            .enter::<Told<'_, Name, Result<ConnNo, ConnectRefused>>, Connect<'a>>(
-                &Told {
+            .enter::<Call<'_, Name, Result<ConnNo, ConnectRefused>>, Connect<'a>>(
+                &Call {
                     pass,
                     ask: self.name,
                     reply: &reply,
@@ -68,7 +68,7 @@ pub(crate) struct Post {
     pub(crate) input: Input,
 }
 
-impl<'a> NotingAll<Told<'a, Posted, Result<(), PostRefused>>, Event> for Post {
+impl<'a> NotingAll<Call<'a, Posted, Result<(), PostRefused>>, Event> for Post {
     ghost use Rattle.dk_host.specs.Calls.{post_events};
 
     ghost entries = { λ t. post_events t.pass t.ask.now.conn t.ask.now.input.value t.reply.now };
@@ -95,8 +95,8 @@ impl<W: Hosting> Step<WorldBook<W>> for Post {
         let reply = book.core.post(conn, input);
         let event = post_event(pass, conn, copy, &reply);
         book.history
-            .enter::<Told<'_, Posted, Result<(), PostRefused>>, Post>(
-                &Told {
+            .enter::<Call<'_, Posted, Result<(), PostRefused>>, Post>(
+                &Call {
                     pass,
                     ask: &posted,
                     reply: &reply,
@@ -119,7 +119,7 @@ pub(crate) struct Hand {
     pub(crate) most: u32,
 }
 
-impl<'a> NotingAll<Told<'a, Hand, Result<Handed, NoMemory>>, Event> for Hand {
+impl<'a> NotingAll<Call<'a, Hand, Result<Handed, NoMemory>>, Event> for Hand {
     ghost use Rattle.dk_host.specs.Calls.{hand_events};
 
     ghost entries = { λ t. hand_events t.pass t.ask.now.conn t.ask.now.most t.reply.now };
@@ -140,8 +140,8 @@ impl<W: Hosting> Step<WorldBook<W>> for Hand {
         let reply = book.core.hand(self.conn, self.most);
         let event = hand_event(pass, self.conn, self.most, outs, &reply);
         book.history
-            .enter::<Told<'_, Hand, Result<Handed, NoMemory>>, Hand>(
-                &Told {
+            .enter::<Call<'_, Hand, Result<Handed, NoMemory>>, Hand>(
+                &Call {
                     pass,
                     ask: &self,
                     reply: &reply,

@@ -2,7 +2,7 @@
 
 use crate::book::WorldBook;
 use crate::hosting::Hosting;
-use crate::steps::Told;
+use crate::steps::Call;
 use dk_turn::{NotingAll, Step};
 use dk_types::{Event, Item, NoMemory, Read};
 
@@ -58,7 +58,7 @@ pub(crate) struct Tick {
     pub(crate) moment: u64,
 }
 
-impl<'a> NotingAll<Told<'a, u64, ()>, Event> for Tick {
+impl<'a> NotingAll<Call<'a, u64, ()>, Event> for Tick {
     ghost use Rattle.std.specs.Prelude.{[], ◌∷◌};
     ghost use Rattle.dk_types.specs.declared.event.Event.TheVariants as event;
 
@@ -81,8 +81,8 @@ impl<W: Hosting> Step<WorldBook<W>> for Tick {
             pass,
             moment: self.moment,
         });
-        book.history.enter::<Told<'_, u64, ()>, Tick>(
-            &Told {
+        book.history.enter::<Call<'_, u64, ()>, Tick>(
+            &Call {
                 pass,
                 ask: &self.moment,
                 reply: &(),

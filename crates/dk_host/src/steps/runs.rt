@@ -3,7 +3,7 @@
 use crate::book::WorldBook;
 use crate::hosting::Hosting;
 use crate::keeping::{claim_event, kept_job};
-use crate::steps::Told;
+use crate::steps::Call;
 use dk_core::{ClaimRefused, Claimed};
 use dk_turn::{NotingAll, Step};
 use dk_types::{Event, RunNo};
@@ -12,7 +12,7 @@ use dk_types::{Event, RunNo};
 #[derive(Drop)]
 pub(crate) struct Claim;
 
-impl<'a> NotingAll<Told<'a, (), Result<Option<Claimed>, ClaimRefused>>, Event> for Claim {
+impl<'a> NotingAll<Call<'a, (), Result<Option<Claimed>, ClaimRefused>>, Event> for Claim {
     ghost use Rattle.dk_host.specs.Calls.{claim_events};
 
     ghost entries = { λ t. claim_events t.pass t.reply.now };
@@ -33,8 +33,8 @@ impl<W: Hosting> Step<WorldBook<W>> for Claim {
         let reply = book.core.claim(pass);
         let event = claim_event(pass, job, &reply);
         book.history
-            .enter::<Told<'_, (), Result<Option<Claimed>, ClaimRefused>>, Claim>(
-                &Told {
+            .enter::<Call<'_, (), Result<Option<Claimed>, ClaimRefused>>, Claim>(
+                &Call {
                     pass,
                     ask: &(),
                     reply: &reply,
@@ -56,7 +56,7 @@ pub(crate) struct Release {
     pub(crate) claimed: Claimed,
 }
 
-impl<'a> NotingAll<Told<'a, RunNo, ()>, Event> for Release {
+impl<'a> NotingAll<Call<'a, RunNo, ()>, Event> for Release {
     ghost use Rattle.std.specs.Prelude.{[], ◌∷◌};
     ghost use Rattle.dk_types.specs.declared.event.Event.TheVariants as event;
 
@@ -79,8 +79,8 @@ impl<W: Hosting> Step<WorldBook<W>> for Release {
         let run = claimed.run();
         book.core.release(claimed);
         let event = Some(Event::Release { pass, run });
-        book.history.enter::<Told<'_, RunNo, ()>, Release>(
-            &Told {
+        book.history.enter::<Call<'_, RunNo, ()>, Release>(
+            &Call {
                 pass,
                 ask: &run,
                 reply: &(),

@@ -1,22 +1,28 @@
 //! Why a script was not played to its end.
 ghost use Rattle.std.specs.Prelude.{◌≡◌};
-ghost use Rattle.dk_workers.specs.Faults.{early_told, end_told};
+ghost use Rattle.dk_workers.specs.Faults.{early_end, main_end};
 
 use crate::worked::Worked;
 use dk_types::NoMemory;
 use std::alloc::AllocError;
+use thiserror::Error;
 
 /// Why a script was not played to its end.
-#[derive(Clone, Copy, Debug, Drop, PartialEq, Eq)]
+#[derive(Clone, Copy, Debug, Drop, PartialEq, Eq, Error)]
 pub enum PlayFault {
+    #[error("out of memory")]
     NoMemory,
     /// The home failed, and its count of faults rose.
+    #[error("disk fault")]
     DiskFault,
     /// So many runs were claimed and committed, and something can still be run.
+    #[error("the budget of {granted} claims is spent")]
     Budget { granted: u64 },
     /// The journal would have this length, which is too long.
+    #[error("the journal would have {length} bytes")]
     JournalFull { length: u64 },
     /// A number is needed, and this is the next, which is none.
+    #[error("every number is drawn, and {next} would be the next")]
     Exhausted { next: u64 },
 }
 
@@ -45,7 +51,7 @@ impl From<AllocError> for PlayFault {
 /// By which fault a play ends where this was the answer of the workers, before the main pass works: by none where nothing was
 /// left to run, or the budget was spent.
 pub(crate) fn early_fault(worked: Worked) -> Option<PlayFault>
-    ensures { result ≡ early_told worked }
+    ensures { result ≡ early_end worked }
 {
     match worked {
         Worked::Idle | Worked::Spent { .. } => None,
@@ -58,7 +64,7 @@ pub(crate) fn early_fault(worked: Worked) -> Option<PlayFault>
 
 /// What the main pass's answer is to a play: a stopped store is a fault of its disk.
 pub(crate) fn end_of(worked: Worked) -> Result<(), PlayFault>
-    ensures { result ≡ end_told worked }
+    ensures { result ≡ main_end worked }
 {
     match worked {
         Worked::Idle => Ok(()),

@@ -17,7 +17,7 @@ use dk_disk::Home;
 use dk_game::Game;
 use dk_host::{Host, Hosting, OpenedStore, WorldBook};
 use dk_model::Line;
-use dk_turn::{Blank, Naming, Pass};
+use dk_turn::{Naming, Pass, TurnBuilder};
 use dk_types::Listed;
 use std::alloc::Global;
 use std::sync::{Wait, ledger};
@@ -80,7 +80,7 @@ pub(crate) fn play_on_turn<
 >(
     rt: &R,
     alloc: Global,
-    blank: Blank<WorldBook<W>>,
+    blank: TurnBuilder<WorldBook<W>>,
     commits: ledger::Blank,
     places: ledger::Blank,
     game: &G,

@@ -3,7 +3,7 @@ ghost use Rattle.std.specs.Prelude.{◌≡◌, ◌≤◌, length, true, false, A
 ghost use Rattle.std.specs.List.Sorted.{IsNonDecreasing};
 ghost use Rattle.dk_model.specs.Phases.{phases_of};
 ghost use Rattle.dk_model.specs.Transcripts.{transcript_text};
-ghost use Rattle.dk_play_laws.specs.Told.{AreKept};
+ghost use Rattle.dk_play_laws.specs.Reported.{AreKept};
 ghost use Rattle.dk_workers.specs.declared.play.fault.PlayFault.TheVariants.{NoMemory as no_memory};
 
 use super::fault::PlayFault;

@@ -12,4 +12,4 @@ returns-clause-does g c =
     c.set_mode.ensures.same_view c.set_mode.ensures.view_stays (rw c.set_mode-before.ensures.old at c.set_mode.ensures.mode)
 
 pub returns-clause-length : goal.returns-clause-length
-returns-clause-length g c = length_moded _ c.make_channel-end.new.txn.log c.set_mode.new.self.log _ (channel_name c.args.name.now) c.set_mode.ensures.mode c.make_channel-end.ensures.length
+returns-clause-length g c = length_moded _ c.make_channel-end.new.txn.set c.set_mode.new.self.set _ (channel_name c.args.name.now) c.set_mode.ensures.mode c.make_channel-end.ensures.length

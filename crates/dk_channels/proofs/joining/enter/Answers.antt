@@ -1,6 +1,6 @@
 use Rattle.std.proofs.Common.{ap, ◌∙◌}
 use Rattle.dk_model.specs.Records.{CHANNEL_KIND, channel_of, channel_name}
-use Rattle.dk_overlay.specs.Logged.{Logged}
+use Rattle.dk_overlay.specs.ReadsAndWrites.{ReadsAndWrites}
 use Rattle.dk_txn.proofs.Kit.{then_does, stops}
 use Rattle.dk_txn.proofs.Together.{stands_later}
 use Rattle.dk_refs.proofs.Standing.{record_stands, own_record_stands}
@@ -10,7 +10,7 @@ use Rattle.dk_channels.proofs.Tellings.{under_avoids, own_avoids, join_avoids, f
 use Rattle.dk_channels.proofs.joining.enter.Goals as goal
 
 pub join_records-requires-clause-platform : goal.join_records-requires-clause-platform
-join_records-requires-clause-platform g c = ap (λ (t : Logged). t.mode) c.own_record.ensures.same_changes ∙ ap (λ (t : Logged). t.mode) c.record_of.ensures.same_changes ∙ c.requires
+join_records-requires-clause-platform g c = ap (λ (t : ReadsAndWrites). t.mode) c.own_record.ensures.same_changes ∙ ap (λ (t : ReadsAndWrites). t.mode) c.record_of.ensures.same_changes ∙ c.requires
 
 pub join_records-requires-clause-stand : goal.join_records-requires-clause-stand
 join_records-requires-clause-stand g c = (
@@ -32,7 +32,7 @@ returns-in_err-channel-clause-kind g c = first_kind c.args.name.now c.args.sessi
 
 pub returns-in_err-channel-clause-length : goal.returns-in_err-channel-clause-length
 returns-in_err-channel-clause-length g c =
-    length_of_never c.in_err-channel.ensures.does _ c.args.txn.now.log (records_after joined c.args.name.now c.args.session.now) (under_avoids c.args.name.now) c.from_residual.ensures.1
+    length_of_never c.in_err-channel.ensures.does _ c.args.txn.now.set (records_after joined c.args.name.now c.args.session.now) (under_avoids c.args.name.now) c.from_residual.ensures.1
 
 pub returns-in_err-own-clause-kind : goal.returns-in_err-own-clause-kind
 returns-in_err-own-clause-kind g c =
@@ -40,7 +40,7 @@ returns-in_err-own-clause-kind g c =
 
 pub returns-in_err-own-clause-length : goal.returns-in_err-own-clause-length
 returns-in_err-own-clause-length g c =
-    length_of_never c.in_err-own.ensures.does _ c.args.txn.now.log (records_after joined c.args.name.now c.args.session.now) (own_avoids c.args.session.now) c.from_residual-in_err-own.ensures.1
+    length_of_never c.in_err-own.ensures.does _ c.args.txn.now.set (records_after joined c.args.name.now c.args.session.now) (own_avoids c.args.session.now) c.from_residual-in_err-own.ensures.1
 
 pub returns-clause-kind : goal.returns-clause-kind
 returns-clause-kind g c = kind_never_last (kind_of_records c.args.name.now c.args.session.now) (join_avoids c.args.name.now c.args.session.now _ _) c.join_records.ensures.does

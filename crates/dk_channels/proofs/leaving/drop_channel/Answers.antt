@@ -23,10 +23,10 @@ returns-in_err-record_if_connected-clause-kind g c =
 
 pub returns-in_err-record_if_connected-clause-length : goal.returns-in_err-record_if_connected-clause-length
 returns-in_err-record_if_connected-clause-length g c =
-    length_unfound _ c.args.txn.now.log (long_record_of c.args.name.now c.args.session.now) (look_avoids c.args.session.now) c.in_err-record_if_connected.ensures.does c.from_residual.ensures.1
+    length_unfound _ c.args.txn.now.set (long_record_of c.args.name.now c.args.session.now) (look_avoids c.args.session.now) c.in_err-record_if_connected.ensures.does c.from_residual.ensures.1
 
 pub returns-in-Some-clause-kind : goal.returns-in-Some-clause-kind
-returns-in-Some-clause-kind g c = saving_kind _ _ c.args.txn.now.log (wrong_kind_of c.args.session.now) c.drop_from.ensures.does
+returns-in-Some-clause-kind g c = saving_kind _ _ c.args.txn.now.set (wrong_kind_of c.args.session.now) c.drop_from.ensures.does
 
 pub returns-in-Some-clause-length : goal.returns-in-Some-clause-length
 returns-in-Some-clause-length g c =

@@ -8,6 +8,6 @@ use Rattle.dk_channels.proofs.leaving.drop_each.Given as goal
 abbrev pub invariant-loop-member : goal.invariant-loop-member
 invariant-loop-member g l = record {
   leads : Leads g.V.View.sights l.fn.txn l.txn (drop_each l.name l.members) (drop_each l.name (drop l.member-index l.members));
-  kinds : FoundLater wrong_kind_of l.fn.txn.log l.txn.log l.members l.member-index;
-  lengths : FoundLater (long_record_of l.name) l.fn.txn.log l.txn.log l.members l.member-index;
+  kinds : FoundLater wrong_kind_of l.fn.txn.set l.txn.set l.members l.member-index;
+  lengths : FoundLater (long_record_of l.name) l.fn.txn.set l.txn.set l.members l.member-index;
 }

@@ -11,7 +11,7 @@ pub returns-in_err-channel-clause-kind : goal.returns-in_err-channel-clause-kind
 returns-in_err-channel-clause-kind g c = channel_kind _ c.args.name.now c.in_err-channel.ensures.does c.in_err-channel.ensures.kind c.from_residual.ensures.1
 
 pub returns-in_err-channel-clause-length : goal.returns-in_err-channel-clause-length
-returns-in_err-channel-clause-length g c = length_unfound _ c.args.txn.now.log (length_of_all c.args.name.now) (under_avoids c.args.name.now) c.in_err-channel.ensures.does c.from_residual.ensures.1
+returns-in_err-channel-clause-length g c = length_unfound _ c.args.txn.now.set (length_of_all c.args.name.now) (under_avoids c.args.name.now) c.in_err-channel.ensures.does c.from_residual.ensures.1
 
 pub returns-clause-does : goal.returns-clause-does
 returns-clause-does g c = then_does _ c.in_ok-channel.ensures.does c.leave_members.ensures.does

@@ -12,9 +12,9 @@ returns-clause-does g c =
     c.set_mode.ensures.same_view c.set_mode.ensures.view_stays (rw c.set_mode-before.ensures.old at c.set_mode.ensures.mode)
 
 pub returns-clause-kind : goal.returns-clause-kind
-returns-clause-kind g c = kind_moded _ c.step_out-end.new.txn.log c.set_mode.new.self.log _ (kind_of_records c.args.channel.now.name c.args.session.now) c.set_mode.ensures.mode c.step_out-end.ensures.kind
+returns-clause-kind g c = kind_moded _ c.step_out-end.new.txn.set c.set_mode.new.self.set _ (kind_of_records c.args.channel.now.name c.args.session.now) c.set_mode.ensures.mode c.step_out-end.ensures.kind
 
 pub returns-clause-length : goal.returns-clause-length
 returns-clause-length g c =
-    length_of_moded _ c.args.txn.now.log c.set_mode-before.new.self.log c.step_out-end.new.txn.log c.set_mode.new.self.log Platform _ (records_after left c.args.channel.now.name c.args.session.now)
+    length_of_moded _ c.args.txn.now.set c.set_mode-before.new.self.set c.step_out-end.new.txn.set c.set_mode.new.self.set Platform _ (records_after left c.args.channel.now.name c.args.session.now)
     c.set_mode-before.ensures.mode c.set_mode.ensures.mode c.step_out-end.ensures.length

@@ -14,16 +14,16 @@ returns-clause-does g c =
 
 pub returns-clause-kind : goal.returns-clause-kind
 returns-clause-kind g c =
-    found_moded _ c.args.txn.now.log c.set_mode-before.new.self.log c.empty_out-end.new.txn.log c.set_mode.new.self.log Platform _ refusal.WrongKind (kind_of_all c.args.channel.now.name)
+    found_moded _ c.args.txn.now.set c.set_mode-before.new.self.set c.empty_out-end.new.txn.set c.set_mode.new.self.set Platform _ refusal.WrongKind (kind_of_all c.args.channel.now.name)
     c.set_mode-before.ensures.mode c.set_mode.ensures.mode c.empty_out-end.ensures.kind
 
 pub returns-clause-length : goal.returns-clause-length
 returns-clause-length g c =
-    found_moded _ c.args.txn.now.log c.set_mode-before.new.self.log c.empty_out-end.new.txn.log c.set_mode.new.self.log Platform _ refusal.TooLong (length_of_all c.args.channel.now.name)
+    found_moded _ c.args.txn.now.set c.set_mode-before.new.self.set c.empty_out-end.new.txn.set c.set_mode.new.self.set Platform _ refusal.TooLong (length_of_all c.args.channel.now.name)
     c.set_mode-before.ensures.mode c.set_mode.ensures.mode c.empty_out-end.ensures.length
 
 pub returns-clause-never : goal.returns-clause-never
 returns-clause-never g c =
-    never_long _ c.args.txn.now.log c.set_mode.new.self.log c.args.channel.now.name
-    (found_moded _ c.args.txn.now.log c.set_mode-before.new.self.log c.empty_out-end.new.txn.log c.set_mode.new.self.log Platform _ refusal.TooLong (length_of_all c.args.channel.now.name)
+    never_long _ c.args.txn.now.set c.set_mode.new.self.set c.args.channel.now.name
+    (found_moded _ c.args.txn.now.set c.set_mode-before.new.self.set c.empty_out-end.new.txn.set c.set_mode.new.self.set Platform _ refusal.TooLong (length_of_all c.args.channel.now.name)
     c.set_mode-before.ensures.mode c.set_mode.ensures.mode c.empty_out-end.ensures.length)

@@ -16,11 +16,11 @@ returns-in_err-save-clause-does g c =
 
 pub returns-in_err-save-clause-kind : goal.returns-in_err-save-clause-kind
 returns-in_err-save-clause-kind g c =
-    kind_unfound _ c.args.txn.now.log (first_of wrong_kind_of c.args.channel.1.members) (save_avoids _ _) c.in_err-save.ensures.does c.from_residual-in_err-save.ensures.1
+    kind_unfound _ c.args.txn.now.set (first_of wrong_kind_of c.args.channel.1.members) (save_avoids _ _) c.in_err-save.ensures.does c.from_residual-in_err-save.ensures.1
 
 pub returns-in_err-save-clause-length : goal.returns-in_err-save-clause-length
 returns-in_err-save-clause-length g c channel =
-    length_unfound _ c.args.txn.now.log (first_of (long_record_of c.args.name.now) c.args.channel.1.members) (save_short_avoids _ _ (channel_short c.args.channel.1.listener c.args.channel.1.delivery))
+    length_unfound _ c.args.txn.now.set (first_of (long_record_of c.args.name.now) c.args.channel.1.members) (save_short_avoids _ _ (channel_short c.args.channel.1.listener c.args.channel.1.delivery))
     (rw c.in_ok-payload.ensures at c.in_err-save.ensures.does) c.from_residual-in_err-save.ensures.1
 
 pub returns-clause-does : goal.returns-clause-does

@@ -34,7 +34,7 @@ returns-in_err-record-clause-length g c =
     length_passes c.in_err-record.ensures.does _ c.args.body.now (length_never c.in_err-record.ensures.does c.args.body.now (under_avoids c.args.channel.now.name)) c.from_residual.ensures.1
 
 pub returns-then-is_too_long-clause-kind : goal.returns-then-is_too_long-clause-kind
-returns-then-is_too_long-clause-kind g c = long_tells c.record_of.new.txn.log (kind_under (channel_name c.args.channel.now.name)) c.too_long.result c.too_long.ensures.told
+returns-then-is_too_long-clause-kind g c = long_tells c.record_of.new.txn.set (kind_under (channel_name c.args.channel.now.name)) c.too_long.result c.too_long.ensures.told
 
 pub returns-clause-kind : goal.returns-clause-kind
 returns-clause-kind g c = kind_never_last (kind_under (channel_name c.args.channel.now.name)) (each_avoids _ _ 3 (λ e. cc)) c.send_each.ensures.does

@@ -12,10 +12,10 @@ send_all-requires-clause-short g c =
 
 pub send_all-requires-clause-room : goal.send_all-requires-clause-room
 send_all-requires-clause-room g c =
-    let fits : nat_lt MESSAGES_MOST_COUNT (length c.args.txn.now.log.outs + length c.args.members.now) ≡ false = search rules in
-    ap (λ n. nat_lt MESSAGES_MOST_COUNT (length c.args.txn.now.log.outs + n)) (ap length c.in_ok-messages.ensures ∙ letters_len (out.Channel c.args.channel.now c.args.body.now) c.args.members.now) ∙ fits
+    let fits : nat_lt MESSAGES_MOST_COUNT (length c.args.txn.now.set.outs + length c.args.members.now) ≡ false = search rules in
+    ap (λ n. nat_lt MESSAGES_MOST_COUNT (length c.args.txn.now.set.outs + n)) (ap length c.in_ok-messages.ensures ∙ letters_len (out.Channel c.args.channel.now c.args.body.now) c.args.members.now) ∙ fits
 
 pub returns-clause-does : goal.returns-clause-does
 returns-clause-does g c =
-    let fits : nat_lt MESSAGES_MOST_COUNT (length c.args.txn.now.log.outs + length c.args.members.now) ≡ false = search rules in
+    let fits : nat_lt MESSAGES_MOST_COUNT (length c.args.txn.now.set.outs + length c.args.members.now) ≡ false = search rules in
     each_does c.args.members.now (out.Channel c.args.channel.now c.args.body.now) c.in_ok-messages.messages.items c.in_ok-messages.ensures fits c.send_all.ensures.does

@@ -1,6 +1,6 @@
 use Rattle.std.proofs.Common.{◌≡◌, Some, sym, ap, subst, ◌∙◌}
 use Rattle.std.specs.List.{AllByRecursion}
-use Rattle.dk_txn.specs.Does.{failure, outcome_told}
+use Rattle.dk_txn.specs.Does.{failure, outcome_of_result}
 use Rattle.dk_txn.proofs.Laws.{none_given}
 use Rattle.dk_game.specs.Halted.{halt_fault}
 use Rattle.dk_game.proofs.Running.{job_kept, both_ok, one_ok, asked_once}
@@ -9,10 +9,10 @@ use Rattle.dk_game.proofs.run.run_job.Goals.{in-Ok, in-Err-Fault}
 
 pub returns-clause-law : goal.returns-clause-law
 returns-clause-law g c =
-    let end : outcome_told halt_fault c.work_job.result ≡ Some c.match-work_job.end =
+    let end : outcome_of_result halt_fault c.work_job.result ≡ Some c.match-work_job.end =
     elim c.match-work_job.branch [
-      | in-Ok w ↦ ap (outcome_told halt_fault) w.in-Ok.is ∙ ap Some (sym w.end-is)
-      | in-Err-Fault w ↦ ap (outcome_told halt_fault) w.in-Err-Fault.is ∙ ap (λ h. failure (halt_fault h)) w.in-Err-Fault.field-0-is ∙ ap Some (sym w.end-is)
+      | in-Ok w ↦ ap (outcome_of_result halt_fault) w.in-Ok.is ∙ ap Some (sym w.end-is)
+      | in-Err-Fault w ↦ ap (outcome_of_result halt_fault) w.in-Err-Fault.is ∙ ap (λ h. failure (halt_fault h)) w.in-Err-Fault.field-0-is ∙ ap Some (sym w.end-is)
     ] in
     both_ok c.end.result c.end.ensures.reads c.end.ensures.told
     (λ f reads tells. job_kept _ _ c.match-work_job.end f c.requires.begun c.work_job.ensures.does (c.work_job.ensures.asked c.requires.begun) c.requires.fits end reads tells)

@@ -13,4 +13,4 @@ returns-clause-does g c =
     c.set_mode.ensures.same_view c.set_mode.ensures.view_stays (rw c.set_mode-before.ensures.old at c.set_mode.ensures.mode)
 
 pub returns-clause-kind : goal.returns-clause-kind
-returns-clause-kind g c = kind_moded _ c.take_record-end.new.txn.log c.set_mode.new.self.log _ (kind_under (session_name c.args.session.now.name)) c.set_mode.ensures.mode c.take_record-end.ensures.kind
+returns-clause-kind g c = kind_moded _ c.take_record-end.new.txn.set c.set_mode.new.self.set _ (kind_under (session_name c.args.session.now.name)) c.set_mode.ensures.mode c.take_record-end.ensures.kind

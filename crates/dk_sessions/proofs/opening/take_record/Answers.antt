@@ -1,5 +1,5 @@
 use Rattle.std.proofs.Common.{ap, ◌∙◌}
-use Rattle.dk_overlay.specs.Logged.{Logged}
+use Rattle.dk_overlay.specs.ReadsAndWrites.{ReadsAndWrites}
 use Rattle.dk_txn.proofs.Kit.{stops}
 use Rattle.dk_sessions.proofs.Openings.{take_long, take_does}
 use Rattle.dk_model.specs.Records.{session_name}
@@ -9,7 +9,7 @@ use Rattle.dk_refs.proofs.Tellings.{kind_never_last, long_tells, then_avoids, un
 use Rattle.dk_sessions.proofs.opening.take_record.Goals as goal
 
 pub unbind_and_remove-requires-clause-platform : goal.unbind_and_remove-requires-clause-platform
-unbind_and_remove-requires-clause-platform g c = ap (λ (t : Logged). t.mode) c.own_record.ensures.same_changes ∙ c.requires
+unbind_and_remove-requires-clause-platform g c = ap (λ (t : ReadsAndWrites). t.mode) c.own_record.ensures.same_changes ∙ c.requires
 
 pub unbind_and_remove-requires-clause-stands : goal.unbind_and_remove-requires-clause-stands
 unbind_and_remove-requires-clause-stands g c = rw c.id.ensures (own_record_stands c.args.session.now _ c.in_ok-found.ensures.does)
@@ -26,7 +26,7 @@ returns-clause-does g c =
     take_does c.args.session.now c.in_ok-found.ensures.does c.in-Some.key key.0 (rw c.id.ensures at c.unbind_and_remove.ensures.does)
 
 pub returns-in-None-clause-kind : goal.returns-in-None-clause-kind
-returns-in-None-clause-kind g c = long_tells c.own_record.new.txn.log (kind_under (session_name c.args.session.now.name)) c.too_long.result c.too_long.ensures.told
+returns-in-None-clause-kind g c = long_tells c.own_record.new.txn.set (kind_under (session_name c.args.session.now.name)) c.too_long.result c.too_long.ensures.told
 
 pub returns-clause-kind : goal.returns-clause-kind
 returns-clause-kind g c =

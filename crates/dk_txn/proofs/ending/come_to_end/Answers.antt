@@ -9,12 +9,12 @@ use Rattle.dk_txn.proofs.ending.come_to_end.Goals as goal
 pub returns-then-is_too_large-clause-told : goal.returns-then-is_too_large-clause-told
 returns-then-is_too_large-clause-told c =
     let large = sym (ap (λ e. nat_lt EFFECTS_MOST_BYTES (effects_length e)) c.in_ok-effects.ensures) ∙ sym c.is_too_large.ensures ∙ c.if-is_too_large.true in
-    if_ok c.fail.result c.fail.ensures.told (λ f tells. tells_large c.args.log c.args.job.now f large tells)
+    if_ok c.fail.result c.fail.ensures.told (λ f tells. tells_large c.args.set c.args.job.now f large tells)
 
 pub returns-clause-told : goal.returns-clause-told
 returns-clause-told c =
     let small = sym (ap (λ e. nat_lt EFFECTS_MOST_BYTES (effects_length e)) c.in_ok-effects.ensures) ∙ sym c.is_too_large.ensures ∙ c.if-is_too_large.false in
-    tells_done c.args.log c.args.job.now
+    tells_done c.args.set c.args.job.now
     (record { reads = c.into_parts-parts.result.reads; effects = c.in_ok-effects.effects; outs = c.into_parts-parts.result.outs; outcome = outcome.Ok; touched = c.into_parts-parts.result.touched })
     small refl c.in_ok-effects.ensures c.into_parts-parts.ensures.touched c.into_parts-parts.ensures.outs
 

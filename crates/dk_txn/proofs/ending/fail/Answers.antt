@@ -6,7 +6,7 @@ use Rattle.dk_txn.proofs.ending.fail.Goals as goal
 
 pub returns-clause-told : goal.returns-clause-told
 returns-clause-told c =
-    tells_failed c.args.log c.args.job.now c.args.fault c.in_ok-kept.kept
+    tells_failed c.args.set c.args.job.now c.args.fault c.in_ok-kept.kept
     (record { reads = c.into_parts-reads.result.reads; effects = c.in_ok-effects.effects; outs = c.in_ok-outs.outs; outcome = outcome.Fail c.args.fault; touched = c.into_parts-touched.result.touched })
     c.in_ok-kept.ensures refl c.in_ok-effects.ensures c.into_parts-touched.ensures.touched c.in_ok-outs.ensures
 

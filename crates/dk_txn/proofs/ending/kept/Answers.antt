@@ -1,5 +1,5 @@
 use Rattle.std.proofs.Common.{◌≡◌, sym, ap, subst, ◌∙◌}
-use Rattle.dk_overlay.specs.Logged.{nothing_done}
+use Rattle.dk_overlay.specs.ReadsAndWrites.{nothing_done}
 use Rattle.dk_txn.specs.Current.{passing_own}
 use Rattle.dk_txn.specs.Finishes.{IsKept}
 use Rattle.dk_txn.proofs.RunEnds.{kept_passed, kept_absent, kept_default}
@@ -8,7 +8,7 @@ use Rattle.dk_txn.proofs.ending.kept.Goals.{in-Task+then-was_pending+in_ok-pass_
 
 pub returns : goal.returns
 returns c =
-    let t = c.args.log.now in
+    let t = c.args.set.now in
     let start : c.new-kept.result ≡ nothing_done t.run t.at = c.new-kept.ensures ∙ ap (λ r. nothing_done r c.at.result) c.run.ensures ∙ ap (nothing_done t.run) c.at.ensures.is in
     elim c.match-job.branch [
       | in-Task+then-was_pending+in_ok-pass_own_task w ↦

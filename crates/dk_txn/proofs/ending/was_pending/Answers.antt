@@ -12,5 +12,5 @@ returns-in-None c = λ asked d agrees. absurd (c.in-None.ensures.none asked.0 as
 pub returns : goal.returns
 returns c = λ asked d agrees.
     sym (is_pending-answer (map.get d.tasks c.args.key))
-    ∙ ap is_pending (agrees_read d c.args.log.now.reads (ask.Task c.args.key) c.in-Some.read.now agrees c.in-Some.ensures.some)
+    ∙ ap is_pending (agrees_read d c.args.set.now.reads (ask.Task c.args.key) c.in-Some.read.now agrees c.in-Some.ensures.some)
     ∙ sym c.says_pending.ensures

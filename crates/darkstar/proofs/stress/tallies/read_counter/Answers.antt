@@ -23,7 +23,7 @@ returns g c =
     let first = reads_one o n (IsNamedIn number named) old mid c.in_ok-bound.ensures.number c.in_ok-bound.ensures.entered c.in_ok-bound.ensures.named
     (c.in_ok-bound.ensures.read.answered ∙ ap (λ (name : List ℕ). answer (world_after o mid.front).durable (ask.Bound name)) c.in_ok-name.ensures) in
     let second = reads_one o n (IsObjectIn id found) mid new c.in_ok-object.ensures.number c.in_ok-object.ensures.entered c.in_ok-object.ensures.named c.in_ok-object.ensures.read.answered in
-    IfOk-weaker c.count_told.result (λ count. count ≡ count_in (object_in found)) (λ count. ReadsCounter o n number old new count)
+    IfOk-weaker c.count_reported.result (λ count. count ≡ count_in (object_in found)) (λ count. ReadsCounter o n number old new count)
     (λ count told. reads_then o n (IsNamedIn number named) (IsObjectIn id found) (λ d. IsCountIn d number count) old mid new
     (λ d is at. named_count d number count id named found (sym c.says_named.ensures ∙ c.in-Some.is) told is at) first second)
-    c.count_told.ensures
+    c.count_reported.ensures

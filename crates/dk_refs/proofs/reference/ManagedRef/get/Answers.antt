@@ -10,7 +10,7 @@ returns-in_err-object-clause-does g c = get_stops c.args.self.now g.T.Managed.KI
 
 pub returns-in_err-object-clause-kind : goal.returns-in_err-object-clause-kind
 returns-in_err-object-clause-kind g c =
-    passed (TellsKind c.get.new.self.log c.args.self.now) _ _ c.from_residual.ensures.1 (get_tells c.args.self.now (rw c.self.view_is at c.in_err-object.ensures.does))
+    passed (TellsKind c.get.new.self.set c.args.self.now) _ _ c.from_residual.ensures.1 (get_tells c.args.self.now (rw c.self.view_is at c.in_err-object.ensures.does))
 
 pub returns-then-object-KIND-clause-does : goal.returns-then-object-KIND-clause-does
 returns-then-object-KIND-clause-does g c =

@@ -12,7 +12,7 @@ returns-in_err-mark-clause-does g c =
 
 pub returns-in_err-mark-clause-kind : goal.returns-in_err-mark-clause-kind
 returns-in_err-mark-clause-kind g c =
-    passed (TellsKind c.mark.new.self.log c.args.self.now) _ _ c.from_residual-in_err-mark.ensures.1 (mark_tells c.args.self.now (rw c.self.view_is at c.in_err-mark.ensures.does))
+    passed (TellsKind c.mark.new.self.set c.args.self.now) _ _ c.from_residual-in_err-mark.ensures.1 (mark_tells c.args.self.now (rw c.self.view_is at c.in_err-mark.ensures.does))
 
 pub returns-clause-does : goal.returns-clause-does
 returns-clause-does g c = update_does c.args.self.now g.T.Managed.KIND g.T.Managed.of c.in_ok-value.ensures.does (rw c.self.view_is at c.in_ok-mark.ensures.does)

@@ -10,7 +10,7 @@ returns-in_err-before-clause-does g c = save_stops c.args.self.now g.T.Managed.K
 
 pub returns-in_err-before-clause-kind : goal.returns-in_err-before-clause-kind
 returns-in_err-before-clause-kind g c =
-    passed (TellsKind c.get.new.self.log c.args.self.now) _ _ c.from_residual.ensures.1 (get_tells c.args.self.now (rw c.self.view_is at c.in_err-before.ensures.does))
+    passed (TellsKind c.get.new.self.set c.args.self.now) _ _ c.from_residual.ensures.1 (get_tells c.args.self.now (rw c.self.view_is at c.in_err-before.ensures.does))
 
 pub returns-in_err-before-clause-length : goal.returns-in_err-before-clause-length
 returns-in_err-before-clause-length g c =

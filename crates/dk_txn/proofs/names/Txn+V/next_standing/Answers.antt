@@ -3,7 +3,7 @@ use Rattle.std.specs.FinMap.{entries}
 use Rattle.std.specs.Option.{option_copied}
 use Rattle.dk_types.specs.declared.item.Item.TheVariants as item
 use Rattle.dk_model.specs.DurableWorlds.{DurableWorld, Agrees, answer}
-use Rattle.dk_overlay.specs.Logged.{Logged}
+use Rattle.dk_overlay.specs.ReadsAndWrites.{ReadsAndWrites}
 use Rattle.dk_txn.specs.Asks.{Asks}
 use Rattle.dk_txn.proofs.NextNames.{names_above, passed_start, passed_asked, passed_none, passed_some, passed_on, fewer_left}
 use Rattle.dk_txn.proofs.names.Txn+V.next_standing.Goals as goal
@@ -15,7 +15,7 @@ names-init g c = passed_start (option_copied c.args.after) c.in_ok-cursor.cursor
 pub returns-in-None-clause-next : goal.returns-in-None-clause-next
 returns-in-None-clause-next g c =
     passed_none (passed_asked c.names.invariant c.ask.ensures.keeps c.ask.ensures.same_changes (subst (λ x. Asks (item.NextAfter x) g.V.View.sights c.names.self c.ask.new.self) c.in_ok-copy_name.ensures c.ask.ensures.asks)) c.in_ok-said.said
-    (subst (λ x. (d : DurableWorld) → Agrees d c.ask.new.self.log.reads → answer d (item.NextAfter x) ≡ c.in_ok-said.said) c.in_ok-copy_name.ensures c.in_ok-said.ensures.answers) c.in-None.ensures
+    (subst (λ x. (d : DurableWorld) → Agrees d c.ask.new.self.set.reads → answer d (item.NextAfter x) ≡ c.in_ok-said.said) c.in_ok-copy_name.ensures c.in_ok-said.ensures.answers) c.in-None.ensures
 
 pub returns-then-not-is_above-clause-keeps : goal.returns-then-not-is_above-clause-keeps
 returns-then-not-is_above-clause-keeps g c = (passed_asked c.names.invariant c.ask.ensures.keeps c.ask.ensures.same_changes (subst (λ x. Asks (item.NextAfter x) g.V.View.sights c.names.self c.ask.new.self) c.in_ok-copy_name.ensures c.ask.ensures.asks)).keeps
@@ -23,7 +23,7 @@ returns-then-not-is_above-clause-keeps g c = (passed_asked c.names.invariant c.a
 pub returns-then-not-is_above-clause-next : goal.returns-then-not-is_above-clause-next
 returns-then-not-is_above-clause-next g c =
     passed_some (passed_asked c.names.invariant c.ask.ensures.keeps c.ask.ensures.same_changes (subst (λ x. Asks (item.NextAfter x) g.V.View.sights c.names.self c.ask.new.self) c.in_ok-copy_name.ensures c.ask.ensures.asks)) c.in_ok-said.said
-    (subst (λ x. (d : DurableWorld) → Agrees d c.ask.new.self.log.reads → answer d (item.NextAfter x) ≡ c.in_ok-said.said) c.in_ok-copy_name.ensures c.in_ok-said.ensures.answers)
+    (subst (λ x. (d : DurableWorld) → Agrees d c.ask.new.self.set.reads → answer d (item.NextAfter x) ≡ c.in_ok-said.said) c.in_ok-copy_name.ensures c.in_ok-said.ensures.answers)
     c.in-Some.name c.in-Some.ensures
     (elim c.then-not-is_above.branch [
       | then-not-is_above-via-then-not-is_above w ↦ inl (sym c.is_above.ensures ∙ w.if-not-is_above.true)
@@ -34,15 +34,15 @@ pub names-smaller : goal.names-smaller
 names-smaller g c =
     let n = c.in-Some.name in
     let there : is_some c.name.result ≡ true = search rules in
-    let names : c.ask.new.self.log.names ≡ c.names.self.log.names = ap (λ (t : Logged). t.names) c.ask.ensures.same_changes in
-    subst (λ m. names_above (Some n) (entries c.ask.new.self.log.names) < names_above c.names.cursor (entries m)) names
-    (fewer_left c.ask.new.self.log.names c.names.cursor n (sym c.is_above.ensures ∙ c.if-not-is_above.false) (ap is_some (sym c.name.ensures) ∙ there))
+    let names : c.ask.new.self.set.names ≡ c.names.self.set.names = ap (λ (t : ReadsAndWrites). t.names) c.ask.ensures.same_changes in
+    subst (λ m. names_above (Some n) (entries c.ask.new.self.set.names) < names_above c.names.cursor (entries m)) names
+    (fewer_left c.ask.new.self.set.names c.names.cursor n (sym c.is_above.ensures ∙ c.if-not-is_above.false) (ap is_some (sym c.name.ensures) ∙ there))
 
 pub names-preserved : goal.names-preserved
 names-preserved g c =
     let there : is_some c.name.result ≡ true = search rules in
     passed_on (passed_asked c.names.invariant c.ask.ensures.keeps c.ask.ensures.same_changes (subst (λ x. Asks (item.NextAfter x) g.V.View.sights c.names.self c.ask.new.self) c.in_ok-copy_name.ensures c.ask.ensures.asks)) c.in_ok-said.said
-    (subst (λ x. (d : DurableWorld) → Agrees d c.ask.new.self.log.reads → answer d (item.NextAfter x) ≡ c.in_ok-said.said) c.in_ok-copy_name.ensures c.in_ok-said.ensures.answers)
+    (subst (λ x. (d : DurableWorld) → Agrees d c.ask.new.self.set.reads → answer d (item.NextAfter x) ≡ c.in_ok-said.said) c.in_ok-copy_name.ensures c.in_ok-said.ensures.answers)
     c.in-Some.name c.in-Some.ensures (ap is_some (sym c.name.ensures) ∙ there)
 
 pub returns-in_err-said-clause-keeps : goal.returns-in_err-said-clause-keeps

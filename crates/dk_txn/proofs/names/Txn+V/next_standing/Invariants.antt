@@ -7,4 +7,4 @@ abbrev pub invariant-names : goal.invariant-names
 invariant-names g l = Passed g.V.View.sights l.fn.self l.self (option_copied l.fn.after) l.cursor
 
 abbrev pub decreases-names : goal.decreases-names
-decreases-names g l = names_above l.cursor (entries l.self.log.names)
+decreases-names g l = names_above l.cursor (entries l.self.set.names)

@@ -1,6 +1,6 @@
 use Rattle.std.proofs.Common.{◌≡◌, true, false, is_some, inl, inr, refl, ap, ◌∙◌, rules}
 use Rattle.dk_model.specs.Runs as act
-use Rattle.dk_overlay.specs.Logged.{Logged}
+use Rattle.dk_overlay.specs.ReadsAndWrites.{ReadsAndWrites}
 use Rattle.dk_txn.proofs.Asking.{asks_then, asks_weaker, asks_changed}
 use Rattle.dk_txn.proofs.Kit.{stop_does, keeps_then, same_error}
 use Rattle.dk_txn.proofs.NameCalls.{unbind_refused}
@@ -17,7 +17,7 @@ returns-in_err-object-clause-does g c =
     let k = c.known_name.ensures.keeps in
     let l = c.changeable.ensures.keeps in
     let later = stands_later c.args.id l c.changeable.ensures.same_changes (stands_later c.args.id k c.known_name.ensures.same_changes c.requires.stands) in
-    let mode = ap (λ (t : Logged). t.mode) c.changeable.ensures.same_changes ∙ ap (λ (t : Logged). t.mode) c.known_name.ensures.same_changes ∙ c.requires.platform in
+    let mode = ap (λ (t : ReadsAndWrites). t.mode) c.changeable.ensures.same_changes ∙ ap (λ (t : ReadsAndWrites). t.mode) c.known_name.ensures.same_changes ∙ c.requires.platform in
     same_error (never_comes (keeps_then k l) (never_refused _ c.args.id _ later mode c.in_err-object.ensures.err)) c.from_residual-in_err-object.ensures.1
 
 pub returns-clause-does : goal.returns-clause-does
@@ -39,7 +39,7 @@ pub returns-in_err-object-clause-asks : goal.returns-in_err-object-clause-asks
 returns-in_err-object-clause-asks g c = asks_then (asks_weaker (λ q is. inl is) c.known_name.ensures.asks) (asks_weaker (λ q is. inr is) c.changeable.ensures.asks)
 
 pub returns-in_err-change_named-clause-asks : goal.returns-in_err-change_named-clause-asks
-returns-in_err-change_named-clause-asks g c = asks_changed c.change_named.new.self (asks_then (asks_weaker (λ q is. inl is) c.known_name.ensures.asks) (asks_weaker (λ q is. inr is) c.changeable.ensures.asks)) (ap (λ (t : Logged). t.reads) c.in_err-change_named.ensures.err)
+returns-in_err-change_named-clause-asks g c = asks_changed c.change_named.new.self (asks_then (asks_weaker (λ q is. inl is) c.known_name.ensures.asks) (asks_weaker (λ q is. inr is) c.changeable.ensures.asks)) (ap (λ (t : ReadsAndWrites). t.reads) c.in_err-change_named.ensures.err)
 
 pub returns-clause-asks : goal.returns-clause-asks
-returns-clause-asks g c = asks_changed c.change_named.new.self (asks_then (asks_weaker (λ q is. inl is) c.known_name.ensures.asks) (asks_weaker (λ q is. inr is) c.changeable.ensures.asks)) (ap (λ (t : Logged). t.reads) c.in_ok-change_named.ensures.ok)
+returns-clause-asks g c = asks_changed c.change_named.new.self (asks_then (asks_weaker (λ q is. inl is) c.known_name.ensures.asks) (asks_weaker (λ q is. inr is) c.changeable.ensures.asks)) (ap (λ (t : ReadsAndWrites). t.reads) c.in_ok-change_named.ensures.ok)

@@ -1,5 +1,5 @@
 use Rattle.std.proofs.Common.{take}
-use Rattle.dk_play_laws.specs.Told.{AreKept}
+use Rattle.dk_play_laws.specs.Reported.{AreKept}
 use Rattle.dk_workers.proofs.play.text.has_release.Given as goal
 
 -- none of them so far

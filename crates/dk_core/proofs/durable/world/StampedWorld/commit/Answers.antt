@@ -1,5 +1,5 @@
 use Rattle.std.proofs.Common.{◌≡◌, ap, ◌∙◌}
-use Rattle.dk_model.specs.Finishes.{Told}
+use Rattle.dk_model.specs.Finishes.{Report}
 use Rattle.dk_core.specs.StampedWorlds.{with_room}
 use Rattle.dk_core.specs.Publishing.{committed}
 use Rattle.dk_core.proofs.AfterCommit.{left_by, durable_left, stamps_left, claims_left, comes_to}
@@ -21,5 +21,5 @@ returns-clause-claims c = claims_left c.args.self.now c.publish.new.self c.args.
 
 pub returns-clause-steps : goal.returns-clause-steps
 returns-clause-steps c s from told =
-    comes_to c.args.self.now c.publish.new.self c.args.run s from c.args.finished.effects c.args.finished.touched.items (ap (λ (t : Told). t.effects) told) (ap (λ (t : Told). t.touched) told)
+    comes_to c.args.self.now c.publish.new.self c.args.run s from c.args.finished.effects c.args.finished.touched.items (ap (λ (t : Report). t.effects) told) (ap (λ (t : Report). t.touched) told)
     (returns-clause-durable c) (returns-clause-stamps c) (returns-clause-claims c)

@@ -9,7 +9,7 @@ ghost use Rattle.dk_overlay.specs.Binding.{is_bound_after};
 ghost use Rattle.dk_overlay.specs.Changes.{settled};
 ghost use Rattle.dk_overlay.specs.NetChanges.{net_changes};
 ghost use Rattle.dk_overlay.specs.Least.{Least};
-ghost use Rattle.dk_overlay.specs.Logged.{nothing_done, reading, new_id, creating, changing_object, changing_name, new_key, scheduling, removing_task, moving_task, sending};
+ghost use Rattle.dk_overlay.specs.ReadsAndWrites.{nothing_done, reading, new_id, creating, changing_object, changing_name, new_key, scheduling, removing_task, moving_task, sending};
 
 use crate::change::{Change, Scheduled};
 use crate::names::NameChanges;
@@ -24,7 +24,7 @@ use std::alloc::Global;
 use std::marker::Model;
 
 /// What a run has read and changed so far. Each call that is refused changes nothing.
-pub struct Log {
+pub struct ReadWriteSet {
     reads: Reads,
     objects: ObjectChanges,
     names: NameChanges,
@@ -39,9 +39,9 @@ pub struct Log {
     alloc: Global,
 }
 
-impl Drop for Log {
+impl Drop for ReadWriteSet {
     fn drop(self) {
-        let Log {
+        let ReadWriteSet {
             reads: _,
             objects: _,
             names: _,
@@ -58,18 +58,18 @@ impl Drop for Log {
     }
 }
 
-impl Model for Log {
+impl Model for ReadWriteSet {
     ghost use Rattle.std.specs.Prelude.{◌≤◌};
     ghost use Rattle.dk_types.specs.contracts.item.Item as item;
     ghost use Rattle.dk_types.specs.contracts.item.Read as read;
     ghost use Rattle.dk_types.specs.contracts.job.Out as out;
     ghost use Rattle.dk_types.specs.declared.limits.TheConstants.{MOMENT_MOST_MS};
-    ghost use Rattle.dk_overlay.specs.Logged.{Logged};
-    ghost use Rattle.dk_overlay.specs.Codes.{logged_code};
+    ghost use Rattle.dk_overlay.specs.ReadsAndWrites.{ReadsAndWrites};
+    ghost use Rattle.dk_overlay.specs.Codes.{read_write_code};
 
-    ghost Value = { Logged };
+    ghost Value = { ReadsAndWrites };
 
-    ghost coded = { logged_code item.the_row.coded read.the_row.coded out.the_row.coded };
+    ghost coded = { read_write_code item.the_row.coded read.the_row.coded out.the_row.coded };
 
     ghost view = { λ a. record { reads = a.reads; objects = a.objects; names = a.names; tasks = a.tasks; touched = a.touched.items; outs = a.outs.items; run = a.run; at = a.at; objects_made = a.objects_made; tasks_made = a.tasks_made; mode = a.mode } };
 
@@ -78,19 +78,19 @@ impl Model for Log {
 
 /// What a log hands over at the end: the reads, the items written and the messages.
 #[derive(Drop)]
-pub struct LogParts {
+pub struct ReadWriteParts {
     pub reads: Vec<(Item, Read)>,
     pub touched: Vec<Item>,
     pub outs: Vec<(ConnNo, Out)>,
 }
 
-impl Log {
+impl ReadWriteSet {
     /// The log of a run that has done nothing yet, at its moment in ms.
-    pub fn new(alloc: Global, run: RunNo, at: u64) -> Log
+    pub fn new(alloc: Global, run: RunNo, at: u64) -> ReadWriteSet
         requires { at ≤ MOMENT_MOST_MS }
         ensures { result ≡ nothing_done run at }
     {
-        Log {
+        ReadWriteSet {
             reads: Reads::new(alloc),
             objects: ObjectChanges::new(alloc),
             names: NameChanges::new(alloc),
@@ -435,13 +435,13 @@ impl Log {
     }
 
     /// Hands over what does not depend on how the run ended.
-    pub fn into_parts(self) -> LogParts
+    pub fn into_parts(self) -> ReadWriteParts
         ensures reads { result.reads.items ≡ self.reads }
         ensures once { IsOnce self.reads }
         ensures touched { result.touched.items ≡ self.touched }
         ensures outs { result.outs.items ≡ self.outs }
     {
-        let Log {
+        let ReadWriteSet {
             reads,
             objects: _,
             names: _,
@@ -455,7 +455,7 @@ impl Log {
             mode: _,
             alloc: _,
         } = self;
-        LogParts {
+        ReadWriteParts {
             reads: reads.into_list(),
             touched,
             outs,

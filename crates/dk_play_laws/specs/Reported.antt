@@ -15,18 +15,18 @@ is_granted (claimed.Spent granted) = false
 is_granted (claimed.Exhausted next) = false
 
 -- whether an event is more than a claim that was granted nothing, which changes nothing and of which no line tells
-abbrev pub is_told : Event → Bool
-is_told (event.Claim pass reply) = is_granted reply
-is_told (event.Connect pass name reply) = true
-is_told (event.Post pass conn input reply) = true
-is_told (event.Release pass run) = true
-is_told (event.Commit pass run seq outcome) = true
-is_told (event.Hand pass conn most outs end) = true
-is_told (event.Tick pass moment) = true
+abbrev pub is_reported : Event → Bool
+is_reported (event.Claim pass reply) = is_granted reply
+is_reported (event.Connect pass name reply) = true
+is_reported (event.Post pass conn input reply) = true
+is_reported (event.Release pass run) = true
+is_reported (event.Commit pass run seq outcome) = true
+is_reported (event.Hand pass conn most outs end) = true
+is_reported (event.Tick pass moment) = true
 
 -- the events without the claims that were granted nothing
-abbrev pub told_of : List Event → List Event
-told_of events = filter is_told events
+abbrev pub reported_of : List Event → List Event
+reported_of events = filter is_reported events
 
 -- whether an event is a Release
 abbrev pub is_release : Event → Bool
@@ -44,4 +44,4 @@ AreKept events = AllByRecursion (λ e. is_release e ≡ false) events
 
 -- claims that were granted nothing print nothing: without them the text of a history by phases is the same
 abbrev pub SilentClaimsPrintNothing : Type 0
-SilentClaimsPrintNothing = (phases : List (List Event)) (commits tasks : ℕ) → transcript_text (map told_of phases) commits tasks ≡ transcript_text phases commits tasks
+SilentClaimsPrintNothing = (phases : List (List Event)) (commits tasks : ℕ) → transcript_text (map reported_of phases) commits tasks ≡ transcript_text phases commits tasks

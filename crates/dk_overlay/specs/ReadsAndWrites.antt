@@ -21,7 +21,7 @@ use Rattle.dk_overlay.specs.declared.change.TaskChange.TheVariants.{Added}
 use Rattle.dk_overlay.specs.Changes.{removing, moving}
 
 -- what a run has read, changed and sent so far
-pub record Logged : Type 0 where
+pub record ReadsAndWrites : Type 0 where
   -- in the order in which they were first made
   pub reads : List (Item × Read)
   pub objects : map.FinMap id_cmp (Change Object)
@@ -36,7 +36,7 @@ pub record Logged : Type 0 where
   pub mode : Mode
 
 -- the log of a run at its start
-abbrev pub nothing_done : RunNo → ℕ → Logged
+abbrev pub nothing_done : RunNo → ℕ → ReadsAndWrites
 nothing_done run at = record {
   reads = [];
   objects = map.empty;
@@ -52,45 +52,45 @@ nothing_done run at = record {
 }
 
 -- one more read
-abbrev pub reading : Logged → Item → Read → Logged
+abbrev pub reading : ReadsAndWrites → Item → Read → ReadsAndWrites
 reading t item read = record t { reads = t.reads ++ (item, read) ∷ [] }
 
 -- one more change of an object, which is listed as written
-abbrev pub changing_object : Logged → ObjectId → Change Object → Logged
+abbrev pub changing_object : ReadsAndWrites → ObjectId → Change Object → ReadsAndWrites
 changing_object t id change = record t { objects = map.insert t.objects id change; touched = t.touched ++ ask.Object id ∷ [] }
 
 -- the id of the next object that the run makes
-abbrev pub new_id : Logged → ObjectId
+abbrev pub new_id : ReadsAndWrites → ObjectId
 new_id t = record { run = t.run; k = t.objects_made }
 
 -- one more object
-abbrev pub creating : Logged → Object → Logged
+abbrev pub creating : ReadsAndWrites → Object → ReadsAndWrites
 creating t object = changing_object (record t { objects_made = t.objects_made + 1 }) (new_id t) (record { before = None; after = Some object })
 
 -- one more change of a name, which is listed as written
-abbrev pub changing_name : Logged → List ℕ → Change ObjectId → Logged
+abbrev pub changing_name : ReadsAndWrites → List ℕ → Change ObjectId → ReadsAndWrites
 changing_name t name change = record t { names = map.insert t.names name change; touched = t.touched ++ ask.Bound name ∷ [] }
 
 -- one more change of a task, which is listed as written
-abbrev pub changing_task : Logged → TaskKey → TaskChange → Logged
+abbrev pub changing_task : ReadsAndWrites → TaskKey → TaskChange → ReadsAndWrites
 changing_task t key change = record t { tasks = map.insert t.tasks key change; touched = t.touched ++ ask.Task key ∷ [] }
 
 -- the key of the next task that the run schedules
-abbrev pub new_key : Logged → TaskKey
+abbrev pub new_key : ReadsAndWrites → TaskKey
 new_key t = record { run = t.run; k = t.tasks_made }
 
 -- one more task
-abbrev pub scheduling : Logged → Scheduled → Logged
+abbrev pub scheduling : ReadsAndWrites → Scheduled → ReadsAndWrites
 scheduling t task = changing_task (record t { tasks_made = t.tasks_made + 1 }) (new_key t) (Added task)
 
 -- a task taken away
-abbrev pub removing_task : Logged → TaskKey → Logged
+abbrev pub removing_task : ReadsAndWrites → TaskKey → ReadsAndWrites
 removing_task t key = changing_task t key (removing (map.get t.tasks key))
 
 -- a task with another due moment, which is not listed as written; `from` is the one before the run
-abbrev pub moving_task : Logged → TaskKey → ℕ → ℕ → Logged
+abbrev pub moving_task : ReadsAndWrites → TaskKey → ℕ → ℕ → ReadsAndWrites
 moving_task t key from to = record t { tasks = map.insert t.tasks key (moving (map.get t.tasks key) from to) }
 
 -- one more message
-abbrev pub sending : Logged → ConnNo → Out → Logged
+abbrev pub sending : ReadsAndWrites → ConnNo → Out → ReadsAndWrites
 sending t to out = record t { outs = t.outs ++ (to, out) ∷ [] }

@@ -1,7 +1,0 @@
-use Rattle.std.proofs.Common.{IfOk, IfNone, subst}
-use Rattle.dk_overlay.specs.Asked.{WasNotRead}
-use Rattle.dk_overlay.specs.Logged.{Logged}
-use Rattle.dk_overlay.proofs.log.Log.answer.Goals as goal
-
-pub returns-clause-none : goal.returns-clause-none
-returns-clause-none c = subst (λ (t : Logged). IfOk c.answer.result (λ o. IfNone o (WasNotRead t.reads c.args.item.now))) c.self.view_is c.answer.ensures.none

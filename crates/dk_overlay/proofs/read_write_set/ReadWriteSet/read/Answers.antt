@@ -1,0 +1,7 @@
+use Rattle.std.proofs.Common.{IfNone, subst}
+use Rattle.dk_overlay.specs.Asked.{WasNotRead}
+use Rattle.dk_overlay.specs.ReadsAndWrites.{ReadsAndWrites}
+use Rattle.dk_overlay.proofs.read_write_set.ReadWriteSet.read.Goals as goal
+
+pub returns-clause-none : goal.returns-clause-none
+returns-clause-none c = subst (λ (t : ReadsAndWrites). IfNone c.get.result (WasNotRead t.reads c.args.item.now)) c.self.view_is c.get.ensures.none
