@@ -32,7 +32,7 @@ use Rattle.darkstar.specs.declared.serve.verdict.ServeFault.TheVariants as fault
 use Rattle.darkstar.specs.Ends.{status_of_opening}
 use Rattle.darkstar.specs.Reports.{Holds, bytes_of}
 use Rattle.darkstar.specs.Runs.{IsOpenable, IsPlayEnd, Keeps, Passage, PlayTerms, opened_with, passage}
-use Rattle.darkstar.specs.Served.{HasWorkCause, IsAllServed, IsBoundAt, IsOutcome, IsServedOn, IsSoundDrain, HasCause, IsUnserved, links_of}
+use Rattle.darkstar.specs.Served.{HasWorkCause, IsAllServed, IsBoundAt, IsOutcome, IsServedOn, IsSoundDrain, IsCauseOfFault, IsUnserved, links_of}
 use Rattle.darkstar.specs.Serves.{HasServedAll, IsServeEnd, IsServedOrEnd, IsServedOrLimit, status_of_serving}
 use Rattle.darkstar.proofs.PlayAfter.{end_before, openable_before}
 use Rattle.darkstar.proofs.PlayEnds.{keeps_none}
@@ -105,7 +105,7 @@ module _ {H : Type 0} (past : H → DiskHistory) (counted : H → ℕ) (terms : 
   openable told = (ours told, (world_of durable, held told))
 
   -- a fault other than want of memory is told of a server that was run
-  reported_of : (f : ServeFault) → (f ≡ fault.NoMemory → ⊥) → HasServed (Err f) → HasCause before (counted home) net net' crews crews' f
+  reported_of : (f : ServeFault) → (f ≡ fault.NoMemory → ⊥) → HasServed (Err f) → IsCauseOfFault before (counted home) net net' crews crews' f
   reported_of f other has = ⊎_elim (λ (u : IsUnserved store home served (Err f)). absurd (other (never f u.want))) (λ p. p.cause) has
 
   -- why the program ends so

@@ -53,12 +53,12 @@ links_of None = 0
 links_of (Some most) = most
 
 -- why a server came to an end: the count of the device rose, the journal is full, or the numbers have come to their end
-abbrev pub HasCause : ℕ → ℕ → ℕ → ℕ → ℕ → ℕ → ServeFault → Type 0
-HasCause disk disk' net net' crews crews' fault.NoMemory = Unit {0}
-HasCause disk disk' net net' crews crews' fault.DiskFault = HasRisen disk disk'
-HasCause disk disk' net net' crews crews' (fault.JournalFull length) = 2 ^ 40 < length
-HasCause disk disk' net net' crews crews' fault.NetFault = HasRisen net net' ⊎ HasRisen crews crews'
-HasCause disk disk' net net' crews crews' (fault.Exhausted next) = next ≡ NUMBERS_END
+abbrev pub IsCauseOfFault : ℕ → ℕ → ℕ → ℕ → ℕ → ℕ → ServeFault → Type 0
+IsCauseOfFault disk disk' net net' crews crews' fault.NoMemory = Unit {0}
+IsCauseOfFault disk disk' net net' crews crews' fault.DiskFault = HasRisen disk disk'
+IsCauseOfFault disk disk' net net' crews crews' (fault.JournalFull length) = 2 ^ 40 < length
+IsCauseOfFault disk disk' net net' crews crews' fault.NetFault = HasRisen net net' ⊎ HasRisen crews crews'
+IsCauseOfFault disk disk' net net' crews crews' (fault.Exhausted next) = next ≡ NUMBERS_END
 
 -- all links that the listener gave were served, and they are as many as there were to be; or it said that no more come
 pub record IsAllServed (first most served : ℕ) (now : Listening) : Type 0 where
@@ -72,7 +72,7 @@ IsBoundAt port now = now.binding ≡ Bound port
 -- what the first fault of a server is to who asked for it: it is told as it is, one of a device where its count rose; without a fault and on a store that was not stopped all is well
 abbrev pub IsOutcome : Option ServeFault → Option ℕ → ℕ → ℕ → ℕ → ℕ → ℕ → ℕ → Result (Unit {0}) ServeFault → Type 0
 IsOutcome first stopped disk disk' net net' crews crews' (Ok done) = (first ≡ None) × (stopped ≡ None)
-IsOutcome first stopped disk disk' net net' crews crews' (Err told) = HasCause disk disk' net net' crews crews' told
+IsOutcome first stopped disk disk' net net' crews crews' (Err told) = IsCauseOfFault disk disk' net net' crews crews' told
 
 -- A SERVER ON A STORE: its one history is legal, and what a stop leaves at each moment is a beginning of it or all of it and its tail. Where all is well the listener was bound to the port,
 -- each link that it gave was served, and they are as many as there were to be, or it said that no more come; and the store was not stopped. Else there is a cause
@@ -86,7 +86,7 @@ pub record IsServedOn (o : Opened) (tells : Bool) (began past : DiskHistory) (be
   pub bound : IfOk outcome (λ done. IsBoundAt port new)
   pub all : IfOk outcome (λ done. IsAllServed old.given most served new)
   pub whole : IfOk outcome (λ done. faults ≡ None)
-  pub cause : IfErr outcome (HasCause before after net net' crews crews')
+  pub cause : IfErr outcome (IsCauseOfFault before after net net' crews crews')
 
 -- or there was no memory to open the host, and the home is as it was
 pub record IsUnserved {H : Type 0} (before after : H) (served : ℕ) (outcome : Result (Unit {0}) ServeFault) : Type 0 where

@@ -2,7 +2,7 @@
 ghost use Rattle.std.specs.Prelude.{◌≡◌, ◌↔◌, None, Some, IsTrue};
 ghost use Rattle.dk_types.specs.Faults.{HasRisen};
 ghost use Rattle.dk_pump.specs.Places.{IsSoundPlaceEnd};
-ghost use Rattle.darkstar.specs.Served.{HasWorkCause, IsSound, IsSoundDrain, HasCause};
+ghost use Rattle.darkstar.specs.Served.{HasWorkCause, IsSound, IsSoundDrain, IsCauseOfFault};
 
 use dk_pump::{NoLink, PlaceEnd};
 use dk_workers::{PlayFault, Worked};
@@ -133,7 +133,7 @@ impl Counts {
 /// The fault as it is told: one of a device where its count rose.
 pub(crate) fn told(fault: ServeFault, disk: Counts, listener: Counts, spawner: Counts) -> ServeFault
     requires sound { IsSound (Some fault) }
-    ensures { HasCause disk.before disk.after listener.before listener.after spawner.before spawner.after result }
+    ensures { IsCauseOfFault disk.before disk.after listener.before listener.after spawner.before spawner.after result }
 {
     match fault {
         ServeFault::DiskFault if !disk.have_risen() => ServeFault::NoMemory,
