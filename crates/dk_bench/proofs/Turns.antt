@@ -5,10 +5,10 @@ use Rattle.dk_types.specs.declared.item.Read.{Read}
 use Rattle.dk_model.specs.Runs.{Act, and_then, create}
 use Rattle.dk_overlay.specs.ReadsAndWrites.{ReadsAndWrites}
 use Rattle.dk_txn.specs.declared.txn.Txn.{Txn}
-use Rattle.dk_txn.specs.Does.{Leads}
+use Rattle.dk_txn.specs.Does.{Resumes}
 use Rattle.dk_bench.specs.Filling.{fill}
 use Rattle.dk_txn.specs.Sights.{Sights}
 
 pub fill_turn : {S : Type 0} {sights : Sights S} {a b : Txn S ReadsAndWrites} {whole : Act (Unit {0})} (objects made : ℕ) → made < objects
-    → Leads sights a b whole (fill (objects - made)) → Leads sights a b whole (and_then (create 2 []) (λ _. fill (objects - (made + 1))))
+    → Resumes sights a b whole (fill (objects - made)) → Resumes sights a b whole (and_then (create 2 []) (λ _. fill (objects - (made + 1))))
 fill_turn objects made h p = let e : objects - made ≡ suc (objects - (made + 1)) = omega (arith, h) in rw e at p

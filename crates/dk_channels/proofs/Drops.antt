@@ -15,7 +15,7 @@ use Rattle.dk_overlay.specs.ReadsAndWrites.{ReadsAndWrites}
 use Rattle.dk_txn.specs.declared.txn.Txn.{Txn}
 use Rattle.dk_txn.specs.declared.refusal.Refusal.{Refusal}
 use Rattle.dk_txn.specs.Refusals.{refusal_fault}
-use Rattle.dk_txn.specs.Does.{Does, Leads}
+use Rattle.dk_txn.specs.Does.{Does, Resumes}
 use Rattle.dk_txn.proofs.Kit.{then_does, stops, give_does}
 use Rattle.dk_txn.specs.Sights.{Sights}
 
@@ -26,11 +26,11 @@ rest_is xs i x h is = drop-cons xs i x h ∙ ap (λ k. get_or xs i x ∷ drop k 
 module _ {S : Type 0} {sights : Sights S} {a b : Txn S ReadsAndWrites} (name : List ℕ) (members : List Session) (i : ℕ) where
   -- what is left at a turn begins with the next member
   pub at_member : {f : Act (Unit {0})} (member : Session) → i < length members → member ≡ get_or members i member
-      → Leads sights a b f (drop_each name (drop i members)) → Leads sights a b f (and_then (drop_channel name member) (λ _. drop_each name (drop (i + 1) members)))
+      → Resumes sights a b f (drop_each name (drop i members)) → Resumes sights a b f (and_then (drop_channel name member) (λ _. drop_each name (drop (i + 1) members)))
   at_member member h is p = rw (rest_is members i member h is) at p
 
   -- nothing is left
-  pub at_end : {f : Act (Unit {0})} → length members ≤ i → Leads sights a b f (drop_each name (drop i members)) → Leads sights a b f (drop_each name [])
+  pub at_end : {f : Act (Unit {0})} → length members ≤ i → Resumes sights a b f (drop_each name (drop i members)) → Resumes sights a b f (drop_each name [])
   at_end h p = rw (drop_all i members h) at p
 
 pub no_members : (members : List Session) → (length members == 0) ≡ true → members ≡ []

@@ -46,7 +46,7 @@ use Rattle.dk_core.specs.Claiming.{Claiming, without_run}
 use Rattle.dk_core.specs.declared.prepared.Prepared.{Prepared}
 use Rattle.dk_core.specs.Rooms.{HasPlaces, HasRoom, IsNoLess, places_of}
 use Rattle.dk_core.specs.Numbers.{HasNumbers}
-use Rattle.dk_core.specs.Cores.{world_of, IsTracked, Represents, Stays, HasMoreRoom, IsGranted, KeepsReady}
+use Rattle.dk_core.specs.Cores.{world_of, IsTracked, Represents, AddsNothing, HasMoreRoom, IsGranted, KeepsReady}
 use Rattle.dk_core.specs.Marking.{IsTaskFreed}
 use Rattle.dk_core.specs.Answers.{Commits, HasRoomFor, IsPrepared}
 use Rattle.dk_core.proofs.Having.{never, has_which}
@@ -171,7 +171,7 @@ roomy_seen : (new old : Stamped) → new ≡ with_room new.room old → (item : 
 roomy_seen new old is item = ap (λ v. seen_now v item) is ∙ seen_with_room new.room old item
 
 -- so a core with more room stands for the same history
-pub stays_with : (old new : Core) → HasMoreRoom old new → Stays old new
+pub stays_with : (old new : Core) → HasMoreRoom old new → AddsNothing old new
 stays_with old new more rules d budget events s =
     let world : world_of new ≡ world_of old = λ i. record {
       durable = durable_of (more.world i);

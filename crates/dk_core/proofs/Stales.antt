@@ -16,7 +16,7 @@ use Rattle.dk_txn.specs.declared.finished.Finished.{Finished}
 use Rattle.dk_core.specs.Answers.{TellsRefused, TellsStale, CommitsOrTells}
 use Rattle.dk_core.specs.Changes.{Stands, IsFirstConflict}
 use Rattle.dk_core.specs.Claiming.{Claiming}
-use Rattle.dk_core.specs.Cores.{world_of, Represents, Stays, HasMoreRoom, IsGranted}
+use Rattle.dk_core.specs.Cores.{world_of, Represents, AddsNothing, HasMoreRoom, IsGranted}
 use Rattle.dk_core.specs.StampedWorlds.{seen_now}
 use Rattle.dk_core.specs.declared.answers.PrepareRefused.{PrepareRefused}
 use Rattle.dk_core.specs.declared.answers.PrepareRefused.TheVariants as prepare_refused
@@ -53,7 +53,7 @@ tells_stale c f prepare_refused.NoMemory h = tt
 
 -- what a commit that is refused tells
 pub told_back : (old new : Core) (claimed back : Claimed) (f : Finished) (refused : PrepareRefused)
-    → back ≡ claimed → HasMoreRoom old new → IsGranted old claimed → TellsRefused old f refused → Stays old new → CommitsOrTells old new claimed f (Err (back, refused))
+    → back ≡ claimed → HasMoreRoom old new → IsGranted old claimed → TellsRefused old f refused → AddsNothing old new → CommitsOrTells old new claimed f (Err (back, refused))
 told_back old new claimed back f (prepare_refused.Retry changed) is room granted h stays =
     (is, ap (λ (cs : Claiming). get cs.claims claimed.run) room.claims ∙ granted, h, stays, first_stale old f changed h)
 told_back old new claimed back f prepare_refused.NoMemory is room granted h stays = (is, ap (λ (cs : Claiming). get cs.claims claimed.run) room.claims ∙ granted, stays)

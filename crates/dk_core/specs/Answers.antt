@@ -34,7 +34,7 @@ use Rattle.dk_core.specs.declared.answers.ClaimRefused.TheVariants as claim_refu
 use Rattle.dk_core.specs.declared.answers.PrepareRefused.{PrepareRefused}
 use Rattle.dk_core.specs.declared.answers.PrepareRefused.TheVariants as prepare_refused
 use Rattle.dk_core.specs.declared.prepared.Prepared.{Prepared}
-use Rattle.dk_core.specs.Cores.{Represents, Extends, Adds, Stays, IsGranted}
+use Rattle.dk_core.specs.Cores.{Represents, Extends, Adds, AddsNothing, IsGranted}
 
 -- a Connect of this name, whatever pass it is of; after want of memory the core is as it was
 abbrev pub Connected : Core → Core → List ℕ → Result ConnNo ConnectRefused → Type 0
@@ -108,5 +108,5 @@ Commits old new claimed f seq =
 -- both in one: where it is refused the claim is handed back, and stands
 abbrev pub CommitsOrTells : Core → Core → Claimed → Finished → Result ℕ (Claimed × PrepareRefused) → Type 0
 CommitsOrTells old new claimed f (Ok seq) = (seq ≡ old.world.commits + 1) × AllByRecursion (Stands old.world) f.reads.items × Commits old new claimed f seq
-CommitsOrTells old new claimed f (Err (back, prepare_refused.Retry changed)) = (back ≡ claimed) × IsGranted new claimed × IsFirstConflict old.world f.reads.items changed × Stays old new × TellsStale old f (prepare_refused.Retry changed)
-CommitsOrTells old new claimed f (Err (back, prepare_refused.NoMemory)) = (back ≡ claimed) × IsGranted new claimed × Stays old new
+CommitsOrTells old new claimed f (Err (back, prepare_refused.Retry changed)) = (back ≡ claimed) × IsGranted new claimed × IsFirstConflict old.world f.reads.items changed × AddsNothing old new × TellsStale old f (prepare_refused.Retry changed)
+CommitsOrTells old new claimed f (Err (back, prepare_refused.NoMemory)) = (back ≡ claimed) × IsGranted new claimed × AddsNothing old new

@@ -70,8 +70,8 @@ abbrev pub Adds : Core → Core → List Event → Type 0
 Adds old new more = (rules : Meaning) (d : DurableWorld) (budget : Option ℕ) (events : List Event) → AreLawful rules → Extends rules d budget events old new more
 
 -- whatever history; no event is added
-abbrev pub Stays : Core → Core → Type 0
-Stays old new = (rules : Meaning) → AddsBy rules old new []
+abbrev pub AddsNothing : Core → Core → Type 0
+AddsNothing old new = (rules : Meaning) → AddsBy rules old new []
 
 -- what was made ready for a commit is ready still: each read sees what it saw, as many runs are committed, and the room of the stores is as it was
 pub record KeepsReady (old new : Core) : Type 0 where

@@ -1,7 +1,7 @@
 // Commits.
 ghost use Rattle.std.specs.Prelude.{◌≡◌, ◌+◌, IfOk, IfErr};
 ghost use Rattle.dk_core.specs.Answers.{Commits, CommitsOrTells, HasRoomFor, IsPrepared, IsReady, Prepares, Readies, TellsStale};
-ghost use Rattle.dk_core.specs.Cores.{HasMoreRoom, IsGranted, Stays};
+ghost use Rattle.dk_core.specs.Cores.{HasMoreRoom, IsGranted, AddsNothing};
 
 use crate::answers::PrepareRefused;
 use crate::claimed::Claimed;
@@ -31,7 +31,7 @@ impl Core {
         ensures prepares { Prepares self.old self.new claimed.now finished.now result }
         ensures stale { IfErr result (λ refused. TellsStale self.old finished.now refused) }
         ensures granted { IsGranted self.new claimed.now }
-        ensures stays { Stays self.old self.new }
+        ensures stays { AddsNothing self.old self.new }
     {
         let deliveries = self.make_ready(finished)?;
         let entry = Entry {
@@ -47,7 +47,7 @@ impl Core {
     fn make_ready(&mut self, finished: &Finished) -> Result<Deliveries, PrepareRefused>
         ensures same { HasMoreRoom self.old self.new }
         ensures ready { Readies self.old self.new finished.now result }
-        ensures stays { Stays self.old self.new }
+        ensures stays { AddsNothing self.old self.new }
     {
         if let Some(changed) = self.world.first_conflict(finished.reads())? {
             return Err(PrepareRefused::Retry(changed));

@@ -13,12 +13,12 @@ use Rattle.dk_core.specs.declared.world.Core.{Core}
 use Rattle.dk_core.specs.declared.claimed.Claimed.{Claimed}
 use Rattle.dk_core.specs.declared.answers.PrepareRefused.{PrepareRefused}
 use Rattle.dk_core.specs.declared.answers.PrepareRefused.TheVariants as prepare_refused
-use Rattle.dk_core.specs.Cores.{Stays, IsGranted}
+use Rattle.dk_core.specs.Cores.{AddsNothing, IsGranted}
 use Rattle.dk_core.specs.Answers.{Posted, CommitsOrTells}
 use Rattle.dk_workers.specs.Working.{RepresentsSome}
 use Rattle.dk_workers.proofs.Honest.{entered}
 
-pub stayed : (rules : Meaning) (old new : Core) → RepresentsSome rules old → Stays old new → RepresentsSome rules new
+pub stayed : (rules : Meaning) (old new : Core) → RepresentsSome rules old → AddsNothing old new → RepresentsSome rules new
 stayed rules old new s stays = record { opened = s.opened; budget = s.budget; events = s.events ++ []; stands = stays rules s.opened s.budget s.events s.stands }
 
 pub posted_so : (rules : Meaning) → AreLawful rules → (old new : Core) (conn : ConnNo) (input : Input) (r : Result (Unit {0}) PostRefused) → RepresentsSome rules old → Posted old new conn input r → RepresentsSome rules new

@@ -13,7 +13,7 @@ use Rattle.dk_model.specs.Steps.{displace, displace_found, displace_recorded, le
 use Rattle.dk_overlay.specs.ReadsAndWrites.{ReadsAndWrites}
 use Rattle.dk_refs.specs.Lookups.{is_recorded}
 use Rattle.dk_txn.specs.declared.txn.Txn.{Txn}
-use Rattle.dk_txn.specs.Does.{KeepsFor, DoesFor, Does, Leads, failure}
+use Rattle.dk_txn.specs.Does.{KeepsFor, DoesFor, Does, Resumes, failure}
 use Rattle.dk_txn.proofs.Kit.{does_as}
 use Rattle.dk_game.specs.declared.halt.Halt.{Halt}
 use Rattle.dk_game.specs.declared.halt.Halt.TheVariants as halt
@@ -56,13 +56,13 @@ none_left (c ∷ channels) (suc i) h = none_left channels i (omega (arith, h))
 
 module _ {S : Type 0} {sights : Sights S} {a b : Txn S ReadsAndWrites} {f : Act (Unit {0})} (session : Session) (channels : List (List ℕ)) (i : ℕ) where
   -- what is left at a channel begins with it
-  pub at_channel : (name x : List ℕ) → i < length channels → name ≡ get_or channels i x → Leads sights a b f (leave_channels session (drop i channels))
-      → Leads sights a b f (and_then (leave name session) (λ _. leave_channels session (drop (i + 1) channels)))
+  pub at_channel : (name x : List ℕ) → i < length channels → name ≡ get_or channels i x → Resumes sights a b f (leave_channels session (drop i channels))
+      → Resumes sights a b f (and_then (leave name session) (λ _. leave_channels session (drop (i + 1) channels)))
   at_channel name x h is p =
       let next : suc i ≡ i + 1 = omega arith in
       let here : drop i channels ≡ name ∷ drop (i + 1) channels = turn channels i x h ∙ ap (λ (y : List ℕ). y ∷ drop (suc i) channels) (sym is) ∙ ap (λ n. name ∷ drop n channels) next in
-      subst (λ cs. Leads sights a b f (leave_channels session cs)) here p
+      subst (λ cs. Resumes sights a b f (leave_channels session cs)) here p
 
   -- behind the last nothing is left
-  pub at_end : length channels ≤ i → Leads sights a b f (leave_channels session (drop i channels)) → Leads sights a b f (leave_channels session [])
-  at_end h p = subst (λ cs. Leads sights a b f (leave_channels session cs)) (none_left channels i h) p
+  pub at_end : length channels ≤ i → Resumes sights a b f (leave_channels session (drop i channels)) → Resumes sights a b f (leave_channels session [])
+  at_end h p = subst (λ cs. Resumes sights a b f (leave_channels session cs)) (none_left channels i h) p

@@ -23,7 +23,7 @@ use Rattle.dk_core.specs.declared.answers.PrepareRefused.{PrepareRefused}
 use Rattle.dk_core.specs.declared.answers.PrepareRefused.TheVariants as prepare_refused
 use Rattle.dk_core.specs.Answers.{IsPrepared, Prepares, TellsStale, Commits, HasRoomFor}
 use Rattle.dk_core.specs.Changes.{Stands}
-use Rattle.dk_core.specs.Cores.{Stays, IsGranted}
+use Rattle.dk_core.specs.Cores.{AddsNothing, IsGranted}
 use Rattle.dk_core.proofs.Committed.{tells}
 use Rattle.dk_core.specs.Rooms.{HasPlaces, places_of}
 use Rattle.dk_core.specs.StampedWorlds.{seen_now}
@@ -64,10 +64,10 @@ module _ (o : Opened) (events : List Event) (c : Core) (at : IsAt o events c) wh
   }
 
 -- a core that stays where it was
-pub stays_at : (o : Opened) (events : List Event) (old new : Core) → IsAt o events old → Stays old new → IsAt o events new
+pub stays_at : (o : Opened) (events : List Event) (old new : Core) → IsAt o events old → AddsNothing old new → IsAt o events new
 stays_at o events old new at stays = subst (λ es. IsAt o es new) (append-nil events) (stays o.rules o.durable o.budget events at)
 
-module _ (o : Opened) (events : List Event) (old new : Core) (at : IsAt o events old) (stays : Stays old new) (claimed : Claimed) (f : Finished) where
+module _ (o : Opened) (events : List Event) (old new : Core) (at : IsAt o events old) (stays : AddsNothing old new) (claimed : Claimed) (f : Finished) where
   pub finds : (r : Result Prepared PrepareRefused) → Prepares old new claimed f r → IfErr r (TellsStale old f) → Finds o events claimed f r
   finds (Ok p) h stale = prepared_there o events new (stays_at o events old new at stays) claimed f p h.0
   finds (Err (prepare_refused.Retry ch)) h stale = stale o.rules o.durable o.budget events at
@@ -79,7 +79,7 @@ room_for old new claimed f (Ok p) h = subst (λ (e : Entry). HasPlaces new.world
 room_for old new claimed f (Err refused) h = no_places new.world.room 0 refl
 
 -- the book is kept by a prepare
-module _ (o : Opened) (events : List Event) (old new : Core) (total places : ℕ) (k : IsKept o events old total places) (stays : Stays old new) (claimed : Claimed) (f : Finished) (r : Result Prepared PrepareRefused) (h : Prepares old new claimed f r)
+module _ (o : Opened) (events : List Event) (old new : Core) (total places : ℕ) (k : IsKept o events old total places) (stays : AddsNothing old new) (claimed : Claimed) (f : Finished) (r : Result Prepared PrepareRefused) (h : Prepares old new claimed f r)
     (granted : IsGranted old claimed) (honest : IsHonestAt o events claimed f) where
   pub prepare_kept : (total_after places_after : ℕ) → total_after ≡ total → places_after ≡ places_for r → IsKept o events new total_after places_after
   prepare_kept total_after places_after same room = (k.0, stays_at o events old new k.1 stays, same ∙ k.2, subst (HasPlaces new.world.room) (sym room) (room_for old new claimed f r h))

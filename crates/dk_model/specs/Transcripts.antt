@@ -142,22 +142,22 @@ PostsTo rules p name input e after means =
     × (after.means ≡ means) × (after.opened ≡ p.opened)
 
 -- a line is entered as a Connect, a Post or a Tick, and the play goes on; a name means nothing once its connection is posted a Disconnect
-abbrev pub Enters : Meaning → Playing → Line → Event → Playing → Type 0
-Enters rules p (line.Login name) e after =
+abbrev pub PlaysLine : Meaning → Playing → Line → Event → Playing → Type 0
+PlaysLine rules p (line.Login name) e after =
     (pass : ℕ) × (conn : ConnNo) × (e ≡ event.Connect pass name (connected.Number conn)) × Happens rules p.world e after.world
     × (after.means ≡ maps.insert p.means name conn) × (after.opened ≡ p.opened ++ conn ∷ [])
-Enters rules p (line.Send name text) e after = PostsTo rules p name (input.Message text) e after p.means
-Enters rules p (line.Channel name channel text) e after = PostsTo rules p name (input.Channel channel text) e after p.means
-Enters rules p (line.Logout name) e after = PostsTo rules p name (input.Disconnect true) e after (maps.remove p.means name)
-Enters rules p (line.Drop name) e after = PostsTo rules p name (input.Disconnect false) e after (maps.remove p.means name)
-Enters rules p (line.Tick moment) e after = (pass : ℕ) × (e ≡ event.Tick pass moment) × Happens rules p.world e after.world × (after.means ≡ p.means) × (after.opened ≡ p.opened)
+PlaysLine rules p (line.Send name text) e after = PostsTo rules p name (input.Message text) e after p.means
+PlaysLine rules p (line.Channel name channel text) e after = PostsTo rules p name (input.Channel channel text) e after p.means
+PlaysLine rules p (line.Logout name) e after = PostsTo rules p name (input.Disconnect true) e after (maps.remove p.means name)
+PlaysLine rules p (line.Drop name) e after = PostsTo rules p name (input.Disconnect false) e after (maps.remove p.means name)
+PlaysLine rules p (line.Tick moment) e after = (pass : ℕ) × (e ≡ event.Tick pass moment) × Happens rules p.world e after.world × (after.means ≡ p.means) × (after.opened ≡ p.opened)
 
 -- each line of a phase is entered by one event, in order
-abbrev pub EntersAll : Meaning → Playing → List Line → List Event → Playing → Type 0
-EntersAll rules p [] [] after = after ≡ p
-EntersAll rules p (l ∷ lines) (e ∷ events) after = (mid : Playing) × Enters rules p l e mid × EntersAll rules mid lines events after
-EntersAll rules p [] (e ∷ events) after = ⊥
-EntersAll rules p (l ∷ lines) [] after = ⊥
+abbrev pub PlaysLines : Meaning → Playing → List Line → List Event → Playing → Type 0
+PlaysLines rules p [] [] after = after ≡ p
+PlaysLines rules p (l ∷ lines) (e ∷ events) after = (mid : Playing) × PlaysLine rules p l e mid × PlaysLines rules mid lines events after
+PlaysLines rules p [] (e ∷ events) after = ⊥
+PlaysLines rules p (l ∷ lines) [] after = ⊥
 
 -- the order's items are entered as granted claims and as commits, one after another
 abbrev pub Follows : Meaning → World → List OrderItem → List Event → World → Type 0
@@ -187,7 +187,7 @@ pub record PlaysPhase (rules : Meaning) (p : Playing) (lines : List Line) (items
   pub all : events ≡ entered ++ (followed ++ handed)
   pub at_lines : Playing
   pub at_items : World
-  pub enters : EntersAll rules p lines entered at_lines
+  pub enters : PlaysLines rules p lines entered at_lines
   pub follows : Follows rules at_lines.world items followed at_items
   pub quiet : IsQuiet at_items
   pub hands : Hands rules at_items at_lines.opened handed after.world

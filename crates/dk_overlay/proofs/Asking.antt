@@ -13,7 +13,7 @@ use Rattle.dk_types.specs.Keys.{id_cmp, key_cmp}
 use Rattle.dk_overlay.specs.Asked.{WasRead, WasNotRead, IsOnce, IsIndexed, Places, place_in, AddsPlace, IsIndexedLong}
 use Rattle.dk_overlay.proofs.Keys.{ids_total, ids_same, keys_total, keys_same, names_total, names_same}
 use Rattle.dk_overlay.proofs.Finding.{found_here, found_others}
-use Rattle.dk_overlay.specs.Items.{same_item}
+use Rattle.dk_overlay.specs.Items.{equal_items}
 use Rattle.dk_overlay.proofs.SameItems.{item_itself}
 use Rattle.dk_overlay.proofs.Tests.{Some_injective}
 
@@ -89,13 +89,13 @@ less_or_same : (i n : ℕ) → i < n + 1 → (i < n) ⊎ (i ≡ n)
 less_or_same i n h = elim (eqb_tells i n) [ inl e ↦ inr e.1 | inr e ↦ inl (omega (arith, h, e.1)) ]
 
 -- no item of those before is this one, nor that of the next
-pub among_more : (reads : List (Item × Read)) (n : ℕ) (x : Item × Read) (item : Item) → slice_get reads n ≡ Some x → same_item x.0 item ≡ false
+pub among_more : (reads : List (Item × Read)) (n : ℕ) (x : Item × Read) (item : Item) → slice_get reads n ≡ Some x → equal_items x.0 item ≡ false
     → ((i : ℕ) (read : Read) → i < n → slice_get reads i ≡ Some (item, read) → ⊥) → (i : ℕ) (read : Read) → i < n + 1 → slice_get reads i ≡ Some (item, read) → ⊥
 among_more reads n x item here other before i read h e = elim (less_or_same i n h) [
   | inl less ↦ before i read less e
   | inr same ↦
       let is : x.0 ≡ item = ap (λ (y : Item × Read). y.0) (Some_injective _ _ (sym here ∙ ap (slice_get reads) (sym same) ∙ e)) in
-      let told : same_item x.0 item ≡ true = ap (λ y. same_item y item) is ∙ item_itself item in
+      let told : equal_items x.0 item ≡ true = ap (λ y. equal_items y item) is ∙ item_itself item in
       absurd cc
 ]
 

@@ -4,7 +4,7 @@ use Rattle.std.specs.Cmp.Lexicographic.{bytes_decides}
 use Rattle.std.proofs.lemmas.Bool.Decides.{nat_tests}
 use Rattle.dk_types.specs.declared.item.Item.{Item}
 use Rattle.dk_types.specs.declared.item.Item.TheVariants as ask
-use Rattle.dk_overlay.specs.Items.{same_after, same_item}
+use Rattle.dk_overlay.specs.Items.{same_after, equal_items}
 use Rattle.dk_overlay.proofs.Tests.{and_left, and_right}
 
 number_equal : (x y : ℕ) → nat_eq x y ≡ true → x ≡ y
@@ -24,7 +24,7 @@ after_itself None = refl
 after_itself (Some a) = (bytes_decides a a).1 refl
 
 -- items that pass the test are one
-pub item_equal : (a b : Item) → same_item a b ≡ true → a ≡ b
+pub item_equal : (a b : Item) → equal_items a b ≡ true → a ≡ b
 item_equal (ask.Object a) (ask.Object b) h =
     let r : a.run.0 ≡ b.run.0 = number_equal _ _ (and_left _ _ h) in
     let k : a.k ≡ b.k = number_equal _ _ (and_right _ _ h) in
@@ -49,7 +49,7 @@ item_equal (ask.Task a) (ask.Task b) h =
     λ i. ask.Task (record { run = record { 0 = r i }; k = k i })
 
 -- an item passes the test with itself
-pub item_itself : (a : Item) → same_item a a ≡ true
+pub item_itself : (a : Item) → equal_items a a ≡ true
 item_itself (ask.Object a) = rw (number_itself a.run.0, number_itself a.k) refl
 item_itself (ask.Bound a) = (bytes_decides a a).1 refl
 item_itself (ask.NextAfter a) = after_itself a

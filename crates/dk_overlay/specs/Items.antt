@@ -12,20 +12,20 @@ same_after (Some a) None = false
 same_after (Some a) (Some b) = pointwise nat_eq a b
 
 -- whether two items are one
-abbrev pub same_item : Item → Item → Bool
-same_item (ask.Object a) (ask.Object b) = nat_eq a.run.0 b.run.0 && nat_eq a.k b.k
-same_item (ask.Object a) (ask.Bound b) = false
-same_item (ask.Object a) (ask.NextAfter b) = false
-same_item (ask.Object a) (ask.Task b) = false
-same_item (ask.Bound a) (ask.Object b) = false
-same_item (ask.Bound a) (ask.Bound b) = pointwise nat_eq a b
-same_item (ask.Bound a) (ask.NextAfter b) = false
-same_item (ask.Bound a) (ask.Task b) = false
-same_item (ask.NextAfter a) (ask.Object b) = false
-same_item (ask.NextAfter a) (ask.Bound b) = false
-same_item (ask.NextAfter a) (ask.NextAfter b) = same_after a b
-same_item (ask.NextAfter a) (ask.Task b) = false
-same_item (ask.Task a) (ask.Object b) = false
-same_item (ask.Task a) (ask.Bound b) = false
-same_item (ask.Task a) (ask.NextAfter b) = false
-same_item (ask.Task a) (ask.Task b) = nat_eq a.run.0 b.run.0 && nat_eq a.k b.k
+abbrev pub equal_items : Item → Item → Bool
+equal_items (ask.Object a) (ask.Object b) = nat_eq a.run.0 b.run.0 && nat_eq a.k b.k
+equal_items (ask.Object a) (ask.Bound b) = false
+equal_items (ask.Object a) (ask.NextAfter b) = false
+equal_items (ask.Object a) (ask.Task b) = false
+equal_items (ask.Bound a) (ask.Object b) = false
+equal_items (ask.Bound a) (ask.Bound b) = pointwise nat_eq a b
+equal_items (ask.Bound a) (ask.NextAfter b) = false
+equal_items (ask.Bound a) (ask.Task b) = false
+equal_items (ask.NextAfter a) (ask.Object b) = false
+equal_items (ask.NextAfter a) (ask.Bound b) = false
+equal_items (ask.NextAfter a) (ask.NextAfter b) = same_after a b
+equal_items (ask.NextAfter a) (ask.Task b) = false
+equal_items (ask.Task a) (ask.Object b) = false
+equal_items (ask.Task a) (ask.Bound b) = false
+equal_items (ask.Task a) (ask.NextAfter b) = false
+equal_items (ask.Task a) (ask.Task b) = nat_eq a.run.0 b.run.0 && nat_eq a.k b.k

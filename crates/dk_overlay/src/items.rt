@@ -1,6 +1,6 @@
 //! Items, told apart.
 ghost use Rattle.std.specs.Prelude.{◌≡◌};
-ghost use Rattle.dk_overlay.specs.Items.{same_after, same_item};
+ghost use Rattle.dk_overlay.specs.Items.{same_after, equal_items};
 
 use dk_types::{Item, Name};
 
@@ -16,7 +16,7 @@ fn is_same_after(a: &Option<Name>, b: &Option<Name>) -> bool
 
 /// Whether two items are one.
 pub fn is_same_item(a: &Item, b: &Item) -> bool
-    ensures { result ≡ same_item a.now b.now }
+    ensures { result ≡ equal_items a.now b.now }
 {
     match (a, b) {
         (Item::Object(a), Item::Object(b)) => a == b,

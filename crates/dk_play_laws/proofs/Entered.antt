@@ -10,7 +10,7 @@ use Rattle.dk_model.specs.declared.script.Line.TheVariants as line
 use Rattle.dk_model.specs.Worlds.{World}
 use Rattle.dk_model.specs.Events.{Meaning, Happens, outbox}
 use Rattle.dk_model.specs.Histories.{Leads}
-use Rattle.dk_model.specs.Transcripts.{Enters, EntersAll, Hands}
+use Rattle.dk_model.specs.Transcripts.{PlaysLine, PlaysLines, Hands}
 use Rattle.dk_progress.proofs.Fits.{AreWithin}
 use Rattle.dk_play_laws.specs.Reported.{is_reported, reported_of}
 use Rattle.dk_play_laws.specs.LineEvents.{Said, playing_at, IsLineEvent, AreLineEvents, AreHandEvents}
@@ -18,7 +18,7 @@ use Rattle.dk_play_laws.proofs.Boxes.{within_happens}
 use Rattle.dk_play_laws.proofs.Reported.{told_first}
 
 -- a line is entered
-entered : (rules : Meaning) (pass : ℕ) (w : World) (s : Said) (l : Line) (e : Event) (after : World) (t : Said) → IsLineEvent pass s l e t → Happens rules w e after → Enters rules (playing_at w s) l e (playing_at after t)
+entered : (rules : Meaning) (pass : ℕ) (w : World) (s : Said) (l : Line) (e : Event) (after : World) (t : Said) → IsLineEvent pass s l e t → Happens rules w e after → PlaysLine rules (playing_at w s) l e (playing_at after t)
 entered rules pass w s (line.Login name) e after t is h = (pass, is.0, is.1, h, is.2, is.3)
 entered rules pass w s (line.Send name text) e after t is h = (pass, is.0, is.1, is.2, is.3, h, is.4, is.5)
 entered rules pass w s (line.Channel name channel text) e after t is h = (pass, is.0, is.1, is.2, is.3, h, is.4, is.5)
@@ -28,7 +28,7 @@ entered rules pass w s (line.Tick moment) e after t is h = (pass, is.0, h, is.1,
 
 -- and so are lines
 pub entered_all : (rules : Meaning) (pass : ℕ) (w : World) (s : Said) (lines : List Line) (events : List Event) (after : World) (t : Said) → AreLineEvents pass s lines events t → Leads rules w events after
-    → EntersAll rules (playing_at w s) lines events (playing_at after t)
+    → PlaysLines rules (playing_at w s) lines events (playing_at after t)
 entered_all rules pass w s [] [] after t is h = ap (playing_at after) is ∙ ap (λ (x : World). playing_at x s) h
 entered_all rules pass w s (l ∷ lines) (e ∷ events) after t is h =
     (playing_at h.0 is.0, entered rules pass w s l e h.0 is.0 is.1 h.1, entered_all rules pass h.0 is.0 lines events after t is.2 h.2)

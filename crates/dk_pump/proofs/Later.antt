@@ -17,7 +17,7 @@ use Rattle.dk_turn.proofs.Beginnings.{prefix_self}
 use Rattle.dk_pump.specs.declared.ends.SessionEnd.{SessionEnd}
 use Rattle.dk_pump.specs.declared.course.Course.{Course}
 use Rattle.dk_pump.specs.declared.putting.PutRefused.{PutRefused}
-use Rattle.dk_pump.specs.Sessions.{Shown, KeepsPut, EndsReading, CountsWaits, WaitsToPut}
+use Rattle.dk_pump.specs.Sessions.{LinkState, KeepsPut, EndsReading, CountsWaits, WaitsToPut}
 use Rattle.dk_pump.specs.Waiting.{FindsNothing, HasNothing, WaitsToRead, WaitsToWrite, MayWait, IsLater, IsStill}
 
 -- ---- counts
@@ -56,10 +56,10 @@ entered_begins o pass events old new e = (e.continues.later ++ events, sym (appe
 
 -- ---- a session later on
 
-pub later_self : (pass : Known Event) (link : Shown) → IsLater pass link pass link
+pub later_self : (pass : Known Event) (link : LinkState) → IsLater pass link pass link
 later_self pass link = record { number = refl; front = prefix_self pass.front; takes = omega arith; puts = omega arith }
 
-pub later_then : (pass mid pass' : Known Event) (link at link' : Shown) → IsLater pass link mid at → IsLater mid at pass' link' → IsLater pass link pass' link'
+pub later_then : (pass mid pass' : Known Event) (link at link' : LinkState) → IsLater pass link mid at → IsLater mid at pass' link' → IsLater pass link pass' link'
 later_then pass mid pass' link at link' a b = record {
   number = b.number ∙ a.number;
   front = prefix_then pass.front mid.front pass'.front a.front b.front;
@@ -68,15 +68,15 @@ later_then pass mid pass' link at link' a b = record {
 }
 
 -- by a call, with the link as it was
-pub later_by : (pass pass' : Known Event) (link : Shown) → pass'.number ≡ pass.number → IsPrefix pass.front pass'.front → IsLater pass link pass' link
+pub later_by : (pass pass' : Known Event) (link : LinkState) → pass'.number ≡ pass.number → IsPrefix pass.front pass'.front → IsLater pass link pass' link
 later_by pass pass' link same begins = record { number = same; front = begins; takes = omega arith; puts = omega arith }
 
 -- by a poll of taking
-pub later_on_link : (pass : Known Event) (link link' : Shown) → link.take_waits ≤ link'.take_waits → KeepsPut link link' → IsLater pass link pass link'
+pub later_on_link : (pass : Known Event) (link link' : LinkState) → link.take_waits ≤ link'.take_waits → KeepsPut link link' → IsLater pass link pass link'
 later_on_link pass link link' more kept = record { number = refl; front = prefix_self pass.front; takes = more; puts = let same = kept.waits in omega (arith, same) }
 
 -- by the end of reading
-pub later_by_end : (o : Opened) (keeps : Bool) (count : ℕ) (conn : Option ConnNo) (end : SessionEnd) (pass pass' : Known Event) (c c' : Course) (link : Shown) → EndsReading o keeps count conn end pass c pass' c' → IsLater pass link pass' link
+pub later_by_end : (o : Opened) (keeps : Bool) (count : ℕ) (conn : Option ConnNo) (end : SessionEnd) (pass pass' : Known Event) (c c' : Course) (link : LinkState) → EndsReading o keeps count conn end pass c pass' c' → IsLater pass link pass' link
 later_by_end o keeps count None end pass pass' c c' link e = subst (λ p. IsLater pass link p link) (sym e.0) (later_self pass link)
 later_by_end o keeps count (Some conn) end pass pass' c c' link e = later_by pass pass' link e.1 e.2.enters.begins
 
@@ -93,7 +93,7 @@ found_wider o n n' (Some conn) first old new last same begins seen h = subst (λ
 })
 
 -- neither direction can go on
-pub may_wait : (o : Opened) (pass at mid pass' : Known Event) (link l₁ l₂ link' : Shown) (c c' : Course) → IsLater pass link at l₁ → IsLater at l₁ mid l₂ → IsLater mid l₂ pass' link' → WaitsToWrite o at l₁ mid l₂ c → WaitsToRead l₂ link' c' → IsStill c c'
+pub may_wait : (o : Opened) (pass at mid pass' : Known Event) (link l₁ l₂ link' : LinkState) (c c' : Course) → IsLater pass link at l₁ → IsLater at l₁ mid l₂ → IsLater mid l₂ pass' link' → WaitsToWrite o at l₁ mid l₂ c → WaitsToRead l₂ link' c' → IsStill c c'
     → (IsSome c'.end → IsSome c'.conn) → MayWait o pass link pass' link' c'
 may_wait o pass at mid pass' link l₁ l₂ link' c c' a b d writing reading still there = record {
   reading = elim reading [

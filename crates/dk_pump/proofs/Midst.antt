@@ -18,7 +18,7 @@ use Rattle.dk_pump.specs.declared.ends.SessionEnd.{SessionEnd}
 use Rattle.dk_pump.specs.declared.ends.WriteEnd.{WriteEnd}
 use Rattle.dk_pump.specs.declared.course.Course.{Course}
 use Rattle.dk_pump.specs.Reading.{HasStream}
-use Rattle.dk_pump.specs.Sessions.{Shown, IsSession, GoesOn, IsMidst, HasEnded, HasWritten, IsWritten}
+use Rattle.dk_pump.specs.Sessions.{LinkState, IsSession, GoesOn, IsMidst, HasEnded, HasWritten, IsWritten}
 use Rattle.dk_pump.proofs.Entering.{enters_none}
 use Rattle.dk_pump.proofs.ReadOn.{turn_behind}
 use Rattle.dk_pump.proofs.Steps.{while_reading}
@@ -26,13 +26,13 @@ use Rattle.dk_pump.proofs.Streams.{appends_none, consumes_none}
 use Rattle.dk_pump.proofs.WriteParts.{some_not_none}
 
 module _ (o : Opened) (keeps : Bool) (count : ℕ) where
-  pub goes_then : (pass mid pass' : Known Event) (link at link' : Shown) (c d c' : Course) (p q r : List Frame) → GoesOn o keeps count pass link c p mid at d q → GoesOn o keeps count mid at d q pass' link' c' r → GoesOn o keeps count pass link c p pass' link' c' r
+  pub goes_then : (pass mid pass' : Known Event) (link at link' : LinkState) (c d c' : Course) (p q r : List Frame) → GoesOn o keeps count pass link c p mid at d q → GoesOn o keeps count mid at d q pass' link' c' r → GoesOn o keeps count pass link c p pass' link' c' r
   goes_then pass mid pass' link at link' c d c' p q r one two began given s = two began given (one began given s)
 
-  pub midst_on : (pass pass' : Known Event) (link link' : Shown) (c c' : Course) (p q : List Frame) → GoesOn o keeps count pass link c p pass' link' c' q → IsMidst o keeps count pass link c p → IsMidst o keeps count pass' link' c' q
+  pub midst_on : (pass pass' : Known Event) (link link' : LinkState) (c c' : Course) (p q : List Frame) → GoesOn o keeps count pass link c p pass' link' c' q → IsMidst o keeps count pass link c p → IsMidst o keeps count pass' link' c' q
   midst_on pass pass' link link' c c' p q goes m = ∥∥₁_map m (λ x. (x.0, x.1, goes x.0 x.1 x.2))
 
-  module _ (pass : Known Event) (link : Shown) (c : Course) (pending : List Frame) (m : IsMidst o keeps count pass link c pending) where
+  module _ (pass : Known Event) (link : LinkState) (c : Course) (pending : List Frame) (m : IsMidst o keeps count pass link c pending) where
     -- the budget was kept
     pub midst_few : c.decoder.fed ≤ SESSION_MOST_BYTES
     midst_few = ∥∥₁_elim m le_prop (λ x. x.2.read.few)
@@ -63,7 +63,7 @@ module _ (o : Opened) (keeps : Bool) (count : ℕ) where
       hlevel (props, may, is, rest)
 
   -- what is pending may be posted
-  pub pending_in_turn : (pass : Known Event) (link : Shown) (c : Course) (pending : List Frame) (conn : ConnNo) → c.conn ≡ Some conn → c.end ≡ None → IsMidst o keeps count pass link c pending → AreInTurn InSession pending
+  pub pending_in_turn : (pass : Known Event) (link : LinkState) (c : Course) (pending : List Frame) (conn : ConnNo) → c.conn ≡ Some conn → c.end ≡ None → IsMidst o keeps count pass link c pending → AreInTurn InSession pending
   pending_in_turn pass link c pending conn is none m = ∥∥₁_elim m (turn_is_prop InSession pending) (λ x.
       while_reading (λ y. IsSession o keeps count x.0 x.1 pass link y pending → AreInTurn InSession pending) c (Some conn) is none
       (λ y s.
@@ -72,7 +72,7 @@ module _ (o : Opened) (keeps : Bool) (count : ℕ) where
       subst (λ stage. AreInTurn stage pending) h.stage (turn_behind InSession h.done pending all)) x.2)
 
   -- before there is a connection, the first frame may come first
-  pub first_in_turn : (pass : Known Event) (link : Shown) (c : Course) (pending : List Frame) → c.conn ≡ None → c.end ≡ None → IsMidst o keeps count pass link c pending → AreInTurn AtLogin pending
+  pub first_in_turn : (pass : Known Event) (link : LinkState) (c : Course) (pending : List Frame) → c.conn ≡ None → c.end ≡ None → IsMidst o keeps count pass link c pending → AreInTurn AtLogin pending
   first_in_turn pass link c pending is none m = ∥∥₁_elim m (turn_is_prop AtLogin pending) (λ x.
       while_reading (λ y. IsSession o keeps count x.0 x.1 pass link y pending → AreInTurn AtLogin pending) c None is none
       (λ y s. subst (AreInTurn AtLogin) s.read.entered.0 s.read.stands.is.in_turn) x.2)
@@ -88,7 +88,7 @@ module _ (o : Opened) (keeps : Bool) (count : ℕ) where
   over_of n write (Some conn) c a b k l front writes is none h = some_not_none c.end none (ended_of n conn write c.failed c a b k l front writes c.write is h)
 
   -- where writing ended, so did reading
-  pub midst_over : (pass : Known Event) (link : Shown) (c : Course) (write : WriteEnd) → c.write ≡ Some write → c.end ≡ None → IsMidst o keeps count pass link c [] → ⊥
+  pub midst_over : (pass : Known Event) (link : LinkState) (c : Course) (write : WriteEnd) → c.write ≡ Some write → c.end ≡ None → IsMidst o keeps count pass link c [] → ⊥
   midst_over pass link c write is none m = ∥∥₁_elim m (λ x y. absurd x) (λ x. over_of x.0.number write c.conn c x.1.contents link.contents x.1.put_counted link.put_counted pass.front x.2.writes is none x.2.written)
 
   there_of : (n : ℕ) (conn : Option ConnNo) (c : Course) (a b : Option (List ℕ)) (k l : ℕ) (front writes : List Event) → c.write ≡ None → IsSome c.end → HasWritten o keeps n conn c a b k l front writes → IsSome conn
@@ -96,7 +96,7 @@ module _ (o : Opened) (keeps : Bool) (count : ℕ) where
   there_of n None c a b k l front writes none ended h = absurd (cc (sym none ∙ h.over ended))
 
   -- where reading has ended and writing has not, there is a connection
-  pub midst_there : (pass : Known Event) (link : Shown) (c : Course) → c.write ≡ None → IsMidst o keeps count pass link c [] → IsSome c.end → IsSome c.conn
+  pub midst_there : (pass : Known Event) (link : LinkState) (c : Course) → c.write ≡ None → IsMidst o keeps count pass link c [] → IsSome c.end → IsSome c.conn
   midst_there pass link c none m ended = ∥∥₁_elim m (Bool-set _ _) (λ x. there_of x.0.number c.conn c x.1.contents link.contents x.1.put_counted link.put_counted pass.front x.2.writes none ended x.2.written)
 
 -- ---- what a program finds
@@ -118,7 +118,7 @@ only_login (client.Logout ∷ items) first some is turn not = absurd (let one = 
 
 module _ (o : Opened) (keeps : Bool) (count : ℕ) where
   -- nothing was done yet
-  pub session_first : (pass : Known Event) (link : Shown) (c : Course) → HasDecoded c.decoder [] [] → c.conn ≡ None → c.end ≡ None → c.outgoing ≡ [] → c.failed ≡ false → c.gone ≡ false → c.write ≡ None → IsSession o keeps count pass link pass link c []
+  pub session_first : (pass : Known Event) (link : LinkState) (c : Course) → HasDecoded c.decoder [] [] → c.conn ≡ None → c.end ≡ None → c.outgoing ≡ [] → c.failed ≡ false → c.gone ≡ false → c.write ≡ None → IsSession o keeps count pass link pass link c []
   session_first pass link c stands conn none outgoing failed gone write =
       while_reading (λ x. HasDecoded x.decoder [] [] → x.outgoing ≡ [] → x.failed ≡ false → x.gone ≡ false → x.write ≡ None → IsSession o keeps count pass link pass link x []) c None conn none
       (λ x stands outgoing failed gone write. record {
@@ -132,15 +132,15 @@ module _ (o : Opened) (keeps : Bool) (count : ℕ) where
         enters = enters_none o count pass.number pass.front;
       }) stands outgoing failed gone write
 
-  module _ (began : Known Event) (given : Shown) (pass : Known Event) (link : Shown) (c : Course) (m : ∥ IsSession o keeps count began given pass link c [] ∥₁) where
+  module _ (began : Known Event) (given : LinkState) (pass : Known Event) (link : LinkState) (c : Course) (m : ∥ IsSession o keeps count began given pass link c [] ∥₁) where
     pub midst_of : IsMidst o keeps count pass link c []
     midst_of = ∥∥₁_map m (λ s. (began, given, s))
 
     -- it went on
-    pub session_on : (pass' : Known Event) (link' : Shown) (c' : Course) → GoesOn o keeps count pass link c [] pass' link' c' [] → ∥ IsSession o keeps count began given pass' link' c' [] ∥₁
+    pub session_on : (pass' : Known Event) (link' : LinkState) (c' : Course) → GoesOn o keeps count pass link c [] pass' link' c' [] → ∥ IsSession o keeps count began given pass' link' c' [] ∥₁
     session_on pass' link' c' goes = ∥∥₁_map m (goes began given)
 
     -- and came to its end
-    pub session_ended : (pass' : Known Event) (link' : Shown) (c' : Course) (end : SessionEnd) (write : WriteEnd) → GoesOn o keeps count pass link c [] pass' link' c' [] → c'.end ≡ Some end → c'.write ≡ Some write
+    pub session_ended : (pass' : Known Event) (link' : LinkState) (c' : Course) (end : SessionEnd) (write : WriteEnd) → GoesOn o keeps count pass link c [] pass' link' c' [] → c'.end ≡ Some end → c'.write ≡ Some write
         → ∥ HasEnded o keeps count (record { end = end; write = write; began = began; given = given; pass = pass'; link = link' }) ∥₁
     session_ended pass' link' c' end write goes reading writing = ∥∥₁_map m (λ s. record { course = c'; reading = reading; writing = writing; whole = goes began given s })

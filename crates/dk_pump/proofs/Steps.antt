@@ -31,7 +31,7 @@ use Rattle.dk_pump.specs.Ends.{end_of_connect, end_of_post}
 use Rattle.dk_pump.specs.Passes.{Enters}
 use Rattle.dk_pump.specs.Reading.{inputs_of, taken, PostsFrames, IsOfRead, IsNextEnd, IsPosted, IsClosed, Disconnects}
 use Rattle.dk_pump.specs.Writing.{tells_end}
-use Rattle.dk_pump.specs.Sessions.{Shown, KeepsPut, KeepsTake, IsPolledRead, HasRead, IsPutting, IsWritten, HasWritten, IsSession, GoesOn, EndsReading, with_handed}
+use Rattle.dk_pump.specs.Sessions.{LinkState, KeepsPut, KeepsTake, IsPolledRead, HasRead, IsPutting, IsWritten, HasWritten, IsSession, GoesOn, EndsReading, with_handed}
 use Rattle.dk_pump.proofs.Entering.{enters_none, enters_one, enters_then}
 use Rattle.dk_pump.proofs.InOrder.{reads_behind, writes_behind}
 use Rattle.dk_pump.proofs.Later.{prefix_then, entered_begins}
@@ -52,9 +52,9 @@ while_writing P c conn failed is none fails each =
     (subst (λ f. P (record c { conn = Some conn; write = None; failed = f })) (sym fails) (each c)))
 
 module _ (o : Opened) (keeps : Bool) (count : ℕ) where
-  module _ (began : Known Event) (given : Shown) (pass : Known Event) (link : Shown) (course : Course) (pending : List Frame) (s : IsSession o keeps count began given pass link course pending) where
+  module _ (began : Known Event) (given : LinkState) (pass : Known Event) (link : LinkState) (course : Course) (pending : List Frame) (s : IsSession o keeps count began given pass link course pending) where
     -- its reader entered more
-    by_reading : (pass' : Known Event) (link' : Shown) (course' : Course) (pending' : List Frame) (more : List Event) → pass'.number ≡ pass.number → Enters o count pass.number more pass.front pass'.front
+    by_reading : (pass' : Known Event) (link' : LinkState) (course' : Course) (pending' : List Frame) (more : List Event) → pass'.number ≡ pass.number → Enters o count pass.number more pass.front pass'.front
         → HasRead o keeps began.number course'.conn course'.end course'.decoder given.left link'.left given.take_counted link'.take_counted pass'.front pending' s.writes (s.reads ++ more)
         → HasWritten o keeps began.number course'.conn course' given.contents link'.contents given.put_counted link'.put_counted pass'.front s.writes → IsSession o keeps count began given pass' link' course' pending'
     by_reading pass' link' course' pending' more same e read written = record {
@@ -69,7 +69,7 @@ module _ (o : Opened) (keeps : Bool) (count : ℕ) where
     }
 
     -- its writer entered more
-    by_writing : (pass' : Known Event) (link' : Shown) (course' : Course) (pending' : List Frame) (more : List Event) → pass'.number ≡ pass.number → Enters o count pass.number more pass.front pass'.front
+    by_writing : (pass' : Known Event) (link' : LinkState) (course' : Course) (pending' : List Frame) (more : List Event) → pass'.number ≡ pass.number → Enters o count pass.number more pass.front pass'.front
         → HasRead o keeps began.number course'.conn course'.end course'.decoder given.left link'.left given.take_counted link'.take_counted pass'.front pending' (s.writes ++ more) s.reads
         → HasWritten o keeps began.number course'.conn course' given.contents link'.contents given.put_counted link'.put_counted pass'.front (s.writes ++ more) → IsSession o keeps count began given pass' link' course' pending'
     by_writing pass' link' course' pending' more same e read written = record {
@@ -97,7 +97,7 @@ module _ (o : Opened) (keeps : Bool) (count : ℕ) where
   still_written o' keeps' n (Some conn) c d a b b' k l l' front front' writes on none same still h = written_meanwhile o' keeps' n conn c d c.end a b b' k l l' front front' writes on none same still h
 
   -- a piece was taken, or none
-  pub takes_piece : (pass : Known Event) (link link' : Shown) (c : Course) (d : Decoding) (frames : List Frame) → c.end ≡ None → d.fed ≤ SESSION_MOST_BYTES → IsPolledRead frames link.left link'.left c.decoder d link.take_counted link'.take_counted → KeepsPut link link'
+  pub takes_piece : (pass : Known Event) (link link' : LinkState) (c : Course) (d : Decoding) (frames : List Frame) → c.end ≡ None → d.fed ≤ SESSION_MOST_BYTES → IsPolledRead frames link.left link'.left c.decoder d link.take_counted link'.take_counted → KeepsPut link link'
       → GoesOn o keeps count pass link c [] pass link' (record c { decoder = d }) frames
   takes_piece pass link link' c d frames none few n kept =
       while_reading (λ x. IsPolledRead frames link.left link'.left x.decoder d link.take_counted link'.take_counted → GoesOn o keeps count pass link x [] pass link' (record x { decoder = d }) frames) c c.conn refl none
@@ -116,7 +116,7 @@ module _ (o : Opened) (keeps : Bool) (count : ℕ) where
       (subst (λ fs. IsPosted n conn fs end (taken n conn (inputs_of done))) (sym (append-nil done)) (posted_whole n conn done stage end is))
 
   -- reading ended by what was taken
-  ends_by_piece : (conn : Option ConnNo) (pass pass' : Known Event) (link link' : Shown) (c c' : Course) (d : Decoding) (end : SessionEnd) → d.fed ≤ SESSION_MOST_BYTES → IsNextEnd end link.left link'.left c.decoder d link.take_counted link'.take_counted → KeepsPut link link'
+  ends_by_piece : (conn : Option ConnNo) (pass pass' : Known Event) (link link' : LinkState) (c c' : Course) (d : Decoding) (end : SessionEnd) → d.fed ≤ SESSION_MOST_BYTES → IsNextEnd end link.left link'.left c.decoder d link.take_counted link'.take_counted → KeepsPut link link'
       → EndsReading o keeps count conn end pass (record c { conn = conn; end = None; decoder = d }) pass' c' → GoesOn o keeps count pass link (record c { conn = conn; end = None }) [] pass' link' c' []
   ends_by_piece None pass pass' link link' c c' d end few n kept e began given s =
       let x = record c { conn = None; end = None } in
@@ -141,7 +141,7 @@ module _ (o : Opened) (keeps : Bool) (count : ℕ) where
       closed.closes))
       (written_meanwhile o keeps began.number conn x d (Some end) given.contents link.contents link'.contents given.put_counted link.put_counted link'.put_counted pass.front pass'.front s.writes closed.enters.begins refl kept.contents kept.counted s.written))
 
-  pub ends_reading : (pass pass' : Known Event) (link link' : Shown) (c c' : Course) (d : Decoding) (end : SessionEnd) → c.end ≡ None → d.fed ≤ SESSION_MOST_BYTES → IsNextEnd end link.left link'.left c.decoder d link.take_counted link'.take_counted → KeepsPut link link'
+  pub ends_reading : (pass pass' : Known Event) (link link' : LinkState) (c c' : Course) (d : Decoding) (end : SessionEnd) → c.end ≡ None → d.fed ≤ SESSION_MOST_BYTES → IsNextEnd end link.left link'.left c.decoder d link.take_counted link'.take_counted → KeepsPut link link'
       → EndsReading o keeps count c.conn end pass (record c { decoder = d }) pass' c' → GoesOn o keeps count pass link c [] pass' link' c' []
   ends_reading pass pass' link link' c c' d end none few n kept e =
       while_reading (λ x. IsNextEnd end link.left link'.left x.decoder d link.take_counted link'.take_counted → EndsReading o keeps count c.conn end pass (record x { decoder = d }) pass' c' → GoesOn o keeps count pass link x [] pass' link' c' []) c c.conn refl none
@@ -150,7 +150,7 @@ module _ (o : Opened) (keeps : Bool) (count : ℕ) where
   -- ---- logging in
 
   -- a Connect was answered with a number
-  pub connects : (pass pass' : Known Event) (link : Shown) (c : Course) (conn : ConnNo) (name : List ℕ) (rest : List Frame) → c.conn ≡ None → c.end ≡ None → pass'.number ≡ pass.number
+  pub connects : (pass pass' : Known Event) (link : LinkState) (c : Course) (conn : ConnNo) (name : List ℕ) (rest : List Frame) → c.conn ≡ None → c.end ≡ None → pass'.number ≡ pass.number
       → Entered o pass.number (connect_events pass.number name (Ok conn)) pass.front pass'.front → All (λ e. pass_of e < count) pass'.front
       → GoesOn o keeps count pass link c (Login name ∷ rest) pass' link (record c { conn = Some conn }) rest
   connects pass pass' link c conn name rest is none same e named = while_reading (λ x. GoesOn o keeps count pass link x (Login name ∷ rest) pass' link (record x { conn = Some conn }) rest) c None is none
@@ -165,7 +165,7 @@ module _ (o : Opened) (keeps : Bool) (count : ℕ) where
       (begins_writing o keeps n conn x given.contents link.contents given.put_counted link.put_counted pass'.front s.writes refl s.written))
 
   -- a Connect was refused
-  pub refuses : (pass mid pass' : Known Event) (link : Shown) (c c' : Course) (r : ConnectRefused) (name : List ℕ) (rest : List Frame) → c.conn ≡ None → c.end ≡ None → mid.number ≡ pass.number
+  pub refuses : (pass mid pass' : Known Event) (link : LinkState) (c c' : Course) (r : ConnectRefused) (name : List ℕ) (rest : List Frame) → c.conn ≡ None → c.end ≡ None → mid.number ≡ pass.number
       → Entered o pass.number (connect_events pass.number name (Err r)) pass.front mid.front → All (λ e. pass_of e < count) mid.front
       → EndsReading o keeps count None (end_of_connect r) mid c pass' c' → GoesOn o keeps count pass link c (Login name ∷ rest) pass' link c' []
   refuses pass mid pass' link c c' r name rest is none same entered named ends =
@@ -188,7 +188,7 @@ module _ (o : Opened) (keeps : Bool) (count : ℕ) where
   -- ---- posting
 
   -- all that was pending was posted
-  pub posts_pending : (pass pass' : Known Event) (link : Shown) (c : Course) (conn : ConnNo) (frames : List Frame) → c.conn ≡ Some conn → c.end ≡ None → pass'.number ≡ pass.number
+  pub posts_pending : (pass pass' : Known Event) (link : LinkState) (c : Course) (conn : ConnNo) (frames : List Frame) → c.conn ≡ Some conn → c.end ≡ None → pass'.number ≡ pass.number
       → PostsFrames o count pass.number conn frames (Ok progress.All) pass.front pass'.front → GoesOn o keeps count pass link c frames pass' link c []
   posts_pending pass pass' link c conn frames is none same p = while_reading (λ x. GoesOn o keeps count pass link x frames pass' link x []) c (Some conn) is none
       (λ y began given s.
@@ -200,7 +200,7 @@ module _ (o : Opened) (keeps : Bool) (count : ℕ) where
       (written_meanwhile o keeps n conn x x.decoder None given.contents link.contents link.contents given.put_counted link.put_counted link.put_counted pass.front pass'.front s.writes q.enters.begins refl refl refl s.written))
 
   -- the posts came to an end, and reading ended with its Disconnect
-  ends_by_posts : (pass mid pass' : Known Event) (link : Shown) (c c' : Course) (conn : ConnNo) (frames : List Frame) (end : SessionEnd) → IsOfCall end → c.conn ≡ Some conn → c.end ≡ None → mid.number ≡ pass.number
+  ends_by_posts : (pass mid pass' : Known Event) (link : LinkState) (c c' : Course) (conn : ConnNo) (frames : List Frame) (end : SessionEnd) → IsOfCall end → c.conn ≡ Some conn → c.end ≡ None → mid.number ≡ pass.number
       → ((n : ℕ) → pass.number ≡ n → (events : List Event) × Enters o count n events pass.front mid.front × ((done : List Frame) → IsPosted n conn (done ++ frames) end (taken n conn (inputs_of done) ++ events)))
       → EndsReading o keeps count (Some conn) end mid c pass' c' → GoesOn o keeps count pass link c frames pass' link c' []
   ends_by_posts pass mid pass' link c c' conn frames end call is none same posts ends =
@@ -219,7 +219,7 @@ module _ (o : Opened) (keeps : Bool) (count : ℕ) where
       (reads_out n conn s.read.frames frames s.reads s.read.entered o keeps end pass'.front s.writes p.0 closed.events (p.2 s.read.entered.done) closed.closes))
       (written_meanwhile o keeps n conn x x.decoder (Some end) given.contents link.contents link.contents given.put_counted link.put_counted link.put_counted pass.front pass'.front s.writes (prefix_then pass.front mid.front pass'.front p.1.begins closed.enters.begins) refl refl refl s.written))) ends
 
-  pub posts_to_logout : (pass mid pass' : Known Event) (link : Shown) (c c' : Course) (conn : ConnNo) (frames : List Frame) → c.conn ≡ Some conn → c.end ≡ None → mid.number ≡ pass.number
+  pub posts_to_logout : (pass mid pass' : Known Event) (link : LinkState) (c c' : Course) (conn : ConnNo) (frames : List Frame) → c.conn ≡ Some conn → c.end ≡ None → mid.number ≡ pass.number
       → PostsFrames o count pass.number conn frames (Ok progress.ToLogout) pass.front mid.front → EndsReading o keeps count (Some conn) ends.Logout mid c pass' c' → GoesOn o keeps count pass link c frames pass' link c' []
   posts_to_logout pass mid pass' link c c' conn frames is none same p = ends_by_posts pass mid pass' link c c' conn frames ends.Logout tt is none same
       (λ n number. let q = subst (λ m. PostsFrames o count m conn frames (Ok progress.ToLogout) pass.front mid.front) number p in (q.events, q.enters, λ done. posted_to_end n conn done frames q.events q.posts))
@@ -229,20 +229,20 @@ module _ (o : Opened) (keeps : Bool) (count : ℕ) where
   refused_post_by_call (refused.QueueFull waiting) = tt
   refused_post_by_call refused.NoMemory = tt
 
-  pub posts_refused : (pass mid pass' : Known Event) (link : Shown) (c c' : Course) (conn : ConnNo) (frames : List Frame) (why : PostRefused) → c.conn ≡ Some conn → c.end ≡ None → mid.number ≡ pass.number
+  pub posts_refused : (pass mid pass' : Known Event) (link : LinkState) (c c' : Course) (conn : ConnNo) (frames : List Frame) (why : PostRefused) → c.conn ≡ Some conn → c.end ≡ None → mid.number ≡ pass.number
       → PostsFrames o count pass.number conn frames (Err why) pass.front mid.front → EndsReading o keeps count (Some conn) (end_of_post why) mid c pass' c' → GoesOn o keeps count pass link c frames pass' link c' []
   posts_refused pass mid pass' link c c' conn frames why is none same p = ends_by_posts pass mid pass' link c c' conn frames (end_of_post why) (refused_post_by_call why) is none same
       (λ n number. let q = subst (λ m. PostsFrames o count m conn frames (Err why) pass.front mid.front) number p in (q.events, q.enters, λ done. refused_behind n conn done frames why q.events q.posts))
 
   -- there was no memory to go on
-  pub reads_no_more : (pass pass' : Known Event) (link : Shown) (c c' : Course) (conn : ConnNo) → c.conn ≡ Some conn → c.end ≡ None → EndsReading o keeps count (Some conn) ends.NoMemory pass c pass' c' → GoesOn o keeps count pass link c [] pass' link c' []
+  pub reads_no_more : (pass pass' : Known Event) (link : LinkState) (c c' : Course) (conn : ConnNo) → c.conn ≡ Some conn → c.end ≡ None → EndsReading o keeps count (Some conn) ends.NoMemory pass c pass' c' → GoesOn o keeps count pass link c [] pass' link c' []
   reads_no_more pass pass' link c c' conn is none = ends_by_posts pass pass pass' link c c' conn [] ends.NoMemory tt is none refl
       (λ n number. ([], enters_none o count n pass.front, λ done. refused_behind n conn done [] refused.NoMemory [] (record { before = []; after = []; parts = refl; posts = refl })))
 
   -- ---- writing
 
   -- some of what was handed was put, or nothing
-  pub puts : (pass : Known Event) (link link' : Shown) (c : Course) (conn : ConnNo) (bytes unput : List ℕ) → c.conn ≡ Some conn → c.write ≡ None → c.failed ≡ false → c.outgoing ≡ bytes ++ unput → Appends link.contents link'.contents bytes
+  pub puts : (pass : Known Event) (link link' : LinkState) (c : Course) (conn : ConnNo) (bytes unput : List ℕ) → c.conn ≡ Some conn → c.write ≡ None → c.failed ≡ false → c.outgoing ≡ bytes ++ unput → Appends link.contents link'.contents bytes
       → link'.put_counted ≡ link.put_counted → KeepsTake link link' → GoesOn o keeps count pass link c [] pass link' (record c { outgoing = unput }) []
   puts pass link link' c conn bytes unput is none not parts appended still kept =
       while_writing (λ x. x.outgoing ≡ bytes ++ unput → GoesOn o keeps count pass link x [] pass link' (record x { outgoing = unput }) []) c conn false is none not
@@ -255,7 +255,7 @@ module _ (o : Opened) (keeps : Bool) (count : ℕ) where
       (puts_on o keeps n conn given.contents link.contents given.put_counted link.put_counted x.gone x.outgoing x.end pass.front s.writes s.written bytes unput link'.contents link'.put_counted parts appended still))) parts
 
   -- the link failed, and a Disconnect was posted
-  pub fails : (pass pass' : Known Event) (link link' : Shown) (c : Course) (conn : ConnNo) → c.conn ≡ Some conn → c.write ≡ None → c.failed ≡ false → pass'.number ≡ pass.number → AppendsPrefix link.contents link'.contents c.outgoing
+  pub fails : (pass pass' : Known Event) (link link' : LinkState) (c : Course) (conn : ConnNo) → c.conn ≡ Some conn → c.write ≡ None → c.failed ≡ false → pass'.number ≡ pass.number → AppendsPrefix link.contents link'.contents c.outgoing
       → HasRisen link.put_counted link'.put_counted → KeepsTake link link' → Disconnects o keeps count pass.number conn false pass.front pass'.front → GoesOn o keeps count pass link c [] pass' link' (record c { outgoing = []; failed = true }) []
   fails pass pass' link link' c conn is none not same part risen kept d =
       while_writing (λ x. AppendsPrefix link.contents link'.contents x.outgoing → GoesOn o keeps count pass link x [] pass' link' (record x { outgoing = []; failed = true }) []) c conn false is none not
@@ -268,7 +268,7 @@ module _ (o : Opened) (keeps : Bool) (count : ℕ) where
       (goes_without o keeps n conn given.contents link.contents given.put_counted link.put_counted x.gone x.outgoing x.end pass.front s.writes s.written pass'.front e.events e.ends x.gone x.end link'.contents link'.put_counted refl refl part risen)) part
 
   -- there was no memory, and a Disconnect was posted
-  pub gives_all_up : (pass pass' : Known Event) (link : Shown) (c : Course) (conn : ConnNo) → c.conn ≡ Some conn → c.write ≡ None → c.failed ≡ false → IsSome c.end → pass'.number ≡ pass.number
+  pub gives_all_up : (pass pass' : Known Event) (link : LinkState) (c : Course) (conn : ConnNo) → c.conn ≡ Some conn → c.write ≡ None → c.failed ≡ false → IsSome c.end → pass'.number ≡ pass.number
       → Disconnects o keeps count pass.number conn false pass.front pass'.front → GoesOn o keeps count pass link c [] pass' link (record c { write = Some written.NoMemory }) []
   gives_all_up pass pass' link c conn is none not ended same d =
       while_writing (λ x. IsSome x.end → GoesOn o keeps count pass link x [] pass' link (record x { write = Some written.NoMemory }) []) c conn false is none not
@@ -281,7 +281,7 @@ module _ (o : Opened) (keeps : Bool) (count : ℕ) where
       (gives_up o keeps n conn given.contents link.contents given.put_counted link.put_counted x.gone x.outgoing x.end pass.front s.writes s.written pass'.front e.events e.ends x.end ended)) ended
 
   -- there was no memory behind a failure of the link
-  pub gives_rest_up : (pass : Known Event) (link : Shown) (c : Course) (conn : ConnNo) → c.conn ≡ Some conn → c.write ≡ None → c.failed ≡ true → IsSome c.end → GoesOn o keeps count pass link c [] pass link (record c { write = Some written.NoMemory }) []
+  pub gives_rest_up : (pass : Known Event) (link : LinkState) (c : Course) (conn : ConnNo) → c.conn ≡ Some conn → c.write ≡ None → c.failed ≡ true → IsSome c.end → GoesOn o keeps count pass link c [] pass link (record c { write = Some written.NoMemory }) []
   gives_rest_up pass link c conn is none fails ended =
       while_writing (λ x. IsSome x.end → GoesOn o keeps count pass link x [] pass link (record x { write = Some written.NoMemory }) []) c conn true is none fails
       (λ y ended began given s.
@@ -308,7 +308,7 @@ module _ (o : Opened) (keeps : Bool) (count : ℕ) where
   ended_where_gone false end is = absurd (cc is)
 
   -- a Hand was entered
-  pub hands : (pass pass' : Known Event) (link : Shown) (c : Course) (conn : ConnNo) (most : ℕ) (outs : List Out) (gone : Bool) → c.conn ≡ Some conn → c.write ≡ None → c.gone ≡ false → (c.failed ≡ false → c.outgoing ≡ []) → pass'.number ≡ pass.number
+  pub hands : (pass pass' : Known Event) (link : LinkState) (c : Course) (conn : ConnNo) (most : ℕ) (outs : List Out) (gone : Bool) → c.conn ≡ Some conn → c.write ≡ None → c.gone ≡ false → (c.failed ≡ false → c.outgoing ≡ []) → pass'.number ≡ pass.number
       → Entered o pass.number (event.Hand pass.number conn most outs gone ∷ []) pass.front pass'.front → All (λ e. pass_of e < count) pass'.front → GoesOn o keeps count pass link c [] pass' link (with_handed c outs gone) []
   hands pass pass' link c conn most outs gone is none there empty same e named =
       elim c.failed as (λ f. c.failed ≡ f → GoesOn o keeps count pass link c [] pass' link (with_handed c outs gone) []) [
@@ -339,7 +339,7 @@ module _ (o : Opened) (keeps : Bool) (count : ℕ) where
   written_at o' keeps' n conn true c a b k l front front' writes on there h = record { given_up = given_on o' keeps' n conn front front' writes on h.given_up; put = h.put; counts = h.counts; last = h.last }
 
   -- nothing was entered, and the pass has seen more
-  pub sees : (pass pass' : Known Event) (link : Shown) (c : Course) (conn : ConnNo) → c.conn ≡ Some conn → c.write ≡ None → c.gone ≡ false → pass'.number ≡ pass.number → Entered o pass.number [] pass.front pass'.front → All (λ e. pass_of e < count) pass'.front
+  pub sees : (pass pass' : Known Event) (link : LinkState) (c : Course) (conn : ConnNo) → c.conn ≡ Some conn → c.write ≡ None → c.gone ≡ false → pass'.number ≡ pass.number → Entered o pass.number [] pass.front pass'.front → All (λ e. pass_of e < count) pass'.front
       → GoesOn o keeps count pass link c [] pass' link c []
   sees pass pass' link c conn is none there same e named = while_writing (λ x. x.gone ≡ false → GoesOn o keeps count pass link x [] pass' link x []) c conn c.failed is none refl
       (λ y there began given s.
@@ -351,7 +351,7 @@ module _ (o : Opened) (keeps : Bool) (count : ℕ) where
       (written_at o keeps n conn c.failed x given.contents link.contents given.put_counted link.put_counted pass.front pass'.front s.writes (entered_begins o pass.number [] pass.front pass'.front e) there s.written))) there
 
   -- the connection is gone, and all was put that could be
-  pub ends_writing : (pass : Known Event) (link : Shown) (c : Course) (conn : ConnNo) → c.conn ≡ Some conn → c.write ≡ None → c.gone ≡ true → (c.failed ≡ false → c.outgoing ≡ [])
+  pub ends_writing : (pass : Known Event) (link : LinkState) (c : Course) (conn : ConnNo) → c.conn ≡ Some conn → c.write ≡ None → c.gone ≡ true → (c.failed ≡ false → c.outgoing ≡ [])
       → GoesOn o keeps count pass link c [] pass link (record c { write = Some (if c.failed then written.WriteFault else written.Done) }) []
   ends_writing pass link c conn is none gone empty =
       elim c.failed as (λ f. c.failed ≡ f → GoesOn o keeps count pass link c [] pass link (record c { write = Some (if c.failed then written.WriteFault else written.Done) }) []) [

@@ -36,7 +36,7 @@ use Rattle.dk_pump.specs.Writing.{frames_of, AreHands, tells_end, IsHandedOut, I
 -- ---- a link in a session
 
 -- What is seen of a link: the bytes that are left to take and those that were put, where it tells them, its counts of faults, and how often a poll of taking and one of putting was pending. Each count stays at the end of its type.
-pub record Shown : Type 0 where
+pub record LinkState : Type 0 where
   pub left : Option (List ℕ)
   pub contents : Option (List ℕ)
   pub take_counted : ℕ
@@ -50,13 +50,13 @@ CountsWaits before after Pending = HasRisen before after
 CountsWaits before after (Ready result) = after ≡ before
 
 -- the direction of putting is as it was
-pub record KeepsPut (old new : Shown) : Type 0 where
+pub record KeepsPut (old new : LinkState) : Type 0 where
   pub contents : new.contents ≡ old.contents
   pub counted : new.put_counted ≡ old.put_counted
   pub waits : new.put_waits ≡ old.put_waits
 
 -- the direction of taking is as it was
-pub record KeepsTake (old new : Shown) : Type 0 where
+pub record KeepsTake (old new : LinkState) : Type 0 where
   pub left : new.left ≡ old.left
   pub counted : new.take_counted ≡ old.take_counted
   pub waits : new.take_waits ≡ old.take_waits
@@ -206,7 +206,7 @@ HasWritten o keeps pass (Some conn) c contents contents' counted counted' front 
 -- ---- the whole
 
 -- What a session did, from this pass and this link as it was given them to the pass and the link as they are now, where it has come so far and these frames are still to be posted.
-pub record IsSession (o : Opened) (keeps : Bool) (count : ℕ) (began : Known Event) (given : Shown) (pass : Known Event) (link : Shown) (course : Course) (pending : List Frame) : Type 0 where
+pub record IsSession (o : Opened) (keeps : Bool) (count : ℕ) (began : Known Event) (given : LinkState) (pass : Known Event) (link : LinkState) (course : Course) (pending : List Frame) : Type 0 where
   pub number : pass.number ≡ began.number
   pub reads : List Event
   pub writes : List Event
@@ -217,20 +217,20 @@ pub record IsSession (o : Opened) (keeps : Bool) (count : ℕ) (began : Known Ev
   pub enters : Enters o count began.number events began.front pass.front
 
 -- whatever a session began with, what it did goes on
-abbrev pub GoesOn : Opened → Bool → ℕ → Known Event → Shown → Course → List Frame → Known Event → Shown → Course → List Frame → Type 0
+abbrev pub GoesOn : Opened → Bool → ℕ → Known Event → LinkState → Course → List Frame → Known Event → LinkState → Course → List Frame → Type 0
 GoesOn o keeps count pass link course pending pass' link' course' pending' =
-    (began : Known Event) (given : Shown) → IsSession o keeps count began given pass link course pending → IsSession o keeps count began given pass' link' course' pending'
+    (began : Known Event) (given : LinkState) → IsSession o keeps count began given pass link course pending → IsSession o keeps count began given pass' link' course' pending'
 
 -- this is a session, whatever it began with
-abbrev pub IsMidst : Opened → Bool → ℕ → Known Event → Shown → Course → List Frame → Type 0
-IsMidst o keeps count pass link course pending = ∥ ((began : Known Event) × (given : Shown) × IsSession o keeps count began given pass link course pending) ∥₁
+abbrev pub IsMidst : Opened → Bool → ℕ → Known Event → LinkState → Course → List Frame → Type 0
+IsMidst o keeps count pass link course pending = ∥ ((began : Known Event) × (given : LinkState) × IsSession o keeps count began given pass link course pending) ∥₁
 
 -- what is seen of a session in its midst: the pass and the link that it began with, and those that it has now
 pub record Midst : Type 0 where
   pub began : Known Event
-  pub given : Shown
+  pub given : LinkState
   pub pass : Known Event
-  pub link : Shown
+  pub link : LinkState
   pub course : Course
 
 -- what is seen of a session that has ended
@@ -238,9 +238,9 @@ pub record Ended : Type 0 where
   pub end : SessionEnd
   pub write : WriteEnd
   pub began : Known Event
-  pub given : Shown
+  pub given : LinkState
   pub pass : Known Event
-  pub link : Shown
+  pub link : LinkState
 
 -- A session that has ended so did this, from its begin on.
 pub record HasEnded (o : Opened) (keeps : Bool) (count : ℕ) (e : Ended) : Type 0 where

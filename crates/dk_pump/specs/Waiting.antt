@@ -10,7 +10,7 @@ use Rattle.dk_model.specs.Legal.{Opened, world_after}
 use Rattle.dk_model.specs.Worlds.{Connection}
 use Rattle.dk_turn.specs.Fronts.{Known}
 use Rattle.dk_pump.specs.declared.course.Course.{Course}
-use Rattle.dk_pump.specs.Sessions.{Shown}
+use Rattle.dk_pump.specs.Sessions.{LinkState}
 
 -- after these events the connection is there, and no message waits for it
 pub record HasEmptyOutbox (o : Opened) (conn : ConnNo) (events : List Event) : Type 0 where
@@ -32,20 +32,20 @@ HasNothing o pass None old new = Unit {0}
 HasNothing o pass (Some conn) old new = FindsNothing o pass conn old new
 
 -- the link was not ready to take; or reading had ended
-abbrev pub WaitsToRead : Shown → Shown → Course → Type 0
+abbrev pub WaitsToRead : LinkState → LinkState → Course → Type 0
 WaitsToRead link link' course = HasRisen link.take_waits link'.take_waits ⊎ IsSome course.end
 
 -- the link was not ready to put; or there was nothing to hand
-abbrev pub WaitsToWrite : Opened → Known Event → Shown → Known Event → Shown → Course → Type 0
+abbrev pub WaitsToWrite : Opened → Known Event → LinkState → Known Event → LinkState → Course → Type 0
 WaitsToWrite o pass link pass' link' course = HasRisen link.put_waits link'.put_waits ⊎ HasNothing o pass'.number course.conn pass.front pass'.front
 
 -- Between these two moments of a session: the link was not ready to take, or reading had ended on a session that has a connection; and the link was not ready to put, or the connection had nothing to be handed, or there is none.
-pub record MayWait (o : Opened) (pass : Known Event) (link : Shown) (pass' : Known Event) (link' : Shown) (course : Course) : Type 0 where
+pub record MayWait (o : Opened) (pass : Known Event) (link : LinkState) (pass' : Known Event) (link' : LinkState) (course : Course) : Type 0 where
   pub reading : HasRisen link.take_waits link'.take_waits ⊎ (IsSome course.end × IsSome course.conn)
   pub writing : WaitsToWrite o pass link pass' link' course
 
 -- the pass has seen more, or as much, and no count of polls has fallen
-pub record IsLater (pass : Known Event) (link : Shown) (pass' : Known Event) (link' : Shown) : Type 0 where
+pub record IsLater (pass : Known Event) (link : LinkState) (pass' : Known Event) (link' : LinkState) : Type 0 where
   pub number : pass'.number ≡ pass.number
   pub front : IsPrefix pass.front pass'.front
   pub takes : link.take_waits ≤ link'.take_waits

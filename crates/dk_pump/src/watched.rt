@@ -20,9 +20,9 @@ pub(crate) struct Watched<K: Link + Drop> {
 }
 
 impl<K: Link + Drop> Model for Watched<K> {
-    ghost use Rattle.dk_pump.specs.Sessions.{Shown};
+    ghost use Rattle.dk_pump.specs.Sessions.{LinkState};
 
-    ghost Value = { Shown };
+    ghost Value = { LinkState };
 
     ghost view = { λ w. record { left = K.remaining w.link; contents = K.contents w.link; take_counted = K.take_counted w.link; put_counted = K.put_counted w.link; take_waits = w.take_waits; put_waits = w.put_waits } };
 }

@@ -31,7 +31,7 @@ use Rattle.dk_model.specs.Lines.{text_of}
 use Rattle.dk_model.specs.Steps.{Stepped, step}
 use Rattle.dk_model.specs.Events.{Meaning, Happens, Posts, swept, with_claim, committed, outbox, outbox_at, step_of}
 use Rattle.dk_model.specs.Orders.{OrderItem, Claimed, Committed, AreInTurn, item_of}
-use Rattle.dk_model.specs.Transcripts.{Known, name_at, named, event_lines, connect_lines, post_lines, claim_lines, lines_of_events, known_after, lines_of_phases, nothing_known, transcript_text, done_line, Playing, PostsTo, Enters, EntersAll, Follows, Hands, PlaysPhase, Plays, playing, DecidesOneTranscript}
+use Rattle.dk_model.specs.Transcripts.{Known, name_at, named, event_lines, connect_lines, post_lines, claim_lines, lines_of_events, known_after, lines_of_phases, nothing_known, transcript_text, done_line, Playing, PostsTo, PlaysLine, PlaysLines, Follows, Hands, PlaysPhase, Plays, playing, DecidesOneTranscript}
 use Rattle.dk_script.proofs.SameTold.{SameTold, SameLines, same_by, same_none, same_more, same_both}
 use Rattle.dk_model.proofs.Maps.{runs_total, exact_runs, some_is, get-insert_here}
 
@@ -71,7 +71,7 @@ posts_alike rules p a b name x e f means g h =
     }
 
 -- a line is entered in one way
-line_alike : (rules : Meaning) (p a b : Playing) (l : Line) (e f : Event) → Enters rules p l e a → Enters rules p l f b → GoAlike a b e f
+line_alike : (rules : Meaning) (p a b : Playing) (l : Line) (e f : Event) → PlaysLine rules p l e a → PlaysLine rules p l f b → GoAlike a b e f
 line_alike rules p a b (line.Login name) e f g h =
     let one = subst (λ v. Happens rules p.world v a.world) g.2 g.3 in
     let two = subst (λ v. Happens rules p.world v b.world) h.2 h.3 in
@@ -96,11 +96,11 @@ line_alike rules p a b (line.Tick moment) e f g h =
     }
 
 -- and so are all lines
-lines_alike : (rules : Meaning) (p a b : Playing) (ls : List Line) (es fs : List Event) → EntersAll rules p ls es a → EntersAll rules p ls fs b → (a ≡ b) × SameLines es fs
+lines_alike : (rules : Meaning) (p a b : Playing) (ls : List Line) (es fs : List Event) → PlaysLines rules p ls es a → PlaysLines rules p ls fs b → (a ≡ b) × SameLines es fs
 lines_alike rules p a b [] [] [] g h = (g ∙ sym h, same_none)
 lines_alike rules p a b (l ∷ ls) (e ∷ es) (f ∷ fs) g h =
     let first = line_alike rules p g.0 h.0 l e f g.1 h.1 in
-    let rest = lines_alike rules h.0 a b ls es fs (subst (λ q. EntersAll rules q ls es a) first.same g.2) h.2 in
+    let rest = lines_alike rules h.0 a b ls es fs (subst (λ q. PlaysLines rules q ls es a) first.same g.2) h.2 in
     (rest.0, same_more e f es fs first.told rest.1)
 lines_alike rules p a b [] (e ∷ es) fs g h = absurd g
 lines_alike rules p a b [] [] (f ∷ fs) g h = absurd h

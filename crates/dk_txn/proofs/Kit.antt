@@ -13,7 +13,7 @@ use Rattle.dk_txn.specs.Current.{current}
 use Rattle.dk_txn.proofs.Sound.{Agrees-front, sound_as}
 use Rattle.dk_overlay.proofs.Tests.{Some_injective}
 use Rattle.dk_txn.specs.declared.txn.Txn.{Txn}
-use Rattle.dk_txn.specs.Does.{KeepsFor, DoesFor, LeadsFor, Keeps, Does, failure}
+use Rattle.dk_txn.specs.Does.{KeepsFor, DoesFor, ResumesFor, Keeps, Does, failure}
 use Rattle.dk_txn.specs.Sights.{Sights}
 use Rattle.dk_txn.proofs.Asking.{asks_nothing, asks_then}
 
@@ -124,12 +124,12 @@ module _ {P : TaskKey → ℕ → Type 0} {S : Type 0} {sights : Sights S} where
   if_false_does f e p = rw e p
 
   -- at first all is left to do
-  pub leads_start : {a : Txn S ReadsAndWrites} {C : Type 0} {f : Act C} → LeadsFor P sights a a f f
+  pub leads_start : {a : Txn S ReadsAndWrites} {C : Type 0} {f : Act C} → ResumesFor P sights a a f f
   leads_start = record { keeps = keeps_all; leads = λ d agrees. refl }
 
   -- a step that was not refused leaves what follows it
   pub leads_then : {a b c : Txn S ReadsAndWrites} {E A C : Type 0} {told : E → Option AppFault} {f : Act C} {m : Act A} {x : A} (g : A → Act C)
-      → LeadsFor P sights a b f (and_then m g) → DoesFor P sights told b c m (Ok x) → LeadsFor P sights a c f (g x)
+      → ResumesFor P sights a b f (and_then m g) → DoesFor P sights told b c m (Ok x) → ResumesFor P sights a c f (g x)
   unfolding and_then
   leads_then {b = b} {c = c} {x = x} g p q = record {
     keeps = keeps_then p.keeps q.keeps;
@@ -138,7 +138,7 @@ module _ {P : TaskKey → ℕ → Type 0} {S : Type 0} {sights : Sights S} where
 
   -- what is left is done
   pub leads_does : {a b c : Txn S ReadsAndWrites} {E A : Type 0} {told : E → Option AppFault} {f g : Act A} {r : Result A E}
-      → LeadsFor P sights a b f g → DoesFor P sights told b c g r → DoesFor P sights told a c f r
+      → ResumesFor P sights a b f g → DoesFor P sights told b c g r → DoesFor P sights told a c f r
   leads_does p q = record {
     keeps = keeps_then p.keeps q.keeps;
     does = λ s t d agrees. p.leads d (agreed q.keeps d agrees) ∙ q.does s t d agrees;

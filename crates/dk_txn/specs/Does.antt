@@ -62,7 +62,7 @@ pub record DoesFor (P : TaskKey → ℕ → Type 0) {S E A : Type 0} (sights : S
   pub does : (s : Result A AppFault) → outcome_of_result told r ≡ Some s → (d : DurableWorld) → Agrees d b.set.reads → f (current a.set d) ≡ (s, current b.set d)
 
 -- in every agreeing world, what was left to do at first is what is left to do now
-pub record LeadsFor (P : TaskKey → ℕ → Type 0) {S C : Type 0} (sights : Sights S) (a b : Txn S ReadsAndWrites) (f g : Act C) : Type 0 where
+pub record ResumesFor (P : TaskKey → ℕ → Type 0) {S C : Type 0} (sights : Sights S) (a b : Txn S ReadsAndWrites) (f g : Act C) : Type 0 where
   pub keeps : KeepsFor P sights a b
   pub leads : (d : DurableWorld) → Agrees d b.set.reads → f (current a.set d) ≡ g (current b.set d)
 
@@ -83,8 +83,8 @@ abbrev pub Does : {S E A : Type 0} → Sights S → (E → Option AppFault) → 
 Does = DoesFor Every
 
 -- what was left to do at first is what is left to do now, and no task was moved
-abbrev pub Leads : {S C : Type 0} → Sights S → Txn S ReadsAndWrites → Txn S ReadsAndWrites → Act C → Act C → Type 0
-Leads = LeadsFor Every
+abbrev pub Resumes : {S C : Type 0} → Sights S → Txn S ReadsAndWrites → Txn S ReadsAndWrites → Act C → Act C → Type 0
+Resumes = ResumesFor Every
 
 -- c is what an object was and is
 pub record KnownObject (t : ReadsAndWrites) (id : ObjectId) (c : Change Object) : Type 0 where

@@ -10,7 +10,7 @@ use Rattle.dk_model.specs.declared.script.Line.TheVariants as line
 use Rattle.dk_model.specs.Worlds.{World}
 use Rattle.dk_model.specs.Events.{Meaning}
 use Rattle.dk_model.specs.Orders.{OrderItem, AreInTurn, item_of, order_of}
-use Rattle.dk_model.specs.Transcripts.{Playing, Enters, EntersAll, Follows, Hands, PlaysPhase, Plays, IsPlayed, IsTranscript, playing, transcript_text}
+use Rattle.dk_model.specs.Transcripts.{Playing, PlaysLine, PlaysLines, Follows, Hands, PlaysPhase, Plays, IsPlayed, IsTranscript, playing, transcript_text}
 use Rattle.dk_script.proofs.OrderTold.{order_of-transcript_text}
 
 -- an event that tells no item adds none
@@ -18,19 +18,19 @@ without_item : (e : Event) (events : List Event) → item_of e ≡ None → filt
 without_item e events none rest = ap (λ (o : Option OrderItem). cons_option o (filter_map item_of events)) none ∙ rest
 
 -- entering a line tells no item
-item_of-Enters : (rules : Meaning) (p : Playing) (l : Line) (e : Event) (after : Playing) → Enters rules p l e after → item_of e ≡ None
-item_of-Enters rules p (line.Login name) e after h = ap item_of h.2
-item_of-Enters rules p (line.Send name text) e after h = ap item_of h.4
-item_of-Enters rules p (line.Channel name channel text) e after h = ap item_of h.4
-item_of-Enters rules p (line.Logout name) e after h = ap item_of h.4
-item_of-Enters rules p (line.Drop name) e after h = ap item_of h.4
-item_of-Enters rules p (line.Tick moment) e after h = ap item_of h.1
+item_of-PlaysLine : (rules : Meaning) (p : Playing) (l : Line) (e : Event) (after : Playing) → PlaysLine rules p l e after → item_of e ≡ None
+item_of-PlaysLine rules p (line.Login name) e after h = ap item_of h.2
+item_of-PlaysLine rules p (line.Send name text) e after h = ap item_of h.4
+item_of-PlaysLine rules p (line.Channel name channel text) e after h = ap item_of h.4
+item_of-PlaysLine rules p (line.Logout name) e after h = ap item_of h.4
+item_of-PlaysLine rules p (line.Drop name) e after h = ap item_of h.4
+item_of-PlaysLine rules p (line.Tick moment) e after h = ap item_of h.1
 
-items_of-EntersAll : (rules : Meaning) (p : Playing) (lines : List Line) (events : List Event) (after : Playing) → EntersAll rules p lines events after → filter_map item_of events ≡ []
-items_of-EntersAll rules p [] [] after h = refl
-items_of-EntersAll rules p (l ∷ lines) (e ∷ events) after h = without_item e events (item_of-Enters rules p l e h.0 h.1) (items_of-EntersAll rules h.0 lines events after h.2)
-items_of-EntersAll rules p [] (e ∷ events) after h = absurd h
-items_of-EntersAll rules p (l ∷ lines) [] after h = absurd h
+items_of-PlaysLines : (rules : Meaning) (p : Playing) (lines : List Line) (events : List Event) (after : Playing) → PlaysLines rules p lines events after → filter_map item_of events ≡ []
+items_of-PlaysLines rules p [] [] after h = refl
+items_of-PlaysLines rules p (l ∷ lines) (e ∷ events) after h = without_item e events (item_of-PlaysLine rules p l e h.0 h.1) (items_of-PlaysLines rules h.0 lines events after h.2)
+items_of-PlaysLines rules p [] (e ∷ events) after h = absurd h
+items_of-PlaysLines rules p (l ∷ lines) [] after h = absurd h
 
 -- the events that follow an order tell exactly its items
 items_of-Follows : (rules : Meaning) (w : World) (items : List OrderItem) (events : List Event) (after : World) → Follows rules w items events after → filter_map item_of events ≡ items
@@ -51,7 +51,7 @@ items_of-Hands rules w (conn ∷ conns) [] after h = absurd h
 items_of-PlaysPhase : (rules : Meaning) (p : Playing) (lines : List Line) (items : List OrderItem) (events : List Event) (after : Playing) → PlaysPhase rules p lines items events after → items ≡ filter_map item_of events
 items_of-PlaysPhase rules p lines items events after h =
     let told : List Event → List OrderItem = filter_map item_of in
-    let entered = items_of-EntersAll rules p lines h.entered h.at_lines h.enters in
+    let entered = items_of-PlaysLines rules p lines h.entered h.at_lines h.enters in
     let followed = items_of-Follows rules h.at_lines.world items h.followed h.at_items h.follows in
     let handed = items_of-Hands rules h.at_items h.at_lines.opened h.handed after.world h.hands in
     sym (ap told h.all ∙ filter_map-append item_of h.entered (h.followed ++ h.handed) ∙ ap (λ (xs : List OrderItem). xs ++ told (h.followed ++ h.handed)) entered

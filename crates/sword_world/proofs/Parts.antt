@@ -16,7 +16,7 @@ use Rattle.dk_txn.specs.declared.txn.Txn.{Txn}
 use Rattle.dk_txn.specs.declared.refusal.Refusal.{Refusal}
 use Rattle.dk_txn.specs.Refusals.{refusal_fault}
 use Rattle.dk_txn.specs.Bindings.{binding}
-use Rattle.dk_txn.specs.Does.{Does, Leads, failure}
+use Rattle.dk_txn.specs.Does.{Does, Resumes, failure}
 use Rattle.dk_txn.proofs.Kit.{keeps_all, give_does, halts, leads_then, leads_does}
 use Rattle.dk_game.specs.declared.halt.Halt.{Halt}
 use Rattle.dk_game.specs.declared.halt.Halt.TheVariants as halt
@@ -48,30 +48,30 @@ module _ {S : Type 0} {sights : Sights S} where
 
   module _ {A : Type 0} (kind : ℕ) (read : List ℕ → Option A) (label : A → List ℕ) {a b : Txn S ReadsAndWrites} (ids : List ObjectId) (i : ℕ) (d : ObjectId) where
     -- what is left begins with the next object
-    labels_at : (so_far : List (List ℕ)) → i < length ids → Leads sights a b (labels_from kind read label [] ids) (labels_from kind read label so_far (drop i ids))
-        → Leads sights a b (labels_from kind read label [] ids) (and_then (get_as kind read (get_or ids i d)) (λ x. labels_from kind read label (so_far ++ label x ∷ []) (drop (i + 1) ids)))
-    labels_at so_far h before = subst (λ l. Leads sights a b (labels_from kind read label [] ids) (labels_from kind read label so_far l)) (rest_is ids i d h) before
+    labels_at : (so_far : List (List ℕ)) → i < length ids → Resumes sights a b (labels_from kind read label [] ids) (labels_from kind read label so_far (drop i ids))
+        → Resumes sights a b (labels_from kind read label [] ids) (and_then (get_as kind read (get_or ids i d)) (λ x. labels_from kind read label (so_far ++ label x ∷ []) (drop (i + 1) ids)))
+    labels_at so_far h before = subst (λ l. Resumes sights a b (labels_from kind read label [] ids) (labels_from kind read label so_far l)) (rest_is ids i d h) before
 
     -- one more object tells its label
     pub labels_more : {c : Txn S ReadsAndWrites} (so_far more : List (List ℕ)) (x : A) → i < length ids → Does sights refusal_fault b c (get_as kind read (get_or ids i d)) (Ok x) → more ≡ so_far ++ label x ∷ []
-        → Leads sights a b (labels_from kind read label [] ids) (labels_from kind read label so_far (drop i ids)) → Leads sights a c (labels_from kind read label [] ids) (labels_from kind read label more (drop (i + 1) ids))
+        → Resumes sights a b (labels_from kind read label [] ids) (labels_from kind read label so_far (drop i ids)) → Resumes sights a c (labels_from kind read label [] ids) (labels_from kind read label more (drop (i + 1) ids))
     labels_more {c = c} so_far more x h p is before =
-        subst (λ m. Leads sights a c (labels_from kind read label [] ids) (labels_from kind read label m (drop (i + 1) ids))) (sym is) (leads_then _ (labels_at so_far h before) p)
+        subst (λ m. Resumes sights a c (labels_from kind read label [] ids) (labels_from kind read label m (drop (i + 1) ids))) (sym is) (leads_then _ (labels_at so_far h before) p)
 
     -- an object that is refused ends the list
     pub labels_halt : {c : Txn S ReadsAndWrites} {e : Refusal} {r : Result (List (List ℕ)) Halt} (so_far : List (List ℕ)) → i < length ids → Does sights refusal_fault b c (get_as kind read (get_or ids i d)) (Err e)
-        → IsErrAnd r (λ h. halt_fault h ≡ refusal_fault e) → Leads sights a b (labels_from kind read label [] ids) (labels_from kind read label so_far (drop i ids)) → Does sights halt_fault a c (labels kind read label ids) r
+        → IsErrAnd r (λ h. halt_fault h ≡ refusal_fault e) → Resumes sights a b (labels_from kind read label [] ids) (labels_from kind read label so_far (drop i ids)) → Does sights halt_fault a c (labels kind read label ids) r
     unfolding labels
     labels_halt so_far h p is before = leads_does (labels_at so_far h before) (halts _ p is)
 
     -- there is no memory for one more label
     pub labels_starve : {c : Txn S ReadsAndWrites} {r : Result (List (List ℕ)) Halt} (so_far : List (List ℕ)) (x : A) → i < length ids → Does sights refusal_fault b c (get_as kind read (get_or ids i d)) (Ok x)
-        → IsErrAnd r (λ h. h ≡ halt.NoMemory) → Leads sights a b (labels_from kind read label [] ids) (labels_from kind read label so_far (drop i ids)) → Does sights halt_fault a c (labels kind read label ids) r
+        → IsErrAnd r (λ h. h ≡ halt.NoMemory) → Resumes sights a b (labels_from kind read label [] ids) (labels_from kind read label so_far (drop i ids)) → Does sights halt_fault a c (labels kind read label ids) r
     unfolding labels
     labels_starve so_far x h p is before = leads_does (leads_then _ (labels_at so_far h before) p) (starves is)
 
     -- nothing is left to tell
     pub labels_done : (so_far : List (List ℕ)) → length ids ≤ i
-        → Leads sights a b (labels_from kind read label [] ids) (labels_from kind read label so_far (drop i ids)) → Does sights halt_fault a b (labels kind read label ids) (Ok so_far)
+        → Resumes sights a b (labels_from kind read label [] ids) (labels_from kind read label so_far (drop i ids)) → Does sights halt_fault a b (labels kind read label ids) (Ok so_far)
     unfolding labels
-    labels_done so_far h before = leads_does (subst (λ l. Leads sights a b (labels_from kind read label [] ids) (labels_from kind read label so_far l)) (drop_all i ids h) before) give_does
+    labels_done so_far h before = leads_does (subst (λ l. Resumes sights a b (labels_from kind read label [] ids) (labels_from kind read label so_far l)) (drop_all i ids h) before) give_does
