@@ -1,4 +1,4 @@
--- How the values of a log are stored as numbers and lists.
+-- How the values of a read and write set are stored as numbers and lists.
 use Rattle.std.specs.Prelude.{◌≡◌, ℕ, Bool, true, false, Option, List, [], refl}
 use Rattle.std.specs.Coded.{Coded, code_by, coded×, coded_ℕ, coded_bool, coded_list, coded_option}
 use Rattle.std.specs.FinMap as map
@@ -107,7 +107,7 @@ Counts = (RunNo × ℕ) × ((ℕ × ℕ) × Mode)
 abbrev Lists : Type 0
 Lists = List (Item × Read) × (List Item × List (ConnNo × Out))
 
--- a log is stored as the tuple of its fields
+-- a read and write set is stored as the tuple of its fields
 abbrev pub read_write_code : Coded Item → Coded Read → Coded Out → Coded ReadsAndWrites
 read_write_code item read out =
     code_by (Lists × (Maps × Counts))

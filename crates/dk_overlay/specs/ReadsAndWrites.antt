@@ -35,7 +35,7 @@ pub record ReadsAndWrites : Type 0 where
   pub tasks_made : ℕ
   pub mode : Mode
 
--- the log of a run at its start
+-- of a run at its start
 abbrev pub nothing_done : RunNo → ℕ → ReadsAndWrites
 nothing_done run at = record {
   reads = [];

@@ -1,7 +1,7 @@
 //! What a run has read and changed: the reads in the order in which they were first made, the
 //! changes of objects, names and tasks, what was written and what was sent.
 //!
-//! It knows no world: its contracts speak of the lists and maps that it keeps. `Log::effects` gives the net
+//! It knows no world: its contracts speak of the lists and maps that it keeps. `ReadWriteSet::effects` gives the net
 //! effects of the changes. Where the reads come from, what a run may do and what it comes to in a world is
 //! the business of `dk_txn`.
 #![tactic(auto)]

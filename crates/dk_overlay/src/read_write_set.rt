@@ -1,4 +1,4 @@
-//! The log of a run in its midst.
+//! What a run in its midst has read and written.
 ghost use Rattle.std.specs.Prelude.{◌≡◌, ◌+◌, ◌<◌, ◌≤◌, ◌++◌, ◌∷◌, [], Some, length, OnOk, OnErr, IfOk, IfSome, IfNone};
 ghost use Rattle.std.specs.FinMap as map;
 ghost use Rattle.std.specs.Option.{option_copied};
@@ -76,7 +76,7 @@ impl Model for ReadWriteSet {
     ghost invariant = { λ a. a.at ≤ MOMENT_MOST_MS };
 }
 
-/// What a log hands over at the end: the reads, the items written and the messages.
+/// What is handed over at the end: the reads, the items written and the messages.
 #[derive(Drop)]
 pub struct ReadWriteParts {
     pub reads: Vec<(Item, Read)>,
@@ -85,7 +85,7 @@ pub struct ReadWriteParts {
 }
 
 impl ReadWriteSet {
-    /// The log of a run that has done nothing yet, at its moment in ms.
+    /// Of a run that has done nothing yet, at its moment in ms.
     pub fn new(alloc: Global, run: RunNo, at: u64) -> ReadWriteSet
         requires { at ≤ MOMENT_MOST_MS }
         ensures { result ≡ nothing_done run at }

@@ -38,7 +38,7 @@ module _ {S : Type 0} {sights : Sights S} {Of : Item → Type 0} where
     in_turn = in_turn sights a.view.now b.view.now c.view.now a.set.reads b.set.reads c.set.reads p.asks q.asks p.in_turn q.in_turn;
   }
 
-  -- another log with the same reads
+  -- others with the same reads
   pub asks_changed : {a b : Txn S ReadsAndWrites} (u : ReadsAndWrites) → AsksOf Of sights a b → u.reads ≡ b.set.reads → AsksOf Of sights a (record { view = b.view; set = u })
   asks_changed {a = a} {b = b} u p same = record {
     asks = p.asks;

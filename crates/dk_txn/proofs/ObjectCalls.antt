@@ -57,7 +57,7 @@ module _ {P : TaskKey → ℕ → Type 0} {S : Type 0} {sights : Sights S} where
     does = λ s t d agrees. h d ∙ ap (λ r. (r, current a.set d)) (Some_injective _ _ (sym (ap failure is) ∙ t));
   }
 
-  -- the run stands as the log t says, and the call is done
+  -- the run stands as t says, and the call is done
   pub done_at : {a b : Txn S ReadsAndWrites} {A : Type 0} {f : Act A} {x : A} (t u : ReadsAndWrites) → KeepsFor P sights a (record { view = b.view; set = t }) → SameChanges a.set b.set → t.reads ≡ b.set.reads → u ≡ t
       → ((d : DurableWorld) → Agrees d b.set.reads → f (current b.set d) ≡ (Ok x, current t d)) → DoesFor P sights refusal_fault a (record { view = b.view; set = u }) f (Ok x)
   done_at {a = a} {b = b} {f = f} {x = x} t u k same reads e h =

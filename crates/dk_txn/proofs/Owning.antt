@@ -91,7 +91,7 @@ knows_passed t d key due period k h =
       | false ↦ knows_task t key (moving (map.get t.tasks key) due (next_due due period t.at)) d k (moving_stood (map.get t.tasks key) (map.get d.tasks key) due (next_due due period t.at) there (k.tasks key))
     ]
 
--- the moves of a log whose own task was passed
+-- the moves of a run whose own task was passed
 pub moves_passed : (P : TaskKey → ℕ → Type 0) (t : ReadsAndWrites) (key : TaskKey) (due period : ℕ) → P key due
     → ((k : TaskKey) (from to : ℕ) → map.get t.tasks k ≡ Some (Moved from to) → P k from)
     → (k : TaskKey) (from to : ℕ) → map.get (passing_own t key due period).tasks k ≡ Some (Moved from to) → P k from

@@ -1,4 +1,4 @@
--- What a read of the view keeps, and what a change of the log keeps.
+-- What a read of the view keeps, and what a write keeps.
 use Rattle.std.proofs.Common.{◌≡◌, ℕ, Option, Some, None, List, [], ◌∷◌, ◌++◌, Result, sym, ap, subst, ◌∙◌, append-nil}
 use Rattle.std.specs.Option.{ok_or}
 use Rattle.std.specs.List.{AllByRecursion}
@@ -76,7 +76,7 @@ reading_asked t u item read e = subst (λ (v : ReadsAndWrites). IsAsked v.reads 
 pub same_current : (a b : ReadsAndWrites) (d : DurableWorld) → SameChanges a b → current a d ≡ current b d
 same_current a b d e = sym (ap (λ t. current t d) e)
 
--- what a change of the log keeps, with the view as it was
+-- what a write keeps, with the view as it was
 pub keeps_changed : {P : TaskKey → ℕ → Type 0} {S : Type 0} {sights : Sights S} {a b : Txn S ReadsAndWrites} → KeepsFor P sights a b → (t : ReadsAndWrites)
     → t.reads ≡ b.set.reads → t.run ≡ b.set.run → t.at ≡ b.set.at → (IsSound b.set → IsSound t) → ((key : TaskKey) (due : ℕ) → P key due → MovesAlone key due b.set → MovesAlone key due t)
     → KeepsFor P sights a (record { view = b.view; set = t })

@@ -1,4 +1,4 @@
--- What a run's log comes to in a world.
+-- What the reads and writes of a run come to in a world.
 use Rattle.std.specs.Prelude.{ℕ, ◌+◌, ◌==◌, if◌then◌else◌}
 use Rattle.dk_types.specs.declared.number.TaskKey.{TaskKey}
 use Rattle.dk_model.specs.DurableWorlds.{DurableWorld, last_with}
@@ -8,7 +8,7 @@ use Rattle.dk_overlay.specs.Changes.{value_now, task_now}
 use Rattle.dk_overlay.specs.ReadsAndWrites.{ReadsAndWrites, removing_task, moving_task}
 use Rattle.dk_txn.specs.Layers.{layered}
 
--- the run in its midst that the log comes to, where the world before it is d
+-- the run in its midst that they come to, where the world before it is d
 abbrev pub current : ReadsAndWrites → DurableWorld → Run
 current t d = record {
   world = record {

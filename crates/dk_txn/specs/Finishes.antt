@@ -22,7 +22,7 @@ pub record MayBeIn (t : ReadsAndWrites) (job : Job) (d : DurableWorld) : Type 0 
   pub new : IsNew d t.run
   pub stands : HasOwnTask d job
 
--- the log of a run as its calls leave it: its changes know what was there before, it asked for its own task, whose moments are
+-- a run as its calls leave it: its changes know what was there before, it asked for its own task, whose moments are
 -- within their limits, and moved no other
 pub record IsLogOf (t : ReadsAndWrites) (job : Job) : Type 0 where
   pub sound : IsSound t
@@ -38,7 +38,7 @@ TellsEnd t job end f = IsLogOf t job → (d : DurableWorld) → MayBeIn t job d 
 abbrev pub TellsFailed : ReadsAndWrites → Job → AppFault → Finished → Type 0
 TellsFailed t job fault f = IsLogOf t job → (d : DurableWorld) → MayBeIn t job d → report f ≡ step_report d (failed job (begun t.run t.at d) fault)
 
--- in d the log k comes to what a failed run keeps of its own task
+-- in d, k comes to what a failed run keeps of its own task
 pub record IsKeptIn (t : ReadsAndWrites) (job : Job) (k : ReadsAndWrites) (d : DurableWorld) : Type 0 where
   pub is : current k d ≡ kept_by job (begun t.run t.at d)
   pub knows : KnowsBefore k d

@@ -18,7 +18,7 @@ use std::mem;
 /// What a run has read and changed, over the view that it asks for the rest.
 ///
 /// An operation first looks at the run's own changes, and asks the view for what they do not say. A refused operation
-/// leaves the changes as they were; the reads that it made stay. `L` is the run's log, and is never chosen.
+/// leaves the changes as they were; the reads that it made stay. `L` is the run's read and write set, and is never chosen.
 pub struct Txn<'a, V: View, L = ReadWriteSet> {
     pub(crate) view: &'a mut V,
     pub(crate) set: L,
