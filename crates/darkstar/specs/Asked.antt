@@ -41,5 +41,5 @@ service_for service = record { game = word_of service.game; rules = rules_of ser
 abbrev pub request_for : Asked → requests.Request
 request_for (it.Play dir terms) = requests.Plays (play_of (string_bytes dir) terms)
 request_for (it.Serve dir service) = requests.Serves (serving_of (string_bytes dir) service)
-request_for (it.Tell report) = requests.Reports (asked report)
+request_for (it.Report report) = requests.Reports (asked report)
 request_for (it.Stress seed tasks workers) = requests.Stresses (record { seed = seed; tasks = tasks; workers = workers })

@@ -14,7 +14,7 @@ use dk_command::Command;
 pub enum Asked {
     Play { dir: String, terms: Terms },
     Serve { dir: String, service: Service },
-    Tell(Report),
+    Report(Report),
     Stress { seed: u32, tasks: u32, workers: u8 },
 }
 
@@ -57,8 +57,8 @@ impl Asked {
                 let service = Service { game, terms };
                 Asked::Serve { dir, service }
             }
-            Command::Check { dir, game } => Asked::Tell(Report::new(Kind::Check, dir, game)),
-            Command::Inspect { dir, game } => Asked::Tell(Report::new(Kind::Inspect, dir, game)),
+            Command::Check { dir, game } => Asked::Report(Report::new(Kind::Check, dir, game)),
+            Command::Inspect { dir, game } => Asked::Report(Report::new(Kind::Inspect, dir, game)),
             Command::Stress {
                 seed,
                 tasks,

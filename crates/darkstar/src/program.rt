@@ -178,7 +178,7 @@ pub fn run<
         Asked::Serve { dir, service } => {
             service.serve(rt, alloc, dir.as_str(), home, net, clock, spawner, gate)
         }
-        Asked::Tell(report) => {
+        Asked::Report(report) => {
             let ended = report.write(alloc, home, out);
             Ran {
                 status: ended.status,

@@ -52,7 +52,7 @@ impl<'a> Reader<'a> {
         ensures memory { IfErr result (λ e. e ≢ PayloadRefused.NoMemory) }
     {
         let at = self.at();
-        told(at, self.read_u8())
+        located(at, self.read_u8())
     }
 
     /// The next number of 16 bits.
@@ -61,7 +61,7 @@ impl<'a> Reader<'a> {
         ensures memory { IfErr result (λ e. e ≢ PayloadRefused.NoMemory) }
     {
         let at = self.at();
-        told(at, self.read_u16())
+        located(at, self.read_u16())
     }
 
     /// The next number of 32 bits.
@@ -70,7 +70,7 @@ impl<'a> Reader<'a> {
         ensures memory { IfErr result (λ e. e ≢ PayloadRefused.NoMemory) }
     {
         let at = self.at();
-        told(at, self.read_u32())
+        located(at, self.read_u32())
     }
 
     /// The next number of 64 bits.
@@ -79,7 +79,7 @@ impl<'a> Reader<'a> {
         ensures memory { IfErr result (λ e. e ≢ PayloadRefused.NoMemory) }
     {
         let at = self.at();
-        told(at, self.read_u64())
+        located(at, self.read_u64())
     }
 
     /// The next name.
@@ -87,7 +87,7 @@ impl<'a> Reader<'a> {
         ensures { Gives next_name self.old result self.new }
     {
         let at = self.at();
-        told(at, self.read_name(alloc))
+        located(at, self.read_name(alloc))
     }
 
     /// The next bytes with their length, which is at most this.
@@ -95,7 +95,7 @@ impl<'a> Reader<'a> {
         ensures { Gives (next_blob most) self.old result self.new }
     {
         let at = self.at();
-        told(at, self.read_blob(alloc, most))
+        located(at, self.read_blob(alloc, most))
     }
 
     /// The next object's id.
@@ -104,7 +104,7 @@ impl<'a> Reader<'a> {
         ensures memory { IfErr result (λ e. e ≢ PayloadRefused.NoMemory) }
     {
         let at = self.at();
-        told(at, self.read_id())
+        located(at, self.read_id())
     }
 
     /// The key of a task, which has the form of an id.
@@ -133,7 +133,7 @@ impl<'a> Reader<'a> {
     }
 }
 
-fn told<T>(at: u64, taken: Result<T, WireRefused>) -> Result<T, PayloadRefused>
+fn located<T>(at: u64, taken: Result<T, WireRefused>) -> Result<T, PayloadRefused>
     ensures { result ≡ located at taken }
 {
     match taken {

@@ -5,7 +5,7 @@ ghost use Rattle.dk_core.specs.Listings.{world_of};
 ghost use Rattle.darkstar.specs.Served.{IsOutcome, IsServedOn, IsSound, IsUnserved, links_of};
 
 use super::running::run_server;
-use super::verdict::{Counts, ServeFault, told};
+use super::verdict::{Counts, ServeFault, reported};
 use super::{ServeTerms, Served};
 use dk_disk::Home;
 use dk_edge::{Clock, Link, Listener, Sink, Source, Spawner};
@@ -31,8 +31,8 @@ fn outcome_of(
     ensures { IsOutcome fault stopped disk.before disk.after listener.before listener.after spawner.before spawner.after result }
 {
     match (fault, stopped) {
-        (Some(fault), _) => Err(told(fault, disk, listener, spawner)),
-        (None, Some(_)) => Err(told(ServeFault::DiskFault, disk, listener, spawner)),
+        (Some(fault), _) => Err(reported(fault, disk, listener, spawner)),
+        (None, Some(_)) => Err(reported(ServeFault::DiskFault, disk, listener, spawner)),
         (None, None) => Ok(()),
     }
 }

@@ -131,7 +131,12 @@ impl Counts {
 }
 
 /// The fault as it is told: one of a device where its count rose.
-pub(crate) fn told(fault: ServeFault, disk: Counts, listener: Counts, spawner: Counts) -> ServeFault
+pub(crate) fn reported(
+    fault: ServeFault,
+    disk: Counts,
+    listener: Counts,
+    spawner: Counts,
+) -> ServeFault
     requires sound { IsSound (Some fault) }
     ensures { IsCauseOfFault disk.before disk.after listener.before listener.after spawner.before spawner.after result }
 {

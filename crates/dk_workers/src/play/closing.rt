@@ -65,7 +65,7 @@ fn counted(fault: PlayFault, before: u64, after: u64) -> PlayFault
 
 /// The text of what was staged on this host, or why there is none. A store that was stopped is a fault of its disk. `before`
 /// is the count of faults of before the play.
-pub(crate) fn told<W: Hosting, M: Home>(
+pub(crate) fn reported<W: Hosting, M: Home>(
     alloc: Global,
     closed: &Closed<M>,
     staged: Result<Staged, PlayFault>,

@@ -8,7 +8,7 @@ ghost use Rattle.dk_play_laws.specs.Seen.{AreBehind, AreNumbered};
 ghost use Rattle.dk_workers.specs.Played.{IsPlayOn, IsStaged, IsUnopened};
 
 use super::Played;
-use super::closing::{Staged, told};
+use super::closing::{Staged, reported};
 use super::fault::PlayFault;
 use super::phases::play_phases;
 use super::saving::{Saved, save};
@@ -135,7 +135,7 @@ pub(crate) fn play_on_turn<
     );
     passes.push_reserved(main);
     let closed = host.close(passes);
-    let text = told::<W, M>(alloc, &closed, staged, workers, asked, script, before);
+    let text = reported::<W, M>(alloc, &closed, staged, workers, asked, script, before);
     Played {
         home: closed.home,
         text,

@@ -255,11 +255,11 @@ returns-in-Serve g c =
       sink_steady = λ no_fault. refl;
     }
 
-pub returns-in-Tell : goal.returns-in-Tell
-returns-in-Tell g c =
+pub returns-in-Report : goal.returns-in-Report
+returns-in-Report g c =
     let words = c.args.words.now in
-    let mine = asked c.in-Tell.report in
-    let is : request_of c.in-Ok.command ≡ Reports mine = c.of.ensures ∙ ap request_for c.in-Tell.is in
+    let mine = asked c.in-Report.report in
+    let is : request_of c.in-Ok.command ≡ Reports mine = c.of.ensures ∙ ap request_for c.in-Report.is in
     let w = c.write-ended.ensures in
     let past = g.M.Home.past c.args.home in
     let past' = g.M.Home.past c.write-ended.result.home in
@@ -295,7 +295,7 @@ returns-in-Tell g c =
       serve_end = λ serve asks. absurd (serve_not serve asks);
       serve_complete = λ tells home net crews serve asks. absurd (serve_not serve asks);
       serve_silent = λ serve asks. absurd (serve_not serve asks);
-      only_serve = λ other. (refl, refl, c.new-in-Tell.ensures);
+      only_serve = λ other. (refl, refl, c.new-in-Report.ensures);
       net_cause = λ is. absurd (w.no_net is);
       report_done = λ tells ok. of_report (λ report. AppendsOne (IsLine report past) before after) (w.done tells ok);
       report_torn = λ tells torn. of_report (λ report. AppendsPart (IsLine report past) before after) (w.torn tells torn);

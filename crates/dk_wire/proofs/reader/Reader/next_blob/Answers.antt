@@ -5,4 +5,4 @@ use Rattle.dk_wire.proofs.reader.Reader.next_blob.Goals as goal
 
 pub returns : goal.returns
 unfolding next_blob
-returns c = told_gives (blob_at c.args.most) c.args.self.now c.at-at.result c.read_blob.result c.read_blob.new.self c.told.result c.at-at.ensures c.told.ensures c.read_blob.ensures.reads
+returns c = told_gives (blob_at c.args.most) c.args.self.now c.at-at.result c.read_blob.result c.read_blob.new.self c.located.result c.at-at.ensures c.located.ensures c.read_blob.ensures.reads

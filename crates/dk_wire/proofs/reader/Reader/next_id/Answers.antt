@@ -5,7 +5,7 @@ use Rattle.dk_wire.proofs.reader.Reader.next_id.Goals as goal
 
 pub returns-clause-gives : goal.returns-clause-gives
 unfolding next_id
-returns-clause-gives c = told_gives id_at c.args.self.now c.at-at.result c.read_id.result c.read_id.new.self c.told.result c.at-at.ensures c.told.ensures c.read_id.ensures.reads
+returns-clause-gives c = told_gives id_at c.args.self.now c.at-at.result c.read_id.result c.read_id.new.self c.located.result c.at-at.ensures c.located.ensures c.read_id.ensures.reads
 
 pub returns-clause-memory : goal.returns-clause-memory
-returns-clause-memory c = told_memory c.at-at.result c.read_id.result c.told.result c.told.ensures c.read_id.ensures.memory
+returns-clause-memory c = told_memory c.at-at.result c.read_id.result c.located.result c.located.ensures c.read_id.ensures.memory

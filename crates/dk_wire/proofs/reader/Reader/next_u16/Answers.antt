@@ -5,7 +5,7 @@ use Rattle.dk_wire.proofs.reader.Reader.next_u16.Goals as goal
 
 pub returns-clause-gives : goal.returns-clause-gives
 unfolding next_u16
-returns-clause-gives c = told_gives u16_at c.args.self.now c.at-at.result c.read_u16.result c.read_u16.new.self c.told.result c.at-at.ensures c.told.ensures c.read_u16.ensures.reads
+returns-clause-gives c = told_gives u16_at c.args.self.now c.at-at.result c.read_u16.result c.read_u16.new.self c.located.result c.at-at.ensures c.located.ensures c.read_u16.ensures.reads
 
 pub returns-clause-memory : goal.returns-clause-memory
-returns-clause-memory c = told_memory c.at-at.result c.read_u16.result c.told.result c.told.ensures c.read_u16.ensures.memory
+returns-clause-memory c = told_memory c.at-at.result c.read_u16.result c.located.result c.located.ensures c.read_u16.ensures.memory

@@ -34,8 +34,8 @@ stage-staged-requires-clause-fresh g c loans lives =
     let main = c.in-Some.main in
     (fresh_of g.J.Naming.name.passes c.in-Ok.opened.1.items ws main (c.in-Some.ensures.items ∙ ap (λ (ps : List (Known Event)). ps ++ main ∷ []) (sym c.as_mut_slice.ensures.value)) c.in-Ok.ensures.passes).fresh
 
-pub told-text-requires-clause-settled : goal.told-text-requires-clause-settled
-told-text-requires-clause-settled g c =
+pub reported-text-requires-clause-settled : goal.reported-text-requires-clause-settled
+reported-text-requires-clause-settled g c =
     let o = g.W.Hosting.opened in
     let count = g.J.Naming.name.passes in
     let ws = c.as_mut_slice.result.now in

@@ -5,7 +5,7 @@ use Rattle.dk_workers.specs.Played.{IsCounted, IsSettled}
 use Rattle.dk_workers.specs.declared.play.closing.Staged.{Staged}
 use Rattle.dk_workers.specs.declared.play.fault.PlayFault.{PlayFault}
 use Rattle.dk_workers.proofs.Closing.{fault_text, whole_text}
-use Rattle.dk_workers.proofs.play.closing.told.Goals as goal
+use Rattle.dk_workers.proofs.play.closing.reported.Goals as goal
 
 pub returns-in-Err : goal.returns-in-Err
 returns-in-Err g c =
