@@ -19,12 +19,15 @@ use dk_map::OrderedMap;
 use dk_types::{Durable, Effects, Entry, Listed, Name, NoMemory, Object, ObjectId, Pending, RunNo};
 use std::alloc::Global;
 use std::marker::Model;
+use thiserror::Error;
 
 /// Why there is no world after what was read.
-#[derive(Clone, Copy, Debug, Drop, PartialEq, Eq)]
+#[derive(Clone, Copy, Debug, Drop, PartialEq, Eq, Error)]
 pub enum Unfit {
     /// It is not in its grammar, does not fit the world before it, or leaves a world that is not valid.
+    #[error("it does not fit the world before it")]
     DoesNotFit,
+    #[error("out of memory")]
     NoMemory,
 }
 
