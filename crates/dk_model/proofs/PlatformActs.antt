@@ -190,7 +190,7 @@ lawful_records_without name (m ∷ members) = lawful_then (lawful_record_without
 
 lawful_save_each : {Needs : Type 0} (records : List (ObjectId × List ℕ)) → (Needs → AllBytes records) → IsLawful Needs Anything (save_each records)
 lawful_save_each [] why = lawful_done tt
-lawful_save_each (one ∷ rest) why = lawful_then (lawful_save one.0 one.1 (λ n. All-head _ _ _ (why n))) (λ _. lawful_save_each rest (λ n. All-tail _ _ _ (why n.0)))
+lawful_save_each (one ∷ rest) why = lawful_then (lawful_save one.0 one.1 (λ n. All-head (λ p. AreBytes p.1) one rest (why n))) (λ _. lawful_save_each rest (λ n. All-tail (λ p. AreBytes p.1) one rest (why n.0)))
 
 lawful_leave_members : {Needs : Type 0} (name : List ℕ) (c : ObjectId × ChannelRecord) (members : List Session) → IsLawful Needs Anything (leave_members name c members)
 lawful_leave_members name c [] = lawful_done tt
