@@ -1,9 +1,9 @@
 -- What a refusal tells of the members, from what the steps found of them.
-use Rattle.std.proofs.Common.{◌≡◌, ℕ, ◌+◌, ◌<◌, if◌then◌else◌, Option, Some, None, List, length, drop, get_or, Result, Ok, Err, refl, sym, ap, subst, ◌∙◌}
+use Rattle.std.proofs.Common.{◌≡◌, ℕ, ◌+◌, ◌<◌, inr, true, false, if◌then◌else◌, Option, Some, None, is_some, List, length, drop, get_or, Result, Ok, Err, refl, sym, ap, subst, ◌∙◌}
 use Rattle.std.specs.Option.{option_or}
+use Rattle.std.specs.FinMap.{get}
 use Rattle.std.specs.Result.{IsErrAnd, IfErr}
 use Rattle.std.proofs.lemmas.Result.{IfErr-weaker}
-use Rattle.dk_types.specs.declared.number.ConnNo.{ConnNo}
 use Rattle.dk_types.specs.declared.number.ObjectId.{ObjectId}
 use Rattle.dk_types.specs.declared.job.Session.{Session}
 use Rattle.dk_types.specs.declared.item.Item.{Item}
@@ -13,10 +13,9 @@ use Rattle.dk_types.specs.declared.mode.Mode.{Mode}
 use Rattle.dk_model.specs.declared.records.SessionRecord.{SessionRecord}
 use Rattle.dk_model.specs.declared.records.ChannelRecord.{ChannelRecord}
 use Rattle.dk_model.specs.DurableWorlds.{DurableWorld, Agrees}
-use Rattle.dk_model.specs.Runs as act
-use Rattle.dk_model.specs.Runs.{Run, Act}
-use Rattle.dk_model.specs.Records.{CHANNEL_KIND, session_of, session_name, channel_of, channel_name}
-use Rattle.dk_model.specs.Platforms.{channel_under, record_if_connected, drop_channel}
+use Rattle.dk_model.specs.Runs.{Run, Act, is_too_long}
+use Rattle.dk_model.specs.Records.{CHANNEL_KIND, session_name, channel_of, channel_name}
+use Rattle.dk_model.specs.Platforms.{channel_under, record_if_connected, bytes_without, record_without}
 use Rattle.dk_overlay.specs.ReadsAndWrites.{ReadsAndWrites}
 use Rattle.dk_txn.specs.Current.{current}
 use Rattle.dk_txn.specs.declared.refusal.Refusal.{Refusal}
@@ -25,14 +24,14 @@ use Rattle.dk_txn.specs.declared.txn.Txn.{Txn}
 use Rattle.dk_txn.specs.Refusals.{refusal_fault, TellsLength}
 use Rattle.dk_txn.specs.Does.{Keeps, Does, SameChanges, failure}
 use Rattle.dk_txn.proofs.Kit.{agreed}
-use Rattle.dk_refs.specs.Telling.{TellsKindOf, kind_at, kind_under, value_at}
+use Rattle.dk_refs.specs.Telling.{TellsKindOf, kind_under}
 use Rattle.dk_refs.proofs.Calls.{passed}
 use Rattle.dk_refs.proofs.Standing.{stands, is_other}
-use Rattle.dk_refs.proofs.Tellings.{Avoids, save_avoids, current_same}
-use Rattle.dk_channels.specs.AllMembers.{first_of, wrong_kind_of, if_session, bytes_without, long_without, long_record_of, members_of, members_in, kind_of_all, length_of_all, TellsFound, NeverTooLong, IsChannel, FoundLater}
+use Rattle.dk_refs.proofs.Tellings.{Avoids, current_same}
+use Rattle.dk_channels.specs.AllMembers.{first_of, wrong_kind_of, long_record_of, members_of, members_in, kind_of_all, length_of_all, TellsFound, NeverTooLong, FoundLater, IsFoundOf}
 use Rattle.dk_channels.proofs.Drops.{rest_is}
 use Rattle.dk_channels.proofs.Tellings.{first_is, second_is}
-use Rattle.dk_channels.proofs.Looks.{IsSaved, IsDropped, save_ok, save_long, kinds_saved, lengths_saved, looked, look_other, channel_stands, dropped, first_alike, none_long, not_session_is}
+use Rattle.dk_channels.proofs.Looks.{Looked, IsFine, looked, look_other, fine, session_there, none_long, not_session_is}
 use Rattle.dk_txn.specs.Sights.{Sights}
 
 -- the mode has no part in it
@@ -82,53 +81,61 @@ module _ {S : Type 0} {sights : Sights S} where
           let has : kind_under (session_name m.name) (current a.set d).world ≡ Some n = subst (λ (s : Run). kind_under (session_name m.name) s.world ≡ Some n) (current_same a.set b.set d same) (told_here d agrees) in
           not_session_is (kind_under (session_name m.name) (current a.set d).world) n has (look_other m (current a.set d) (current b.set d) refused)
 
-  -- a save is refused over no kind
-  pub saving_kind : {a b : Txn S ReadsAndWrites} {r : Result (Unit {0}) Refusal} (id : ObjectId) (bytes : List ℕ) (before : ReadsAndWrites) (found : DurableWorld → Option ℕ) → Does sights refusal_fault a b (act.save id bytes) r → IfErr r (TellsFound refusal.WrongKind before b.set found)
-  saving_kind {r = Ok u} id bytes before found p = tt
-  saving_kind {r = Err e} id bytes before found p = found_never 3 refusal.WrongKind before found (λ n. refl) (save_avoids id bytes) p
+  -- a refusal by another number tells of no kind
+  pub kind_never : {e : Refusal} (k : ℕ) → (k ≡ 3 → ⊥) → (b : Txn S ReadsAndWrites) (before : ReadsAndWrites) (found : DurableWorld → Option ℕ) → refusal_fault e ≡ Some (Refused k) → TellsFound refusal.WrongKind before b.set found e
+  kind_never {e = e} k other b before found told n is d agrees =
+      let twice : Some (Refused k) ≡ Some (Refused 3) = sym told ∙ ap refusal_fault is in
+      let same : k ≡ 3 = cc in absurd (other same)
+
+  -- a last call that is refused over no kind, or over no length
+  pub kind_unfound_last : {a b : Txn S ReadsAndWrites} {A : Type 0} {f : Act A} (r : Result A Refusal) (before : ReadsAndWrites) (found : DurableWorld → Option ℕ) → Avoids 3 f → Does sights refusal_fault a b f r → IfErr r (TellsFound refusal.WrongKind before b.set found)
+  kind_unfound_last (Ok x) before found never p = tt
+  kind_unfound_last (Err e) before found never p = found_never 3 refusal.WrongKind before found (λ n. refl) never p
+
+  pub length_unfound_last : {a b : Txn S ReadsAndWrites} {A : Type 0} {f : Act A} (r : Result A Refusal) (before : ReadsAndWrites) (found : DurableWorld → Option ℕ) → Avoids 4 f → Does sights refusal_fault a b f r → IfErr r (TellsFound refusal.TooLong before b.set found)
+  length_unfound_last (Ok x) before found never p = tt
+  length_unfound_last (Err e) before found never p = found_never 4 refusal.TooLong before found (λ n. refl) never p
 
   -- the record of a member is too long without the channel
-  pub member_length : {a b c : Txn S ReadsAndWrites} {r : Result (Unit {0}) Refusal} (name : List ℕ) (m : Session) (x : ObjectId × SessionRecord) → Does sights refusal_fault a b (record_if_connected m) (Ok (Some x))
-      → Does sights refusal_fault b c (act.save x.0 (bytes_without name x.1)) r → IfErr r (TellsLength (bytes_without name x.1)) → IfErr r (TellsFound refusal.TooLong a.set c.set (long_record_of name m))
-  member_length {r = Ok u} name m x p q told = tt
-  member_length {a = a} {b = b} {c = c} {r = Err e} name m x p q told = λ n is d agrees.
-      let l = looked name m (Some x) (current a.set d) (current b.set d) (p.does (Ok (Some x)) refl d (agreed q.keeps d agrees)) in
-      let long = save_long x.0 (bytes_without name x.1) (current b.set d) (current c.set d) (q.does (Err (Refused 4)) (ap (λ (h : Refusal). failure (refusal_fault h)) is) d agrees) in
+  pub member_length : {a b : Txn S ReadsAndWrites} {e : Refusal} (name : List ℕ) (m : Session) (x : ObjectId × SessionRecord) → Does sights refusal_fault a b (record_if_connected m) (Ok (Some x))
+      → is_too_long (bytes_without name x.1) ≡ true → TellsLength (bytes_without name x.1) e → TellsFound refusal.TooLong a.set b.set (long_record_of name m) e
+  member_length {a = a} {b = b} {e = e} name m x p long told = λ n is d agrees.
+      let l = looked name m (Some x) (current a.set d) (current b.set d) (p.does (Ok (Some x)) refl d agrees) in
       let len : n ≡ length (bytes_without name x.1) = subst (TellsLength (bytes_without name x.1)) is told in
       l.found.1 ∙ ap (λ b. if b then Some (length (bytes_without name x.1)) else None) long ∙ ap (λ k. Some k) (sym len)
 
+  -- it stands, under the member's name
+  pub member_found : {a b : Txn S ReadsAndWrites} (name : List ℕ) (m : Session) (x : ObjectId × SessionRecord) (payload : List ℕ) → Does sights refusal_fault a b (record_if_connected m) (Ok (Some x)) → is_too_long payload ≡ false
+      → IsFoundOf a.set b.set m (x.0, payload)
+  member_found {a = a} {b = b} name m x payload p short = (
+    λ d agrees. let l = at d agrees in subst (λ (s : Run). is_some (get s.world.objects x.0) ≡ true) (sym l.same) (session_there (get (current a.set d).world.objects x.0) x.1 l.found.0),
+    inr (x.0, refl, λ d agrees. (at d agrees).found.2),
+    short,
+  )
+    where
+      at : (d : DurableWorld) → Agrees d b.set.reads → Looked name m (Some x) (current a.set d) (current b.set d)
+      at d agrees = looked name m (Some x) (current a.set d) (current b.set d) (p.does (Ok (Some x)) refl d agrees)
+
   module _ {b c : Txn S ReadsAndWrites} (name : List ℕ) (before : ReadsAndWrites) (members : List Session) (i : ℕ) (m : Session) (more : i < length members) (at : m ≡ get_or members i m) where
-    next : (find : Session → DurableWorld → Option ℕ) → ((a b : DurableWorld) → IsDropped name m a b → find m a ≡ None) → ((a b : DurableWorld) → IsDropped name m a b → (k : Session) → find k b ≡ find k a)
-        → FoundLater find before b.set members i → Does sights refusal_fault b c (drop_channel name m) (Ok tt) → FoundLater find before c.set members (i + 1)
-    next find none alike later q d agrees =
-        let done = dropped name m (current b.set d) (current c.set d) (q.does (Ok tt) refl d agrees) in
-        found_at before b.set members i m more at find later d (agreed q.keeps d agrees) ∙ ap (λ o. option_or o (first_of find (drop (i + 1) members) (current b.set d).world)) (none _ _ done) ∙ sym (first_alike find (drop (i + 1) members) _ _ (alike _ _ done))
+    next : (o : Option (ObjectId × List ℕ)) (find : Session → DurableWorld → Option ℕ) → ((s t : Run) → IsFine name m s t → find m s.world ≡ None)
+        → FoundLater find before b.set members i → Does sights refusal_fault b c (record_without name m) (Ok o) → FoundLater find before c.set members (i + 1)
+    next o find none later q d agrees =
+        let done = fine name m o (current b.set d) (current c.set d) (q.does (Ok o) refl d agrees) in
+        found_at before b.set members i m more at find later d (agreed q.keeps d agrees) ∙ ap (λ o. option_or o (first_of find (drop (i + 1) members) (current b.set d).world)) (none _ _ done)
+        ∙ ap (λ (s : Run). first_of find (drop (i + 1) members) s.world) (sym done.same)
 
-    -- behind a member that was dropped
-    pub later_kinds : FoundLater wrong_kind_of before b.set members i → Does sights refusal_fault b c (drop_channel name m) (Ok tt) → FoundLater wrong_kind_of before c.set members (i + 1)
-    later_kinds later q = next wrong_kind_of (λ _ _ done. done.kind) (λ _ _ done. done.kinds) later q
+    -- behind a member of whom nothing is to be told
+    pub later_kinds : (o : Option (ObjectId × List ℕ)) → FoundLater wrong_kind_of before b.set members i → Does sights refusal_fault b c (record_without name m) (Ok o) → FoundLater wrong_kind_of before c.set members (i + 1)
+    later_kinds o later q = next o wrong_kind_of (λ _ _ done. done.kind) later q
 
-    pub later_lengths : FoundLater (long_record_of name) before b.set members i → Does sights refusal_fault b c (drop_channel name m) (Ok tt) → FoundLater (long_record_of name) before c.set members (i + 1)
-    later_lengths later q = next (long_record_of name) (λ _ _ done. done.length) (λ _ _ done. done.lengths) later q
+    pub later_lengths : (o : Option (ObjectId × List ℕ)) → FoundLater (long_record_of name) before b.set members i → Does sights refusal_fault b c (record_without name m) (Ok o) → FoundLater (long_record_of name) before c.set members (i + 1)
+    later_lengths o later q = next o (long_record_of name) (λ _ _ done. done.length) later q
 
     -- what the refusal over this member tells, it tells of the first of all
-    pub later_tells : {A : Type 0} {e : Refusal} (r : Result A Refusal) (find : Session → DurableWorld → Option ℕ) (sort : ℕ → Refusal) → FoundLater find before b.set members i → Does sights refusal_fault b c (drop_channel name m) (Err e)
+    pub later_tells : {A : Type 0} {e : Refusal} (r : Result A Refusal) (find : Session → DurableWorld → Option ℕ) (sort : ℕ → Refusal) → FoundLater find before b.set members i → Does sights refusal_fault b c (record_without name m) (Err e)
         → TellsFound sort b.set c.set (find m) e → IsErrAnd r (λ h. h ≡ e) → IfErr r (TellsFound sort before c.set (first_of find members))
     later_tells {e = e} r find sort later q told is = passed (TellsFound sort before c.set (first_of find members)) e r is (λ n is d agrees.
         found_at before b.set members i m more at find later d (agreed q.keeps d agrees) ∙ ap (λ o. option_or o (first_of find (drop (i + 1) members) (current b.set d).world)) (told n is d agrees))
-
-  module _ {a b c : Txn S ReadsAndWrites} (id : ObjectId) (bytes : List ℕ) (members : List Session) (p : Does sights refusal_fault a b (act.save id bytes) (Ok tt)) (k : Keeps sights b c) where
-    saved : (d : DurableWorld) → Agrees d c.set.reads → IsSaved id bytes (current a.set d) (current b.set d)
-    saved d agrees = save_ok id bytes (current a.set d) (current b.set d) (p.does (Ok tt) refl d (agreed k d agrees))
-
-    -- the channel's record was saved, and all is found of the members as it was before
-    pub emptied_kind : (r : Result (Unit {0}) Refusal) → IfErr r (TellsFound refusal.WrongKind b.set c.set (first_of wrong_kind_of members)) → IfErr r (TellsFound refusal.WrongKind a.set c.set (first_of wrong_kind_of members))
-    emptied_kind r told = IfErr-weaker r _ (TellsFound refusal.WrongKind a.set c.set (first_of wrong_kind_of members)) (λ e told n is d agrees. sym (first_alike wrong_kind_of members _ _ (kinds_saved id bytes _ _ (saved d agrees))) ∙ told n is d agrees) told
-
-    pub emptied_length : (r : Result (Unit {0}) Refusal) (name : List ℕ) → IsChannel a.set c.set id → IfErr r (TellsFound refusal.TooLong b.set c.set (first_of (long_record_of name) members)) → IfErr r (TellsFound refusal.TooLong a.set c.set (first_of (long_record_of name) members))
-    emptied_length r name channel told = IfErr-weaker r _ (TellsFound refusal.TooLong a.set c.set (first_of (long_record_of name) members)) (λ e told n is d agrees.
-        let none = λ (conn : ConnNo). ap (λ k. long_without name conn (if_session k (value_at session_of (Some id) (current a.set d).world))) (channel d agrees) in
-        sym (first_alike (long_record_of name) members _ _ (lengths_saved id bytes _ _ (saved d agrees) name none)) ∙ told n is d agrees) told
 
   -- the channel's record is of another kind
   pub channel_kind : {a b : Txn S ReadsAndWrites} {A : Type 0} {e : Refusal} (r : Result A Refusal) (name : List ℕ) → Does sights refusal_fault a b (channel_under name) (Err e) → TellsKindOf b.set (kind_under (channel_name name)) e → IsErrAnd r (λ h. h ≡ e)
@@ -143,13 +150,6 @@ module _ {S : Type 0} {sights : Sights S} where
           first_is (kind_under (channel_name name) (current a.set d).world) _ n (subst (λ (s : Run). kind_under (channel_name name) s.world ≡ Some n) o.same (told_here d agrees)) o.other
 
   module _ {a b c : Txn S ReadsAndWrites} (name : List ℕ) (x : ObjectId × ChannelRecord) (p : Does sights refusal_fault a b (channel_under name) (Ok x)) (k : Keeps sights b c) where
-    -- the record that was found is a channel's
-    pub found_channel : IsChannel b.set c.set x.0
-    found_channel d agrees =
-        let is = p.does (Ok x) refl d (agreed k d agrees) in
-        let own = stands CHANNEL_KIND channel_of (current a.set d) (current b.set d) (channel_name name) x is in
-        subst (λ (s : Run). kind_at (Some x.0) s.world ≡ Some CHANNEL_KIND) (sym own.same) (ap (λ o. kind_at o (current a.set d).world) (sym (channel_stands name x (current a.set d) (current b.set d) is)) ∙ own.has_kind)
-
     -- what is found of its members is found of all
     found_members : (find : Session → DurableWorld → Option ℕ) (d : DurableWorld) → Agrees d c.set.reads → first_of find (members_in name (current a.set d).world) (current a.set d).world ≡ first_of find x.1.members (current b.set d).world
     found_members find d agrees =

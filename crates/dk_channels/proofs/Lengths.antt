@@ -21,8 +21,8 @@ use Rattle.dk_types.proofs.Steps.{bind_ok, guard_ok, admit_ok, ok_is}
 use Rattle.dk_model.specs.declared.records.SessionRecord.{SessionRecord}
 use Rattle.dk_model.specs.Runs.{is_too_long}
 use Rattle.dk_model.specs.Records.{session_bytes, session_of, next_session}
-use Rattle.dk_model.specs.Platforms.{same_name, without_channel}
-use Rattle.dk_channels.specs.AllMembers.{bytes_without, length_if_long, long_without}
+use Rattle.dk_model.specs.Platforms.{same_name, without_channel, bytes_without}
+use Rattle.dk_channels.specs.AllMembers.{length_if_long, long_without}
 
 -- a value of this size takes as many bytes
 abbrev Spends : {A F : Type 0} → (A → ℕ) → (Rest → Result (A × Rest) F) → Type 0
@@ -136,7 +136,7 @@ without_shorter name r = omega (
 )
 
 -- nothing is found of a record that is short without the channel
-pub short_without : (name : List ℕ) (conn : ConnNo) (r : SessionRecord) → is_too_long (bytes_without name r) ≡ false → long_without name conn (Some r) ≡ None
+short_without : (name : List ℕ) (conn : ConnNo) (r : SessionRecord) → is_too_long (bytes_without name r) ≡ false → long_without name conn (Some r) ≡ None
 short_without name conn r short = by (nat_eq r.conn.0 conn.0)
   where
     by : (b : Bool) → (if b then length_if_long (bytes_without name r) else None) ≡ None

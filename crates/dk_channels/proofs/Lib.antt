@@ -5,4 +5,5 @@ pub mod Sendings
 pub mod Tellings
 pub mod Lengths
 pub mod Looks
+pub mod AllAsking
 pub mod Findings

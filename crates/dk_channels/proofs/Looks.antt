@@ -1,10 +1,8 @@
 -- What the steps of a leave of all members find of the members, and leave to be found.
-use Rattle.std.proofs.Common.{◌≡◌, ℕ, ◌==◌, arith, nat_eq, Bool, true, false, cond, if◌then◌else◌, Option, Some, None, List, [], ◌∷◌, length, Result, Ok, Err, refl, sym, ap, subst, ◌∙◌, is_eq}
+use Rattle.std.proofs.Common.{◌≡◌, ℕ, ◌==◌, arith, nat_eq, Bool, true, false, if◌then◌else◌, Option, Some, None, is_some, List, [], ◌∷◌, length, Result, Ok, Err, refl, sym, ap, subst, ◌∙◌}
 use Rattle.std.specs.Option.{option_or}
-use Rattle.std.specs.FinMap.{FinMap, get, insert, get-insert}
-use Rattle.std.specs.declared.cmp.Ordering.TheVariants.{Less, Equal, Greater}
+use Rattle.std.specs.FinMap.{get}
 use Rattle.std.proofs.lemmas.Bool.Decides.{nat_tests}
-use Rattle.dk_types.specs.declared.number.ConnNo.{ConnNo}
 use Rattle.dk_types.specs.declared.number.ObjectId.{ObjectId}
 use Rattle.dk_types.specs.declared.object.Object.{Object}
 use Rattle.dk_types.specs.declared.job.Session.{Session}
@@ -12,19 +10,17 @@ use Rattle.dk_types.specs.declared.fault.AppFault.{AppFault}
 use Rattle.dk_types.specs.declared.fault.AppFault.TheVariants.{Refused}
 use Rattle.dk_model.specs.declared.records.SessionRecord.{SessionRecord}
 use Rattle.dk_model.specs.declared.records.ChannelRecord.{ChannelRecord}
-use Rattle.dk_model.specs.Keys.{id_cmp}
 use Rattle.dk_model.specs.DurableWorlds.{DurableWorld}
 use Rattle.dk_model.specs.Runs as act
-use Rattle.dk_model.specs.Runs.{Run, Act, give, and_then, carry_on, is_too_long, is_reserved_kind, change_found, with_object}
+use Rattle.dk_model.specs.Runs.{Run, Act, give, and_then, carry_on, is_too_long}
 use Rattle.dk_model.specs.References.{get_as}
 use Rattle.dk_model.specs.Records.{SESSION_KIND, CHANNEL_KIND, session_of, session_name, channel_of, channel_name}
-use Rattle.dk_model.specs.Platforms.{platform_bound, found_as, session_under, channel_under, recorded_as, record_if_connected, drop_recorded, drop_channel}
-use Rattle.dk_model.proofs.Maps.{ids_total, exact_ids}
+use Rattle.dk_model.specs.Platforms.{platform_bound, found_as, session_under, channel_under, recorded_as, record_if_connected, bytes_without, without_it, record_without}
 use Rattle.dk_refs.specs.Telling.{kind_of, kind_at, kind_under, bound_to, value_of_bytes, value_under}
 use Rattle.dk_refs.proofs.Standing.{stands, is_other}
-use Rattle.dk_refs.proofs.Tellings.{Avoids, answers, save_short_avoids, give_avoids, then_avoids, get_as_avoids}
-use Rattle.dk_channels.specs.AllMembers.{first_of, not_session, wrong_kind_of, if_session, session_at, bytes_without, length_if_long, long_without, long_record_of, AreShort}
-use Rattle.dk_channels.proofs.Lengths.{short_without, short_read}
+use Rattle.dk_refs.proofs.Tellings.{Avoids, answers, give_avoids, then_avoids, get_as_avoids}
+use Rattle.dk_channels.specs.AllMembers.{first_of, not_session, wrong_kind_of, if_session, session_at, length_if_long, long_without, long_record_of, AreShort}
+use Rattle.dk_channels.proofs.Lengths.{short_read}
 
 -- two steps that were not refused
 then_ok : {A B : Type 0} (f : Act A) (g : A → Act B) (y : B) (s t : Run) → and_then f g s ≡ (Ok y, t) → (x : A) × (u : Run) × (f s ≡ (Ok x, u)) × (g x u ≡ (Ok y, t))
@@ -55,83 +51,10 @@ give_err {A = A} {B = B} {C = C} f h k fault s t e = by (f s) e
         let told : ◌≡◌ {A = Result B AppFault} (Err other) (Err fault) = ap (λ q. q.0) e in
         let same : other ≡ fault = cc in ap (λ (r : AppFault × Run). (Err r.0, r.1)) (λ i. (same i, ap (λ q. q.1) e i))
 
--- what was saved
-pub record IsSaved (id : ObjectId) (bytes : List ℕ) (s t : Run) : Type 0 where
-  pub object : Object
-  pub stood : get s.world.objects id ≡ Some object
-  pub short : is_too_long bytes ≡ false
-  pub after : t ≡ with_object s id (Some (record { kind = object.kind; bytes = bytes }))
-
-pub save_ok : (id : ObjectId) (bytes : List ℕ) (s t : Run) → act.save id bytes s ≡ (Ok tt, t) → IsSaved id bytes s t
-unfolding act.save
-save_ok id bytes s t e = by (is_too_long bytes) refl e
-  where
-    change : Object → Option Object
-    change object = Some (record { kind = object.kind; bytes = bytes })
-
-    at : is_too_long bytes ≡ false → (o : Option Object) → get s.world.objects id ≡ o → change_found o id change s ≡ (Ok tt, t) → IsSaved id bytes s t
-    at short None is e = answers tt 2 t s (sym e)
-    at short (Some object) is e = free (is_reserved_kind s.mode object.kind) e
-      where
-        free : (b : Bool) → ◌≡◌ {A = Result (Unit {0}) AppFault × Run} (if b then act.refuse 6 s else (Ok tt, with_object s id (change object))) (Ok tt, t) → IsSaved id bytes s t
-        free true e = answers tt 6 t s (sym e)
-        free false e = record { object = object; stood = is; short = short; after = sym (ap (λ q. q.1) e) }
-
-    by : (b : Bool) → is_too_long bytes ≡ b → (if b then act.refuse 4 s else change_found (get s.world.objects id) id change s) ≡ (Ok tt, t) → IsSaved id bytes s t
-    by true is e = answers tt 4 t s (sym e)
-    by false is e = at is (get s.world.objects id) refl e
-
--- what can not be saved over its length is too long
-pub save_long : (id : ObjectId) (bytes : List ℕ) (s t : Run) → act.save id bytes s ≡ (Err (Refused 4), t) → is_too_long bytes ≡ true
-save_long id bytes s t e = by (is_too_long bytes) refl
-  where
-    by : (b : Bool) → is_too_long bytes ≡ b → is_too_long bytes ≡ true
-    by true is = is
-    by false is = absurd (save_short_avoids id bytes is s t e)
-
--- an object of the map, where one was put
-put_cases : (m : FinMap id_cmp Object) (id q : ObjectId) (v : Object) (P : Option Object → Type 0) → (q ≡ id → P (Some v)) → P (get m q) → P (get (insert m id v) q)
-put_cases m id q v P here there = subst P (sym (get-insert ids_total m id v q)) (elim (id_cmp q id) as (λ o. id_cmp q id ≡ o → P (cond (is_eq o) (Some v) (get m q))) [
-  | Less ↦ λ _. there
-  | Equal ↦ λ e. here (exact_ids q id e)
-  | Greater ↦ λ _. there
-] refl)
-
-module _ (id : ObjectId) (bytes : List ℕ) (s t : Run) (saved : IsSaved id bytes s t) where
-  -- an object that is saved keeps its kind
-  kind_saved : (o : Option ObjectId) → kind_at o t.world ≡ kind_at o s.world
-  kind_saved None = refl
-  kind_saved (Some q) = rw (saved.after) (put_cases s.world.objects id q (record { kind = saved.object.kind; bytes = bytes }) (λ x. kind_of x ≡ kind_of (get s.world.objects q)) (λ e. sym (ap (λ i. kind_of (get s.world.objects i)) e ∙ ap kind_of saved.stood)) refl)
-
-  names_saved : (name : List ℕ) → bound_to name t.world ≡ bound_to name s.world
-  names_saved name = ap (λ (u : Run). bound_to name u.world) saved.after
-
-  pub kinds_saved : (m : Session) → wrong_kind_of m t.world ≡ wrong_kind_of m s.world
-  kinds_saved m = ap (λ o. not_session (kind_at o t.world)) (names_saved (session_name m.name)) ∙ ap not_session (kind_saved (bound_to (session_name m.name) s.world))
-
-  module _ (name : List ℕ) (none : (conn : ConnNo) → long_without name conn (session_at (Some id) s.world) ≡ None) where
-    read_saved : (conn : ConnNo) (kind : ℕ) → long_without name conn (if_session (Some kind) (session_of bytes)) ≡ None
-    read_saved conn kind = by (kind == SESSION_KIND)
-      where
-        by : (b : Bool) → long_without name conn (if b then session_of bytes else None) ≡ None
-        by true = short_read name conn bytes saved.short
-        by false = refl
-
-    abbrev length_in : ConnNo → Option Object → Option ℕ
-    length_in conn x = long_without name conn (if_session (kind_of x) (value_of_bytes session_of x))
-
-    length_saved : (o : Option ObjectId) (conn : ConnNo) → long_without name conn (session_at o t.world) ≡ long_without name conn (session_at o s.world)
-    length_saved None conn = refl
-    length_saved (Some q) conn = rw (saved.after) (put_cases s.world.objects id q (record { kind = saved.object.kind; bytes = bytes }) (λ x. length_in conn x ≡ length_in conn (get s.world.objects q)) (λ e. read_saved conn saved.object.kind ∙ sym (ap (λ i. length_in conn (get s.world.objects i)) e ∙ none conn)) refl)
-
-    -- where nothing was found of the object, all is found as before
-    pub lengths_saved : (m : Session) → long_record_of name m t.world ≡ long_record_of name m s.world
-    lengths_saved m = ap (λ o. long_without name m.conn (session_at o t.world)) (names_saved (session_name m.name)) ∙ length_saved (bound_to (session_name m.name) s.world) m.conn
-
 -- what a look at a member's record found
 abbrev pub Found : List ℕ → Session → Option (ObjectId × SessionRecord) → DurableWorld → Type 0
 Found name m None world = long_record_of name m world ≡ None
-Found name m (Some p) world = (session_at (Some p.0) world ≡ Some p.1) × (long_record_of name m world ≡ length_if_long (bytes_without name p.1))
+Found name m (Some p) world = (session_at (Some p.0) world ≡ Some p.1) × (long_record_of name m world ≡ length_if_long (bytes_without name p.1)) × (bound_to (session_name m.name) world ≡ Some p.0)
 
 pub record Looked (name : List ℕ) (m : Session) (x : Option (ObjectId × SessionRecord)) (s t : Run) : Type 0 where
   pub same : t ≡ s
@@ -142,9 +65,9 @@ pub looked : (name : List ℕ) (m : Session) (x : Option (ObjectId × SessionRec
 looked name m x s t e = by (platform_bound s (session_name m.name)) refl e
   where
     -- a record that stands is looked at by its number
-    numbered : (id : ObjectId) (r : SessionRecord) (b : Bool) → (if b then Some (id, r) else None) ≡ x → session_at (Some id) s.world ≡ Some r → long_record_of name m s.world ≡ (if b then length_if_long (bytes_without name r) else None) → Found name m x s.world
-    numbered id r true is own long = subst (λ x. Found name m x s.world) is (own, long)
-    numbered id r false is own long = subst (λ x. Found name m x s.world) is long
+    numbered : (id : ObjectId) (r : SessionRecord) (b : Bool) → (if b then Some (id, r) else None) ≡ x → session_at (Some id) s.world ≡ Some r → long_record_of name m s.world ≡ (if b then length_if_long (bytes_without name r) else None) → bound_to (session_name m.name) s.world ≡ Some id → Found name m x s.world
+    numbered id r true is own long bound = subst (λ x. Found name m x s.world) is (own, long, bound)
+    numbered id r false is own long bound = subst (λ x. Found name m x s.world) is long
 
     by : (o : Option ObjectId) → platform_bound s (session_name m.name) ≡ o → recorded_as o m.conn s ≡ (Ok x, t) → Looked name m x s t
     by None is e =
@@ -164,7 +87,7 @@ looked name m x s t e = by (platform_bound s (session_name m.name)) refl e
         record {
           same = end.1 ∙ own.same;
           kind = ap not_session own.has_kind;
-          found = numbered id got.0 (nat_eq got.0.conn.0 m.conn.0) end.0 (ap (λ o. session_at o s.world) (sym is) ∙ record_is) (ap (long_without name m.conn) record_is);
+          found = numbered id got.0 (nat_eq got.0.conn.0 m.conn.0) end.0 (ap (λ o. session_at o s.world) (sym is) ∙ record_is) (ap (long_without name m.conn) record_is) is;
         }
 
 -- a look that was refused over a kind met one that is not a session's
@@ -195,35 +118,31 @@ channel_stands name x s t e = by (platform_bound s (channel_name name)) refl e
         let got = then_ok (get_as CHANNEL_KIND channel_of id) (λ c. give (Ok (id, c))) x s t e in
         is ∙ ap (λ (p : ObjectId × ChannelRecord). Some p.0) (given (id, got.0) x got.1 t got.3).0
 
--- a member was dropped: nothing is found of it, and of the others what was found before
-pub record IsDropped (name : List ℕ) (m : Session) (a b : DurableWorld) : Type 0 where
-  pub kind : wrong_kind_of m a ≡ None
-  pub length : long_record_of name m a ≡ None
-  pub kinds : (k : Session) → wrong_kind_of k b ≡ wrong_kind_of k a
-  pub lengths : (k : Session) → long_record_of name k b ≡ long_record_of name k a
+-- what a look at a member's record finds where it is not refused: nothing to tell
+pub record IsFine (name : List ℕ) (m : Session) (s t : Run) : Type 0 where
+  pub same : t ≡ s
+  pub kind : wrong_kind_of m s.world ≡ None
+  pub length : long_record_of name m s.world ≡ None
 
-pub dropped : (name : List ℕ) (m : Session) (s t : Run) → drop_channel name m s ≡ (Ok tt, t) → IsDropped name m s.world t.world
-unfolding drop_channel
-dropped name m s t e = let p = then_ok (record_if_connected m) (drop_recorded name) tt s t e in after p.0 p.1 (looked name m p.0 s p.1 p.2) p.3
+pub fine : (name : List ℕ) (m : Session) (o : Option (ObjectId × List ℕ)) (s t : Run) → record_without name m s ≡ (Ok o, t) → IsFine name m s t
+fine name m o s t e = let p = then_ok (record_if_connected m) (without_it name) o s t e in after p.0 p.1 (looked name m p.0 s p.1 p.2) p.3
   where
-    after : (x : Option (ObjectId × SessionRecord)) (u : Run) → Looked name m x s u → drop_recorded name x u ≡ (Ok tt, t) → IsDropped name m s.world t.world
-    after None u l e =
-        let same : t ≡ s = (given tt tt u t e).1 ∙ l.same in
-        record { kind = l.kind; length = l.found; kinds = λ k. ap (λ (w : Run). wrong_kind_of k w.world) same; lengths = λ k. ap (λ (w : Run). long_record_of name k w.world) same }
-    after (Some p) u l e =
-        let saved = save_ok p.0 (bytes_without name p.1) s t (subst (λ w. act.save p.0 (bytes_without name p.1) w ≡ (Ok tt, t)) l.same e) in
-        let none : (conn : ConnNo) → long_without name conn (session_at (Some p.0) s.world) ≡ None = λ conn. ap (long_without name conn) l.found.0 ∙ short_without name conn p.1 saved.short in
-        record {
+    after : (x : Option (ObjectId × SessionRecord)) (u : Run) → Looked name m x s u → without_it name x u ≡ (Ok o, t) → IsFine name m s t
+    after None u l e = record { same = (given None o u t e).1 ∙ l.same; kind = l.kind; length = l.found }
+    after (Some p) u l e = by (is_too_long (bytes_without name p.1)) refl e
+      where
+        by : (b : Bool) → is_too_long (bytes_without name p.1) ≡ b → (if b then act.refuse 4 else give (Ok (Some (p.0, bytes_without name p.1)))) u ≡ (Ok o, t) → IsFine name m s t
+        by true is e = answers o 4 t u (sym e)
+        by false is e = record {
+          same = (given (Some (p.0, bytes_without name p.1)) o u t e).1 ∙ l.same;
           kind = l.kind;
-          length = l.found.1 ∙ ap (λ b. if b then Some (length (bytes_without name p.1)) else None) saved.short;
-          kinds = kinds_saved p.0 (bytes_without name p.1) s t saved;
-          lengths = lengths_saved p.0 (bytes_without name p.1) s t saved name none;
+          length = l.found.1 ∙ ap (λ b. if b then Some (length (bytes_without name p.1)) else None) is;
         }
 
--- what is found alike of each is found alike of the first
-pub first_alike : (find : Session → DurableWorld → Option ℕ) (members : List Session) (a b : DurableWorld) → ((m : Session) → find m b ≡ find m a) → first_of find members b ≡ first_of find members a
-first_alike find [] a b same = refl
-first_alike find (m ∷ members) a b same = ap (λ o. option_or o (first_of find members b)) (same m) ∙ ap (option_or (find m a)) (first_alike find members a b same)
+-- a session's record that stands is an object
+pub session_there : (o : Option Object) (r : SessionRecord) → if_session (kind_of o) (value_of_bytes session_of o) ≡ Some r → is_some o ≡ true
+session_there None r e = cc
+session_there (Some object) r e = refl
 
 -- in a world of short objects no member's record is too long
 pub none_long : (name : List ℕ) (world : DurableWorld) → AreShort world → (members : List Session) → first_of (long_record_of name) members world ≡ None

@@ -1,21 +1,25 @@
 -- What the refusals of a leave of all members tell: of the channel's record, or of the record of the first member over which it is refused.
-use Rattle.std.specs.Prelude.{◌≡◌, ℕ, ◌==◌, Option, Some, None, List, [], ◌∷◌, length, drop, nat_eq, false, if◌then◌else◌}
+use Rattle.std.specs.Prelude.{◌≡◌, ◌⊎◌, ℕ, ◌==◌, Option, Some, None, List, [], ◌∷◌, length, drop, nat_eq, false, if◌then◌else◌}
 use Rattle.std.specs.Option.{option_or}
 use Rattle.std.specs.FinMap.{get}
 use Rattle.dk_types.specs.declared.number.ConnNo.{ConnNo}
 use Rattle.dk_types.specs.declared.number.ObjectId.{ObjectId}
 use Rattle.dk_types.specs.declared.object.Object.{Object}
+use Rattle.dk_types.specs.declared.item.Item.{Item}
+use Rattle.dk_types.specs.declared.item.Item.TheVariants as ask
 use Rattle.dk_types.specs.declared.job.Session.{Session}
 use Rattle.dk_model.specs.declared.records.SessionRecord.{SessionRecord}
 use Rattle.dk_model.specs.declared.records.ChannelRecord.{ChannelRecord}
 use Rattle.dk_model.specs.DurableWorlds.{DurableWorld, Agrees}
 use Rattle.dk_model.specs.Runs.{is_too_long}
-use Rattle.dk_model.specs.Records.{SESSION_KIND, CHANNEL_KIND, session_bytes, session_of, session_name, channel_of, channel_name}
-use Rattle.dk_model.specs.Platforms.{without_channel}
+use Rattle.dk_model.specs.Records.{SESSION_KIND, session_of, session_name, channel_of, channel_name}
+use Rattle.dk_model.specs.Platforms.{bytes_without}
 use Rattle.dk_overlay.specs.ReadsAndWrites.{ReadsAndWrites}
 use Rattle.dk_txn.specs.Current.{current}
 use Rattle.dk_txn.specs.declared.refusal.Refusal.{Refusal}
 use Rattle.dk_txn.specs.declared.refusal.Refusal.TheVariants as refusal
+use Rattle.dk_txn.specs.Does.{Stands}
+use Rattle.dk_refs.specs.RecordAsks.{IsOfRecord}
 use Rattle.dk_refs.specs.Telling.{kind_at, kind_under, bound_to, value_at, value_under}
 use Rattle.dk_channels.specs.BothRecords.{other_kind}
 
@@ -41,10 +45,6 @@ if_session (Some kind) found = if kind == SESSION_KIND then found else None
 -- the session's record that an id names in a world, where there is one
 abbrev pub session_at : Option ObjectId → DurableWorld → Option SessionRecord
 session_at o world = if_session (kind_at o world) (value_at session_of o world)
-
--- the bytes of a session's record without the channel
-abbrev pub bytes_without : List ℕ → SessionRecord → List ℕ
-bytes_without name r = session_bytes (record r { channels = without_channel name r.channels })
 
 -- how long bytes are, where they are too long
 abbrev pub length_if_long : List ℕ → Option ℕ
@@ -88,10 +88,28 @@ AreShort world = (id : ObjectId) (object : Object) → get world.objects id ≡ 
 abbrev pub NeverTooLong : ReadsAndWrites → ReadsAndWrites → Refusal → Type 0
 NeverTooLong before after e = (n : ℕ) → e ≡ refusal.TooLong n → (d : DurableWorld) → Agrees d after.reads → AreShort (current before d).world → ⊥
 
--- the id names a channel's record, in every world that agrees with later reads
-abbrev pub IsChannel : ReadsAndWrites → ReadsAndWrites → ObjectId → Type 0
-IsChannel before after id = (d : DurableWorld) → Agrees d after.reads → kind_at (Some id) (current before d).world ≡ Some CHANNEL_KIND
-
 -- what is found of the members is found of those from this place on
 abbrev pub FoundLater : (Session → DurableWorld → Option ℕ) → ReadsAndWrites → ReadsAndWrites → List Session → ℕ → Type 0
 FoundLater find before after members i = (d : DurableWorld) → Agrees d after.reads → first_of find members (current before d).world ≡ first_of find (drop i members) (current after d).world
+
+-- an item of the record of one of these members
+abbrev pub IsOfEach : ReadsAndWrites → ReadsAndWrites → List Session → Item → Type 0
+IsOfEach before after [] q = ⊥
+IsOfEach before after (m ∷ members) q = IsOfRecord before after (session_name m.name) q ⊎ IsOfEach before after members q
+
+-- the object of a channel's record, or an item of the record of one of its members
+abbrev pub IsOfChannel : ReadsAndWrites → ReadsAndWrites → ObjectId → List Session → Item → Type 0
+IsOfChannel before after id members q = (q ≡ ask.Object id) ⊎ IsOfEach before after members q
+
+-- an item of a channel's record, or of the record of one of the members that the channel has, in every agreeing world as it was before
+abbrev pub IsOfAll : ReadsAndWrites → ReadsAndWrites → List ℕ → Item → Type 0
+IsOfAll before after name q =
+    IsOfRecord before after (channel_name name) q ⊎ ((members : List Session) × ((d : DurableWorld) → Agrees d after.reads → members_in name (current before d).world ≡ members) × IsOfEach before after members q)
+
+-- a record that was found under a session's name, and its bytes, which are to be saved: it stands, and the bytes are not too long
+abbrev pub IsFoundOf : ReadsAndWrites → ReadsAndWrites → Session → ObjectId × List ℕ → Type 0
+IsFoundOf before after m p = Stands after p.0 × IsOfRecord before after (session_name m.name) (ask.Object p.0) × (is_too_long p.1 ≡ false)
+
+-- the same under the name of one of these members
+abbrev pub IsFoundAmong : ReadsAndWrites → ReadsAndWrites → List Session → ObjectId × List ℕ → Type 0
+IsFoundAmong before after members p = Stands after p.0 × IsOfEach before after members (ask.Object p.0) × (is_too_long p.1 ≡ false)

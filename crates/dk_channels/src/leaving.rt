@@ -1,25 +1,28 @@
 //! Leaving a channel.
-ghost use Rattle.std.specs.Prelude.{◌≡◌, [], IfOk, OnErr, IfErr};
+ghost use Rattle.std.specs.Prelude.{◌≡◌, ◌++◌, ◌∷◌, [], IfOk, IfSome, OnOk, OnErr, IfErr, option_to_list};
+ghost use Rattle.std.specs.List.{AllByRecursion};
 ghost use Rattle.dk_types.specs.declared.mode.Mode.TheVariants as mode;
-ghost use Rattle.dk_model.specs.Records.{channel_bytes};
+ghost use Rattle.dk_model.specs.Records.{channel_bytes, session_name};
 ghost use Rattle.dk_model.specs.Platforms as platform;
 ghost use Rattle.dk_model.specs.Runs as act;
+ghost use Rattle.dk_txn.specs.Asks.{AsksOf};
 ghost use Rattle.dk_txn.specs.Does.{Does, SameChanges, Stands};
 ghost use Rattle.dk_txn.specs.declared.refusal.Refusal.TheVariants as refusal;
-ghost use Rattle.dk_txn.specs.Refusals.{refusal_fault, TellsLength};
+ghost use Rattle.dk_txn.specs.Refusals.{refusal_fault};
+ghost use Rattle.dk_refs.specs.RecordAsks.{IsOfRecord};
 ghost use Rattle.dk_refs.specs.Telling.{TellsKindOf, TellsLengthIn, TellsLengthOf};
 ghost use Rattle.dk_channels.specs.BothRecords.{kind_of_records, records_after, left};
-ghost use Rattle.dk_channels.specs.AllMembers.{first_of, wrong_kind_of, bytes_without, long_record_of, kind_of_all, length_of_all, TellsFound, NeverTooLong, IsChannel};
+ghost use Rattle.dk_channels.specs.AllMembers.{first_of, wrong_kind_of, long_record_of, kind_of_all, length_of_all, TellsFound, NeverTooLong, IsOfAll, IsOfChannel, IsOfEach, IsFoundOf, IsFoundAmong};
 
 use crate::channel::{Channel, record_of};
 use crate::lists::{is_member, without_channel, without_member};
-use crate::saving::save_both;
+use crate::saving::{is_too_long, save_both, too_long};
 use dk_model::Mode;
 use dk_refs::{
     ChannelRecord, Delivery, Managed, ManagedRef, SessionRecord, own_record, record_if_connected,
 };
 use dk_txn::{Refusal, Txn, View};
-use dk_types::{Blob, Listed, Name, NoMemory, Session};
+use dk_types::{Blob, Listed, Name, NoMemory, ObjectId, Session};
 use std::alloc::Global;
 
 /// Takes the session from the channel's members, and the channel from the session's record (`Channel.leave`). A leave of one
@@ -90,14 +93,17 @@ fn leave_records<V: View>(
     save_both(alloc, txn, (channel, record), (own, sessions))
 }
 
-/// Every member leaves, in joining order (`Channel.leaveAll`). A member whose session is not recorded with its number loses its
-/// place among the members alone. Refuses 1, and 4 over a record that is too long even without the channel.
+/// Every member leaves, in joining order (`Channel.leaveAll`), or none. A member whose session is not recorded with its number
+/// loses its place among the members alone. All records are looked at first, and saved afterwards. Refuses 1, 2, 3 and 10 of
+/// the channel's record, then 2, 3 and 10 of the members' and 4 over one that is too long even without the channel.
 pub fn leave_all<V: View>(
     alloc: Global,
     txn: &mut Txn<'_, V>,
     channel: &Channel,
 ) -> Result<(), Refusal>
     ensures does { Does V.sights refusal_fault txn.old txn.new (platform.leave_all channel.now.name) result }
+    ensures asks { AsksOf (IsOfAll txn.old.set txn.new.set channel.now.name) V.sights txn.old txn.new }
+    ensures refused { OnErr result (SameChanges txn.old.set txn.new.set) }
     ensures same_mode { txn.new.set.mode ≡ txn.old.set.mode }
     ensures kind { IfErr result (TellsFound refusal.WrongKind txn.old.set txn.new.set (kind_of_all channel.now.name)) }
     ensures length { IfErr result (TellsFound refusal.TooLong txn.old.set txn.new.set (length_of_all channel.now.name)) }
@@ -110,7 +116,10 @@ pub fn leave_all<V: View>(
 }
 
 fn empty_out<V: View>(alloc: Global, txn: &mut Txn<'_, V>, name: &Name) -> Result<(), Refusal>
+    requires { txn.old.set.mode ≡ mode.Platform }
     ensures does { Does V.sights refusal_fault txn.old txn.new (act.and_then (platform.channel_under name.now) (λ c. platform.leave_members name.now c c.1.members)) result }
+    ensures asks { AsksOf (IsOfAll txn.old.set txn.new.set name.now) V.sights txn.old txn.new }
+    ensures refused { OnErr result (SameChanges txn.old.set txn.new.set) }
     ensures kind { IfErr result (TellsFound refusal.WrongKind txn.old.set txn.new.set (kind_of_all name.now)) }
     ensures length { IfErr result (TellsFound refusal.TooLong txn.old.set txn.new.set (length_of_all name.now)) }
 {
@@ -130,73 +139,114 @@ fn emptied(alloc: Global, listener: bool, delivery: Delivery) -> Result<Blob, No
     record.encode(alloc)
 }
 
+/// A record's bytes, put before those of others.
+fn put_first(
+    id: ObjectId,
+    payload: Blob,
+    others: Listed<(ObjectId, Blob)>,
+) -> Result<Vec<(ObjectId, Blob)>, NoMemory>
+    ensures { IfOk result (λ all. all.items ≡ (id, payload) ∷ others) }
+{
+    let mut all = others.into_vec();
+    all.insert(0, (id, payload))?;
+    Ok(all)
+}
+
 fn leave_members<V: View>(
     alloc: Global,
     txn: &mut Txn<'_, V>,
     name: &Name,
     channel: (ManagedRef<ChannelRecord>, ChannelRecord),
 ) -> Result<(), Refusal>
+    requires platform { txn.old.set.mode ≡ mode.Platform }
+    requires stands { Stands txn.old.set channel.0 }
     ensures does { Does V.sights refusal_fault txn.old txn.new (platform.leave_members name.now channel channel.1.members) result }
+    ensures asks { AsksOf (IsOfChannel txn.old.set txn.new.set channel.0 channel.1.members) V.sights txn.old txn.new }
+    ensures refused { OnErr result (SameChanges txn.old.set txn.new.set) }
     ensures kind { IfErr result (TellsFound refusal.WrongKind txn.old.set txn.new.set (first_of wrong_kind_of channel.1.members)) }
-    ensures length { IsChannel txn.old.set txn.new.set channel.0 → IfErr result (TellsFound refusal.TooLong txn.old.set txn.new.set (first_of (long_record_of name.now) channel.1.members)) }
+    ensures length { IfErr result (TellsFound refusal.TooLong txn.old.set txn.new.set (first_of (long_record_of name.now) channel.1.members)) }
 {
     let (place, record) = channel;
     let members = record.members;
     if members.as_slice().is_empty() {
         return Ok(());
     }
+    let others = records_without(alloc, txn, name, members.as_slice())?;
     let payload = emptied(alloc, record.listener, record.delivery)?;
-    txn.save(place.id(), payload)?;
-    drop_each(alloc, txn, name, members.as_slice())
+    let records = put_first(place.id(), payload, others)?;
+    txn.save_all(records)
 }
 
-fn drop_each<V: View>(
-    alloc: Global,
-    txn: &mut Txn<'_, V>,
-    name: &Name,
-    members: &[Session],
-) -> Result<(), Refusal>
-    ensures does { Does V.sights refusal_fault txn.old txn.new (platform.drop_each name.now members.now) result }
-    ensures kind { IfErr result (TellsFound refusal.WrongKind txn.old.set txn.new.set (first_of wrong_kind_of members.now)) }
-    ensures length { IfErr result (TellsFound refusal.TooLong txn.old.set txn.new.set (first_of (long_record_of name.now) members.now)) }
+/// Puts a record's bytes last, where there are some.
+fn put_last(
+    found: &mut Vec<(ObjectId, Blob)>,
+    one: Option<(ObjectId, Blob)>,
+) -> Result<(), NoMemory>
+    ensures { OnOk result (found.new.items ≡ found.old.items ++ option_to_list one) }
 {
-    for member in members {
-        drop_channel(alloc, txn, name, member)?;
+    match one {
+        None => {}
+        Some(one) => found.push(one)?,
     }
     Ok(())
 }
 
-/// Takes the channel from the record of a session that is recorded with its number.
-fn drop_channel<V: View>(
+/// The records of those of the members that are recorded with their numbers, as they are without the channel: their ids, and
+/// their bytes.
+fn records_without<V: View>(
     alloc: Global,
     txn: &mut Txn<'_, V>,
     name: &Name,
-    session: &Session,
-) -> Result<(), Refusal>
-    ensures does { Does V.sights refusal_fault txn.old txn.new (platform.drop_channel name.now session.now) result }
-    ensures kind { IfErr result (TellsFound refusal.WrongKind txn.old.set txn.new.set (wrong_kind_of session.now)) }
-    ensures length { IfErr result (TellsFound refusal.TooLong txn.old.set txn.new.set (long_record_of name.now session.now)) }
+    members: &[Session],
+) -> Result<Listed<(ObjectId, Blob)>, Refusal>
+    ensures does { Does V.sights refusal_fault txn.old txn.new (platform.records_without name.now members.now) result }
+    ensures asks { AsksOf (IsOfEach txn.old.set txn.new.set members.now) V.sights txn.old txn.new }
+    ensures same_changes { SameChanges txn.old.set txn.new.set }
+    ensures found { IfOk result (AllByRecursion (IsFoundAmong txn.old.set txn.new.set members.now)) }
+    ensures kind { IfErr result (TellsFound refusal.WrongKind txn.old.set txn.new.set (first_of wrong_kind_of members.now)) }
+    ensures length { IfErr result (TellsFound refusal.TooLong txn.old.set txn.new.set (first_of (long_record_of name.now) members.now)) }
 {
-    match record_if_connected(alloc, txn, session)? {
-        None => Ok(()),
-        Some(found) => drop_from(alloc, txn, name, found),
+    let mut found = Vec::new(alloc);
+    for member in members {
+        let one = record_without(alloc, txn, name, member)?;
+        put_last(&mut found, one)?;
     }
+    Ok(Listed::from_vec(found))
 }
 
-fn drop_from<V: View>(
-    alloc: Global,
-    txn: &mut Txn<'_, V>,
-    name: &Name,
-    own: (ManagedRef<SessionRecord>, SessionRecord),
-) -> Result<(), Refusal>
-    ensures does { Does V.sights refusal_fault txn.old txn.new (act.save own.0 (bytes_without name.now own.1)) result }
-    ensures length { IfErr result (TellsLength (bytes_without name.now own.1)) }
+/// The bytes of a session's record without the channel.
+fn encoded_without(alloc: Global, name: &Name, sessions: SessionRecord) -> Result<Blob, NoMemory>
+    ensures { IfOk result (λ payload. payload ≡ platform.bytes_without name.now sessions) }
 {
-    let (place, sessions) = own;
     let sessions = SessionRecord {
         conn: sessions.conn,
         channels: without_channel(alloc, sessions.channels, name)?,
     };
-    let payload = sessions.encode(alloc)?;
-    txn.save(place.id(), payload)
+    sessions.encode(alloc)
+}
+
+/// The record of a session that is recorded with its number, as it is without the channel: its id, and its bytes.
+fn record_without<V: View>(
+    alloc: Global,
+    txn: &mut Txn<'_, V>,
+    name: &Name,
+    session: &Session,
+) -> Result<Option<(ObjectId, Blob)>, Refusal>
+    ensures does { Does V.sights refusal_fault txn.old txn.new (platform.record_without name.now session.now) result }
+    ensures asks { AsksOf (IsOfRecord txn.old.set txn.new.set (session_name session.now.name)) V.sights txn.old txn.new }
+    ensures same_changes { SameChanges txn.old.set txn.new.set }
+    ensures found { IfOk result (λ o. IfSome o (IsFoundOf txn.old.set txn.new.set session.now)) }
+    ensures kind { IfErr result (TellsFound refusal.WrongKind txn.old.set txn.new.set (wrong_kind_of session.now)) }
+    ensures length { IfErr result (TellsFound refusal.TooLong txn.old.set txn.new.set (long_record_of name.now session.now)) }
+{
+    match record_if_connected(alloc, txn, session)? {
+        None => Ok(None),
+        Some((place, sessions)) => {
+            let payload = encoded_without(alloc, name, sessions)?;
+            if is_too_long(&payload) {
+                return Err(too_long(&payload));
+            }
+            Ok(Some((place.id(), payload)))
+        }
+    }
 }

@@ -8,3 +8,4 @@ pub mod Asking
 pub mod Picking
 pub mod SameItems
 pub mod PutBack
+pub mod PutAll

@@ -1,5 +1,5 @@
 -- What a change makes of what stood at its key.
-use Rattle.std.specs.Prelude.{ℕ, Bool, true, false, Option, Some, None}
+use Rattle.std.specs.Prelude.{ℕ, Bool, true, false, Option, Some, None, List, [], ◌∷◌}
 use Rattle.std.specs.declared.cmp.Ordering.{Ordering}
 use Rattle.std.specs.FinMap as map
 use Rattle.dk_types.specs.Values.{Task}
@@ -63,3 +63,8 @@ moving (Some (Moved first was)) from to = Moved first to
 abbrev pub put_back : {K X : Type 0} {R : K → K → Ordering} → map.FinMap R X → K → Option X → map.FinMap R X
 put_back m k None = map.remove m k
 put_back m k (Some x) = map.insert m k x
+
+-- the map with these values put at their keys, one after another
+abbrev pub put_each : {K X : Type 0} {R : K → K → Ordering} → List (K × X) → map.FinMap R X → map.FinMap R X
+put_each [] m = m
+put_each (c ∷ changes) m = put_each changes (map.insert m c.0 c.1)

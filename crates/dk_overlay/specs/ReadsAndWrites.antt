@@ -59,6 +59,11 @@ reading t item read = record t { reads = t.reads ++ (item, read) ∷ [] }
 abbrev pub changing_object : ReadsAndWrites → ObjectId → Change Object → ReadsAndWrites
 changing_object t id change = record t { objects = map.insert t.objects id change; touched = t.touched ++ ask.Object id ∷ [] }
 
+-- changes of objects, one after another
+abbrev pub changing_objects : ReadsAndWrites → List (ObjectId × Change Object) → ReadsAndWrites
+changing_objects t [] = t
+changing_objects t (c ∷ changes) = changing_objects (changing_object t c.0 c.1) changes
+
 -- the id of the next object that the run makes
 abbrev pub new_id : ReadsAndWrites → ObjectId
 new_id t = record { run = t.run; k = t.objects_made }

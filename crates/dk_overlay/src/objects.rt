@@ -1,10 +1,13 @@
 //! The objects that a run has changed.
-ghost use Rattle.std.specs.Prelude.{◌≡◌, true, is_some, IfOk, OnOk, OnErr};
+ghost use Rattle.std.specs.Prelude.{◌≡◌, ◌≤◌, true, is_some, vec_len, IfOk, OnOk, OnErr};
 ghost use Rattle.std.specs.FinMap as map;
 ghost use Rattle.std.specs.Map.{keys_of};
 ghost use Rattle.std.specs.Option.{option_copied, option_map};
+ghost use Rattle.dk_types.specs.Keys.{id_cmp};
 ghost use Rattle.dk_types.specs.Values.{same_object, same_value};
-ghost use Rattle.dk_overlay.specs.Changes.{put_back};
+ghost use Rattle.dk_map.specs.AsMap.{map_of};
+ghost use Rattle.dk_map.specs.Entries.{IsOrdered};
+ghost use Rattle.dk_overlay.specs.Changes.{put_back, put_each};
 ghost use Rattle.dk_overlay.specs.Picks.{picked, newly_set, taken_away};
 
 use crate::change::{Change, copy_change, copy_object};
@@ -79,6 +82,21 @@ fn removed_id(id: ObjectId, change: &Change<Object>) -> Option<ObjectId>
     }
 }
 
+/// Puts each of these changes at its object, one after another. There is room for them.
+fn put_all(
+    changes: &mut OrderedMap<ObjectId, Change<Object>>,
+    more: Vec<(ObjectId, Change<Object>)>,
+)
+    requires room { vec_len more ≤ changes.old.spare }
+    requires ordered { IsOrdered id_cmp changes.old.entries }
+    ensures ordered { IsOrdered id_cmp changes.new.entries }
+    ensures put { map_of id_cmp changes.new.entries ≡ put_each more.items (map_of id_cmp changes.old.entries) }
+{
+    for (id, change) in more {
+        changes.insert(id, change);
+    }
+}
+
 impl ObjectChanges {
     /// No changes. Takes no memory.
     pub fn new(alloc: Global) -> ObjectChanges
@@ -113,6 +131,16 @@ impl ObjectChanges {
     {
         self.changes.reserve(1)?;
         self.changes.insert(id, change);
+        Ok(())
+    }
+
+    /// Puts each of these changes at its object, one after another, or none of them.
+    pub fn set_all(&mut self, more: Vec<(ObjectId, Change<Object>)>) -> Result<(), NoMemory>
+        ensures ok { OnOk result (self.new ≡ put_each more.items self.old) }
+        ensures err { OnErr result (self.new ≡ self.old) }
+    {
+        self.changes.reserve(more.len())?;
+        put_all(&mut self.changes, more);
         Ok(())
     }
 

@@ -1,15 +1,16 @@
 //! What a run in its midst has read and written.
-ghost use Rattle.std.specs.Prelude.{◌≡◌, ◌+◌, ◌<◌, ◌≤◌, ◌++◌, ◌∷◌, [], Some, length, OnOk, OnErr, IfOk, IfSome, IfNone};
+ghost use Rattle.std.specs.Prelude.{◌≡◌, ◌+◌, ◌<◌, ◌≤◌, ◌++◌, ◌∷◌, [], Some, length, map as each, OnOk, OnErr, IfOk, IfSome, IfNone};
 ghost use Rattle.std.specs.FinMap as map;
 ghost use Rattle.std.specs.Option.{option_copied};
 ghost use Rattle.dk_types.specs.Names.{bytes_cmp};
+ghost use Rattle.dk_types.specs.declared.item.Item.TheVariants as ask;
 ghost use Rattle.dk_types.specs.declared.limits.TheConstants.{MOMENT_MOST_MS};
 ghost use Rattle.dk_overlay.specs.Asked.{WasRead, WasNotRead, WasAnswered, IsOnce};
 ghost use Rattle.dk_overlay.specs.Binding.{is_bound_after};
 ghost use Rattle.dk_overlay.specs.Changes.{settled};
 ghost use Rattle.dk_overlay.specs.NetChanges.{net_changes};
 ghost use Rattle.dk_overlay.specs.Least.{Least};
-ghost use Rattle.dk_overlay.specs.ReadsAndWrites.{nothing_done, reading, new_id, creating, changing_object, changing_name, new_key, scheduling, removing_task, moving_task, sending};
+ghost use Rattle.dk_overlay.specs.ReadsAndWrites.{nothing_done, reading, new_id, creating, changing_object, changing_objects, changing_name, new_key, scheduling, removing_task, moving_task, sending};
 
 use crate::change::{Change, Scheduled};
 use crate::names::NameChanges;
@@ -82,6 +83,17 @@ pub struct ReadWriteParts {
     pub reads: Vec<(Item, Read)>,
     pub touched: Vec<Item>,
     pub outs: Vec<(ConnNo, Out)>,
+}
+
+/// The items of these objects, in their order.
+fn items_of(alloc: Global, changes: &[(ObjectId, Change<Object>)]) -> Result<Vec<Item>, NoMemory>
+    ensures { IfOk result (λ items. items.items ≡ each (λ c. ask.Object c.0) changes.now) }
+{
+    let mut items = Vec::with_capacity(alloc, changes.len())?;
+    for (id, _) in changes {
+        items.push(Item::Object(*id))?;
+    }
+    Ok(items)
 }
 
 impl ReadWriteSet {
@@ -351,6 +363,23 @@ impl ReadWriteSet {
         self.touched.push_reserved(Item::Object(first));
         self.touched.push_reserved(Item::Object(second));
         Ok(())
+    }
+
+    /// The changes of these objects, one after another, or none of them.
+    pub fn change_all(&mut self, changes: Vec<(ObjectId, Change<Object>)>) -> Result<(), NoMemory>
+        ensures ok { OnOk result (self.new ≡ changing_objects self.old changes.items) }
+        ensures err { OnErr result (self.new ≡ self.old) }
+    {
+        let had = self.touched.len();
+        let mut listed = items_of(self.alloc, changes.as_slice())?;
+        self.touched.append(&mut listed)?;
+        match self.objects.set_all(changes) {
+            Ok(()) => Ok(()),
+            Err(error) => {
+                self.touched.truncate(had);
+                Err(error)
+            }
+        }
     }
 
     /// Schedules a task under the run's next number. Refused, it changes nothing.

@@ -16,3 +16,4 @@ pub mod TaskCalls
 pub mod Laws
 pub mod Listing
 pub mod Together
+pub mod SavedAll

@@ -70,7 +70,7 @@ starves {sights = sights} {a = a} {b = b} {f = f} {r = Err h} k e is =
 starves {r = Ok x} k e is = absurd is
 
 -- two steps that are answered
-two_steps : {A B : Type 0} (f : Act A) (g : A → Act B) (x : A) (y : B) (s u v : Run) → f s ≡ (Ok x, u) → g x u ≡ (Ok y, v) → and_then f g s ≡ (Ok y, v)
+pub two_steps : {A B : Type 0} (f : Act A) (g : A → Act B) (x : A) (y : B) (s u v : Run) → f s ≡ (Ok x, u) → g x u ≡ (Ok y, v) → and_then f g s ≡ (Ok y, v)
 unfolding and_then
 two_steps f g x y s u v first second = ap (λ q. carry_on q.0 g q.1) first ∙ second
 
@@ -100,14 +100,14 @@ module _ (t : ReadsAndWrites) (d : DurableWorld) where
     unfolding act.remove
     removed_at = ap (λ o. change_found o id (λ object. None) (current t d)) there ∙ rw free (ap (λ s. (Ok tt, s)) (current_changed t id (record { before = before; after = None }) d))
 
-    saved_at : (bytes : List ℕ) → act.is_too_long bytes ≡ false → act.save id bytes (current t d) ≡ (Ok tt, current (changing_object t id (record { before = before; after = Some (record { kind = object.kind; bytes = bytes }) })) d)
+    pub saved_at : (bytes : List ℕ) → act.is_too_long bytes ≡ false → act.save id bytes (current t d) ≡ (Ok tt, current (changing_object t id (record { before = before; after = Some (record { kind = object.kind; bytes = bytes }) })) d)
     unfolding act.save
     saved_at bytes short =
         rw short (ap (λ o. change_found o id (λ object. Some (record { kind = object.kind; bytes = bytes })) (current t d)) there
         ∙ rw free (ap (λ s. (Ok tt, s)) (current_changed t id (record { before = before; after = Some (record { kind = object.kind; bytes = bytes }) }) d)))
 
 -- after one object was saved, each that stood stands with its kind
-still_there : (t : ReadsAndWrites) (id q : ObjectId) (bytes : List ℕ) (before : Option Object) (object other : Object) (d : DurableWorld) → map.get (layered value_now t.objects d.objects) id ≡ Some object → map.get (layered value_now t.objects d.objects) q ≡ Some other
+pub still_there : (t : ReadsAndWrites) (id q : ObjectId) (bytes : List ℕ) (before : Option Object) (object other : Object) (d : DurableWorld) → map.get (layered value_now t.objects d.objects) id ≡ Some object → map.get (layered value_now t.objects d.objects) q ≡ Some other
     → (now : Object) × (map.get (layered value_now (map.insert t.objects id (record { before = before; after = Some (record { kind = object.kind; bytes = bytes }) })) d.objects) q ≡ Some now) × (now.kind ≡ other.kind)
 still_there t id q bytes before object other d there stood =
     let change : Change Object = record { before = before; after = Some (record { kind = object.kind; bytes = bytes }) } in
@@ -125,11 +125,11 @@ still_there t id q bytes before object other d there stood =
     ] refl found
 
 -- the change of an object that stood, with other bytes
-with_bytes_is : (c : Change Object) (object : Object) (bytes : List ℕ) → c.after ≡ Some object → with_bytes c bytes ≡ record { before = c.before; after = Some (record { kind = object.kind; bytes = bytes }) }
+pub with_bytes_is : (c : Change Object) (object : Object) (bytes : List ℕ) → c.after ≡ Some object → with_bytes c bytes ≡ record { before = c.before; after = Some (record { kind = object.kind; bytes = bytes }) }
 with_bytes_is c object bytes is = ap (λ o. with_bytes (record { before = c.before; after = o }) bytes) is
 
 -- what changes that were made together keep, with the view as it was
-keeps_so : {S : Type 0} {sights : Sights S} {a b : Txn S ReadsAndWrites} → Keeps sights a b → (t : ReadsAndWrites) → t.reads ≡ b.set.reads → t.run ≡ b.set.run → t.at ≡ b.set.at → t.tasks ≡ b.set.tasks → (IsSound a.set → IsSound t)
+pub keeps_so : {S : Type 0} {sights : Sights S} {a b : Txn S ReadsAndWrites} → Keeps sights a b → (t : ReadsAndWrites) → t.reads ≡ b.set.reads → t.run ≡ b.set.run → t.at ≡ b.set.at → t.tasks ≡ b.set.tasks → (IsSound a.set → IsSound t)
     → Keeps sights a (record { view = b.view; set = t })
 keeps_so {sights = sights} {b = b} k t reads run at tasks sound = record {
   same_view = k.same_view;

@@ -9,5 +9,6 @@ pub mod Refusals
 pub mod Listing
 pub mod Bindings
 pub mod Pairs
+pub mod Rewritten
 pub mod Does
 pub mod Law
