@@ -51,6 +51,7 @@ pub fn create_channel<V: View>(
     delivery: Delivery,
 ) -> Result<Channel, Refusal>
     ensures does { Does V.sights refusal_fault txn.old txn.new (acts.create_channel name.now listener delivery) result }
+    ensures asks { Asks (ask.Bound (channel_name name.now)) V.sights txn.old txn.new }
     ensures refused { OnErr result (SameChanges txn.old.set txn.new.set) }
     ensures same_mode { txn.new.set.mode ≡ txn.old.set.mode }
     ensures length { IfErr result (TellsLengthIn txn.new.set (channel_name name.now)) }
@@ -70,6 +71,7 @@ fn open_channel<V: View>(
     delivery: Delivery,
 ) -> Result<(), Refusal>
     ensures does { Does V.sights refusal_fault txn.old txn.new (platform.create_channel name.now listener delivery) result }
+    ensures asks { Asks (ask.Bound (channel_name name.now)) V.sights txn.old txn.new }
     ensures refused { OnErr result (SameChanges txn.old.set txn.new.set) }
     ensures same_mode { txn.new.set.mode ≡ txn.old.set.mode }
     ensures length { IfErr result (TellsLengthIn txn.new.set (channel_name name.now)) }
@@ -89,6 +91,7 @@ fn make_channel<V: View>(
 ) -> Result<(), Refusal>
     requires { txn.old.set.mode ≡ mode.Platform }
     ensures does { Does V.sights refusal_fault txn.old txn.new (platform.new_channel name.now listener delivery) result }
+    ensures asks { Asks (ask.Bound (channel_name name.now)) V.sights txn.old txn.new }
     ensures refused { OnErr result (SameChanges txn.old.set txn.new.set) }
     ensures length { IfErr result (TellsLengthIn txn.new.set (channel_name name.now)) }
 {
@@ -112,6 +115,7 @@ fn record_under<V: View>(
 ) -> Result<(), Refusal>
     requires { txn.old.set.mode ≡ mode.Platform }
     ensures does { Does V.sights refusal_fault txn.old txn.new (acts.recording key.now listener delivery) result }
+    ensures asks { Asks (ask.Bound key.now) V.sights txn.old txn.new }
     ensures refused { OnErr result (SameChanges txn.old.set txn.new.set) }
     ensures length { (bytes : List ℕ) → IfErr result (TellsLengthIn txn.new.set bytes) }
 {

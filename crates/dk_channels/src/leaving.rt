@@ -1,16 +1,18 @@
 //! Leaving a channel.
 ghost use Rattle.std.specs.Prelude.{◌≡◌, ◌++◌, ◌∷◌, [], IfOk, IfSome, OnOk, OnErr, IfErr, option_to_list};
 ghost use Rattle.std.specs.List.{AllByRecursion};
+ghost use Rattle.dk_types.specs.declared.item.Item.TheVariants as ask;
 ghost use Rattle.dk_types.specs.declared.mode.Mode.TheVariants as mode;
 ghost use Rattle.dk_model.specs.Records.{channel_bytes, session_name};
 ghost use Rattle.dk_model.specs.Platforms as platform;
 ghost use Rattle.dk_model.specs.Runs as act;
-ghost use Rattle.dk_txn.specs.Asks.{AsksOf};
+ghost use Rattle.dk_txn.specs.Asks.{AsksOf, EitherOf};
 ghost use Rattle.dk_txn.specs.Does.{Does, SameChanges, Stands};
 ghost use Rattle.dk_txn.specs.declared.refusal.Refusal.TheVariants as refusal;
 ghost use Rattle.dk_txn.specs.Refusals.{refusal_fault};
 ghost use Rattle.dk_refs.specs.RecordAsks.{IsOfRecord};
 ghost use Rattle.dk_refs.specs.Telling.{TellsKindOf, TellsLengthIn, TellsLengthOf};
+ghost use Rattle.dk_channels.specs.BothAsks.{IsOfBoth};
 ghost use Rattle.dk_channels.specs.BothRecords.{kind_of_records, records_after, left};
 ghost use Rattle.dk_channels.specs.AllMembers.{first_of, wrong_kind_of, long_record_of, kind_of_all, length_of_all, TellsFound, NeverTooLong, IsOfAll, IsOfChannel, IsOfEach, IsFoundOf, IsFoundAmong};
 
@@ -34,6 +36,7 @@ pub fn leave<V: View>(
     session: &Session,
 ) -> Result<(), Refusal>
     ensures does { Does V.sights refusal_fault txn.old txn.new (platform.leave channel.now.name session.now) result }
+    ensures asks { AsksOf (IsOfBoth txn.old.set txn.new.set channel.now.name session.now) V.sights txn.old txn.new }
     ensures refused { OnErr result (SameChanges txn.old.set txn.new.set) }
     ensures same_mode { txn.new.set.mode ≡ txn.old.set.mode }
     ensures kind { IfErr result (TellsKindOf txn.new.set (kind_of_records channel.now.name session.now)) }
@@ -53,6 +56,7 @@ fn step_out<V: View>(
 ) -> Result<(), Refusal>
     requires { txn.old.set.mode ≡ mode.Platform }
     ensures does { Does V.sights refusal_fault txn.old txn.new (act.and_then (platform.channel_under name.now) (λ c. act.and_then (platform.own_record session.now) (λ r. platform.leave_records name.now session.now c r))) result }
+    ensures asks { AsksOf (IsOfBoth txn.old.set txn.new.set name.now session.now) V.sights txn.old txn.new }
     ensures refused { OnErr result (SameChanges txn.old.set txn.new.set) }
     ensures kind { IfErr result (TellsKindOf txn.new.set (kind_of_records name.now session.now)) }
     ensures length { IfErr result (TellsLengthOf txn.old.set txn.new.set (records_after left name.now session.now)) }
@@ -73,6 +77,7 @@ fn leave_records<V: View>(
     requires platform { txn.old.set.mode ≡ mode.Platform }
     requires stand { Stands txn.old.set channel.0 × Stands txn.old.set own.0 }
     ensures does { Does V.sights refusal_fault txn.old txn.new (platform.leave_records name.now session.now channel own) result }
+    ensures asks { AsksOf (EitherOf (ask.Object channel.0) (ask.Object own.0)) V.sights txn.old txn.new }
     ensures refused { OnErr result (SameChanges txn.old.set txn.new.set) }
     ensures length { IfErr result (TellsLengthIn txn.new.set (left name.now session.now channel.1 own.1)) }
 {

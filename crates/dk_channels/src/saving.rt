@@ -1,10 +1,12 @@
 //! Saving a channel's record and a session's as one.
 ghost use Rattle.std.specs.Prelude.{◌≡◌, Some, OnErr, IfErr};
+ghost use Rattle.dk_types.specs.declared.item.Item.TheVariants as ask;
 ghost use Rattle.dk_types.specs.declared.mode.Mode.TheVariants as mode;
 ghost use Rattle.dk_types.specs.declared.fault.AppFault.TheVariants.{Refused};
 ghost use Rattle.dk_model.specs.Records.{channel_bytes, session_bytes};
 ghost use Rattle.dk_model.specs.Platforms as platform;
 ghost use Rattle.dk_model.specs.Runs as act;
+ghost use Rattle.dk_txn.specs.Asks.{AsksOf, EitherOf};
 ghost use Rattle.dk_txn.specs.Does.{Does, SameChanges, Stands};
 ghost use Rattle.dk_txn.specs.Refusals.{refusal_fault, TellsLength};
 ghost use Rattle.dk_refs.specs.Telling.{TellsLengthIn};
@@ -43,6 +45,7 @@ pub(crate) fn save_both<V: View>(
     requires platform { txn.old.set.mode ≡ mode.Platform }
     requires stand { Stands txn.old.set channel.0 × Stands txn.old.set session.0 }
     ensures does { Does V.sights refusal_fault txn.old txn.new (platform.save_both channel.0 (channel_bytes channel.1) session.0 (session_bytes session.1)) result }
+    ensures asks { AsksOf (EitherOf (ask.Object channel.0) (ask.Object session.0)) V.sights txn.old txn.new }
     ensures refused { OnErr result (SameChanges txn.old.set txn.new.set) }
     ensures length { IfErr result (TellsLengthIn txn.new.set (too_long_of (channel_bytes channel.1) (session_bytes session.1))) }
 {

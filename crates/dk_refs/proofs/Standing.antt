@@ -21,7 +21,7 @@ use Rattle.dk_txn.specs.Does.{Does}
 use Rattle.dk_txn.specs.Refusals.{refusal_fault}
 use Rattle.dk_txn.specs.Sights.{Sights}
 use Rattle.dk_txn.specs.declared.txn.Txn.{Txn}
-use Rattle.dk_refs.specs.Telling.{kind_of, kind_at, kind_under, value_of_bytes, value_at, value_under}
+use Rattle.dk_refs.specs.Telling.{bound_to, kind_of, kind_at, kind_under, value_of_bytes, value_at, value_under}
 
 -- a record was read: its kind and its value are so, and nothing was done
 pub record Stands {A : Type 0} (kind : ℕ) (found_kind : Option ℕ) (found_value : Option A) (x : ObjectId × A) (s t : Run) : Type 0 where
@@ -122,6 +122,15 @@ module _ {A : Type 0} (kind : ℕ) (read : List ℕ → Option A) (s t : Run) wh
   pub stands_there : (name : List ℕ) (x : ObjectId × A) → record_under name kind read s ≡ (Ok x, t) → kind_at (Some x.0) s.world ≡ Some kind
   stands_there name x e = there_at (platform_bound s name) x e
 
+  leads_at : (o : Option ObjectId) (x : ObjectId × A) → found_as o kind read s ≡ (Ok x, t) → o ≡ Some x.0
+  unfolding and_then get_as act.get
+  leads_at None x e = no_answer (Refused 1) x s t e
+  leads_at (Some id) x e = ap (λ i. Some i) (same_id id _ _ x e)
+
+  -- the name leads to the object that was read
+  pub leads_there : (name : List ℕ) (x : ObjectId × A) → record_under name kind read s ≡ (Ok x, t) → platform_bound s name ≡ Some x.0
+  leads_there name x e = leads_at (platform_bound s name) x e
+
 -- a session's own record stands under its name
 pub own_stands : (session : Session) (y : ObjectId × SessionRecord) (s t : Run) → own_record session s ≡ (Ok y, t) → session_under session.name s ≡ (Ok y, t)
 unfolding and_then give
@@ -149,9 +158,18 @@ module _ {S : Type 0} {sights : Sights S} {a b : Txn S ReadsAndWrites} where
       let is = p.does (Ok x) refl d agrees in
       subst (λ (s : Run). is_some (map.get s.world.objects x.0) ≡ true) (sym (stands kind read (current a.set d) (current b.set d) name x is).same) (some_kind (map.get (current a.set d).world.objects x.0) kind (stands_there kind read (current a.set d) (current b.set d) name x is))
 
-  pub own_record_stands : (session : Session) (y : ObjectId × SessionRecord) → Does sights refusal_fault a b (own_record session) (Ok y) → does.Stands b.set y.0
-  own_record_stands session y p =
-      record_stands SESSION_KIND session_of (session_name session.name) y (record { keeps = p.keeps; does = under })
+  -- its name leads to it
+  pub record_leads : {A : Type 0} (kind : ℕ) (read : List ℕ → Option A) (name : List ℕ) (x : ObjectId × A) → Does sights refusal_fault a b (record_under name kind read) (Ok x) → (d : DurableWorld) → Agrees d b.set.reads → bound_to name (current a.set d).world ≡ Some x.0
+  record_leads kind read name x p d agrees = leads_there kind read (current a.set d) (current b.set d) name x (p.does (Ok x) refl d agrees)
+
+  own_under : (session : Session) (y : ObjectId × SessionRecord) → Does sights refusal_fault a b (own_record session) (Ok y) → Does sights refusal_fault a b (session_under session.name) (Ok y)
+  own_under session y p = record { keeps = p.keeps; does = under }
     where
       under : (s : Result (ObjectId × SessionRecord) AppFault) → Some (Ok y) ≡ Some s → (d : DurableWorld) → Agrees d b.set.reads → session_under session.name (current a.set d) ≡ (s, current b.set d)
       under s t d agrees = subst (λ o. session_under session.name (current a.set d) ≡ (o, current b.set d)) (said y s t) (own_stands session y (current a.set d) (current b.set d) (p.does (Ok y) refl d agrees))
+
+  pub own_record_stands : (session : Session) (y : ObjectId × SessionRecord) → Does sights refusal_fault a b (own_record session) (Ok y) → does.Stands b.set y.0
+  own_record_stands session y p = record_stands SESSION_KIND session_of (session_name session.name) y (own_under session y p)
+
+  pub own_record_leads : (session : Session) (y : ObjectId × SessionRecord) → Does sights refusal_fault a b (own_record session) (Ok y) → (d : DurableWorld) → Agrees d b.set.reads → bound_to (session_name session.name) (current a.set d).world ≡ Some y.0
+  own_record_leads session y p = record_leads SESSION_KIND session_of (session_name session.name) y (own_under session y p)

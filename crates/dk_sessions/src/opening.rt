@@ -1,10 +1,13 @@
 //! Records that begin and end, on the platform's behalf.
 ghost use Rattle.std.specs.Prelude.{◌≡◌, ℕ, List, OnErr, IfErr};
+ghost use Rattle.dk_types.specs.declared.item.Item.TheVariants as ask;
 ghost use Rattle.dk_types.specs.declared.mode.Mode.TheVariants as mode;
 ghost use Rattle.dk_model.specs.Records.{session_name as named};
 ghost use Rattle.dk_model.specs.Platforms as platform;
+ghost use Rattle.dk_txn.specs.Asks.{Asks, AsksOf};
 ghost use Rattle.dk_txn.specs.Does.{Does, SameChanges};
 ghost use Rattle.dk_txn.specs.Refusals.{refusal_fault};
+ghost use Rattle.dk_refs.specs.RecordAsks.{IsOfRecord};
 ghost use Rattle.dk_refs.specs.Telling.{TellsKindOf, TellsLengthIn, kind_under};
 ghost use Rattle.dk_sessions.specs.Openings as opening;
 
@@ -22,6 +25,7 @@ pub fn open_record<V: View>(
     session: &Session,
 ) -> Result<(), Refusal>
     ensures does { Does V.sights refusal_fault txn.old txn.new (platform.open_record session.now) result }
+    ensures asks { Asks (ask.Bound (named session.now.name)) V.sights txn.old txn.new }
     ensures refused { OnErr result (SameChanges txn.old.set txn.new.set) }
     ensures same_mode { txn.new.set.mode ≡ txn.old.set.mode }
     ensures length { IfErr result (TellsLengthIn txn.new.set (named session.now.name)) }
@@ -40,6 +44,7 @@ pub fn close_record<V: View>(
     session: &Session,
 ) -> Result<(), Refusal>
     ensures does { Does V.sights refusal_fault txn.old txn.new (platform.close_record session.now) result }
+    ensures asks { AsksOf (IsOfRecord txn.old.set txn.new.set (named session.now.name)) V.sights txn.old txn.new }
     ensures refused { OnErr result (SameChanges txn.old.set txn.new.set) }
     ensures same_mode { txn.new.set.mode ≡ txn.old.set.mode }
     ensures kind { IfErr result (TellsKindOf txn.new.set (kind_under (named session.now.name))) }
@@ -57,6 +62,7 @@ fn new_record<V: View>(
 ) -> Result<(), Refusal>
     requires { txn.old.set.mode ≡ mode.Platform }
     ensures does { Does V.sights refusal_fault txn.old txn.new (platform.new_record session.now) result }
+    ensures asks { Asks (ask.Bound (named session.now.name)) V.sights txn.old txn.new }
     ensures refused { OnErr result (SameChanges txn.old.set txn.new.set) }
     ensures length { IfErr result (TellsLengthIn txn.new.set (named session.now.name)) }
 {
@@ -79,6 +85,7 @@ fn record_under<V: View>(
 ) -> Result<(), Refusal>
     requires { txn.old.set.mode ≡ mode.Platform }
     ensures does { Does V.sights refusal_fault txn.old txn.new (opening.recording key.now conn) result }
+    ensures asks { Asks (ask.Bound key.now) V.sights txn.old txn.new }
     ensures refused { OnErr result (SameChanges txn.old.set txn.new.set) }
     ensures length { (bytes : List ℕ) → IfErr result (TellsLengthIn txn.new.set bytes) }
 {
@@ -97,6 +104,7 @@ fn take_record<V: View>(
 ) -> Result<(), Refusal>
     requires { txn.old.set.mode ≡ mode.Platform }
     ensures does { Does V.sights refusal_fault txn.old txn.new (opening.taking session.now) result }
+    ensures asks { AsksOf (IsOfRecord txn.old.set txn.new.set (named session.now.name)) V.sights txn.old txn.new }
     ensures refused { OnErr result (SameChanges txn.old.set txn.new.set) }
     ensures kind { IfErr result (TellsKindOf txn.new.set (kind_under (named session.now.name))) }
 {

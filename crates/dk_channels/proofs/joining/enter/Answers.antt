@@ -7,6 +7,7 @@ use Rattle.dk_refs.proofs.Standing.{record_stands, own_record_stands}
 use Rattle.dk_refs.proofs.Tellings.{length_of_never, kind_never_last}
 use Rattle.dk_channels.specs.BothRecords.{kind_of_records, records_after, joined}
 use Rattle.dk_channels.proofs.Tellings.{under_avoids, own_avoids, join_avoids, first_kind, second_kind, both_length}
+use Rattle.dk_channels.proofs.Asking.{asks_first, asks_second, asks_both}
 use Rattle.dk_channels.proofs.joining.enter.Goals as goal
 
 pub join_records-requires-clause-platform : goal.join_records-requires-clause-platform
@@ -47,3 +48,15 @@ returns-clause-kind g c = kind_never_last (kind_of_records c.args.name.now c.arg
 
 pub returns-clause-length : goal.returns-clause-length
 returns-clause-length g c = both_length c.args.name.now c.args.session.now c.in_ok-channel.ensures.does _ joined c.in_ok-own.ensures.does c.join_records.ensures.does c.join_records.ensures.length
+
+pub returns-in_err-channel-clause-asks : goal.returns-in_err-channel-clause-asks
+returns-in_err-channel-clause-asks g c = asks_first c.args.name.now c.args.session.now c.in_err-channel.ensures.asks
+
+pub returns-in_err-own-clause-asks : goal.returns-in_err-own-clause-asks
+returns-in_err-own-clause-asks g c =
+    asks_second c.args.name.now c.args.session.now c.in_ok-channel.ensures.does c.record_of.ensures.same_changes c.record_of.ensures.asks c.in_err-own.ensures.does.keeps c.in_err-own.ensures.asks
+
+pub returns-clause-asks : goal.returns-clause-asks
+returns-clause-asks g c =
+    asks_both c.args.name.now c.args.session.now c.in_ok-channel.ensures.does c.record_of.ensures.same_changes c.record_of.ensures.asks c.in_ok-own.ensures.does c.in_ok-own.ensures.asks
+    c.join_records.ensures.does.keeps c.join_records.ensures.asks

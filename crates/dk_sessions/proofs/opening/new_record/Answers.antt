@@ -1,6 +1,7 @@
 use Rattle.dk_sessions.proofs.Openings.{open_long, open_stops, open_exists, open_made}
 use Rattle.dk_model.specs.Records.{session_name}
 use Rattle.dk_refs.proofs.Tellings.{length_passes, length_never, binding_avoids}
+use Rattle.dk_txn.proofs.Asking.{asks_then}
 use Rattle.dk_sessions.proofs.opening.new_record.Goals as goal
 
 pub returns-in-None-clause-does : goal.returns-in-None-clause-does
@@ -22,3 +23,12 @@ returns-in_err-binding-clause-length g c =
 
 pub returns-clause-length : goal.returns-clause-length
 returns-clause-length g c = c.record_under.ensures.length (session_name c.args.session.now.name)
+
+pub returns-in_err-binding-clause-asks : goal.returns-in_err-binding-clause-asks
+returns-in_err-binding-clause-asks g c = let key = rw c.in-Some.is at c.in_ok-session_name.ensures in rw key.0 at c.in_err-binding.ensures.asks
+
+pub returns-in-Some-2-clause-asks : goal.returns-in-Some-2-clause-asks
+returns-in-Some-2-clause-asks g c = let key = rw c.in-Some.is at c.in_ok-session_name.ensures in rw key.0 at c.in_ok-binding.ensures.asks
+
+pub returns-clause-asks : goal.returns-clause-asks
+returns-clause-asks g c = let key = rw c.in-Some.is at c.in_ok-session_name.ensures in rw key.0 at (asks_then c.in_ok-binding.ensures.asks c.record_under.ensures.asks)

@@ -4,8 +4,9 @@ use Rattle.dk_txn.proofs.Kit.{stops}
 use Rattle.dk_sessions.proofs.Openings.{take_long, take_does}
 use Rattle.dk_model.specs.Records.{session_name}
 use Rattle.dk_refs.specs.Telling.{kind_under}
-use Rattle.dk_refs.proofs.Standing.{own_record_stands}
+use Rattle.dk_refs.proofs.Standing.{own_record_stands, own_record_leads}
 use Rattle.dk_refs.proofs.Tellings.{kind_never_last, long_tells, then_avoids, unbind_avoids, remove_avoids}
+use Rattle.dk_refs.proofs.RecordAsks.{asks_again}
 use Rattle.dk_sessions.proofs.opening.take_record.Goals as goal
 
 pub unbind_and_remove-requires-clause-platform : goal.unbind_and_remove-requires-clause-platform
@@ -31,3 +32,9 @@ returns-in-None-clause-kind g c = long_tells c.own_record.new.txn.set (kind_unde
 pub returns-clause-kind : goal.returns-clause-kind
 returns-clause-kind g c =
     kind_never_last (kind_under (session_name c.args.session.now.name)) (then_avoids (unbind_avoids c.in-Some.key 3 (λ e. cc) (λ e. cc)) (λ u. remove_avoids _ 3 (λ e. cc) (λ e. cc))) c.unbind_and_remove.ensures.does
+
+pub returns-clause-asks : goal.returns-clause-asks
+returns-clause-asks g c =
+    let key = rw c.in-Some.is at c.in_ok-session_name.ensures in
+    asks_again (session_name c.args.session.now.name) c.in-Some.key key.0 (own_record_leads c.args.session.now _ c.in_ok-found.ensures.does) c.in_ok-found.ensures.asks c.unbind_and_remove.ensures.does.keeps
+    (rw c.id.ensures at c.unbind_and_remove.ensures.asks)
