@@ -1,0 +1,14 @@
+pub mod Ends
+pub mod Kept
+pub mod Keeps
+pub mod Spelled
+pub mod Calls
+pub mod LeaveAll
+pub mod Led
+pub mod Opened
+pub mod Works
+pub mod Laws
+pub mod Counted
+pub mod Orderly
+pub mod Logins
+pub mod Ordered

@@ -1,0 +1,4 @@
+pub mod Sessions
+pub mod Numbers
+pub mod KeepingLaw
+pub mod SessionsLaw

@@ -1,0 +1,4 @@
+pub mod KeptSword
+pub mod KeptCounters
+pub mod KeptChannels
+pub mod Shipped
