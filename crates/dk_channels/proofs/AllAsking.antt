@@ -49,15 +49,15 @@ module _ {S : Type 0} {sights : Sights S} where
   later_each start (m ∷ members) q k (inl h) = inl (later_record start (session_name m.name) q k h)
   later_each start (m ∷ members) q k (inr h) = inr (later_each start members q k h)
 
-  -- and one before nothing was changed
-  earlier_record : {a b : Txn S ReadsAndWrites} (now : ReadsAndWrites) (name : List ℕ) (q : Item) → SameChanges a.set b.set → IsOfRecord b.set now name q → IsOfRecord a.set now name q
-  earlier_record now name q same (inl is) = inl is
-  earlier_record {a = a} {b = b} now name q same (inr h) = inr (h.0, h.1, λ d agrees. ap (λ (s : Run). bound_to name s.world) (sym (current_same a.set b.set d same)) ∙ h.2 d agrees)
+-- and one before nothing was changed
+earlier_record : (before start now : ReadsAndWrites) (name : List ℕ) (q : Item) → SameChanges before start → IsOfRecord start now name q → IsOfRecord before now name q
+earlier_record before start now name q same (inl is) = inl is
+earlier_record before start now name q same (inr h) = inr (h.0, h.1, λ d agrees. ap (λ (s : Run). bound_to name s.world) (sym (current_same before start d same)) ∙ h.2 d agrees)
 
-  earlier_each : {a b : Txn S ReadsAndWrites} (now : ReadsAndWrites) (members : List Session) (q : Item) → SameChanges a.set b.set → IsOfEach b.set now members q → IsOfEach a.set now members q
-  earlier_each now [] q same h = h
-  earlier_each {a = a} {b = b} now (m ∷ members) q same (inl h) = inl (earlier_record {a = a} {b = b} now (session_name m.name) q same h)
-  earlier_each {a = a} {b = b} now (m ∷ members) q same (inr h) = inr (earlier_each {a = a} {b = b} now members q same h)
+earlier_each : (before start now : ReadsAndWrites) (members : List Session) (q : Item) → SameChanges before start → IsOfEach start now members q → IsOfEach before now members q
+earlier_each before start now [] q same h = h
+earlier_each before start now (m ∷ members) q same (inl h) = inl (earlier_record before start now (session_name m.name) q same h)
+earlier_each before start now (m ∷ members) q same (inr h) = inr (earlier_each before start now members q same h)
 
 -- of one member, of one of them
 of_one : (before after : ReadsAndWrites) (members : List Session) (i : ℕ) (m : Session) (q : Item) → i < length members → m ≡ get_or members i m → IsOfRecord before after (session_name m.name) q → IsOfEach before after members q
@@ -65,10 +65,10 @@ of_one before after [] i m q h is of = let none : i < 0 = h in absurd (omega (ar
 of_one before after (k ∷ members) zero m q h is of = inl (subst (λ (y : Session). IsOfRecord before after (session_name y.name) q) is of)
 of_one before after (k ∷ members) (suc i) m q h is of = inr (of_one before after members i m q (omega (arith, h)) is of)
 
-module _ {S : Type 0} {sights : Sights S} {a b c : Txn S ReadsAndWrites} (k : Keeps sights b c) (same : SameChanges a.set b.set) (again : SameChanges b.set c.set) (members : List Session) (i : ℕ) (m : Session)
+module _ {S : Type 0} {sights : Sights S} (a : Txn S ReadsAndWrites) {b c : Txn S ReadsAndWrites} (k : Keeps sights b c) (same : SameChanges a.set b.set) (again : SameChanges b.set c.set) (members : List Session) (i : ℕ) (m : Session)
     (more : i < length members) (at : m ≡ get_or members i m) where
   here : (q : Item) → IsOfRecord b.set c.set (session_name m.name) q → IsOfEach a.set c.set members q
-  here q h = of_one a.set c.set members i m q more at (earlier_record {a = a} {b = b} c.set (session_name m.name) q same h)
+  here q h = of_one a.set c.set members i m q more at (earlier_record a.set b.set c.set (session_name m.name) q same h)
 
   -- one member more is asked for
   pub asks_next : AsksOf (IsOfEach a.set b.set members) sights a b → AsksOf (IsOfRecord b.set c.set (session_name m.name)) sights b c → AsksOf (IsOfEach a.set c.set members) sights a c
@@ -125,7 +125,7 @@ module _ {S : Type 0} {sights : Sights S} where
     of_channel q (inr h) = inr (
       x.1.members,
       λ d agrees. ap members_of (stands CHANNEL_KIND channel_of (current a.set d) (current b.set d) (channel_name name) x (p.does (Ok x) refl d (agreed k d agrees))).has_value,
-      earlier_each {a = a} {b = b} c.set x.1.members q same h,
+      earlier_each a.set b.set c.set x.1.members q same h,
     )
 
     -- the channel's record, and then those of its members

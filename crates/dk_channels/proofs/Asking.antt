@@ -42,9 +42,12 @@ module _ {S : Type 0} {sights : Sights S} (name : List ℕ) (session : Session) 
 
   -- what was found of the channel was so in every agreeing world
   had_record : {a b c : Txn S ReadsAndWrites} {x : ObjectId × ChannelRecord} → Does sights refusal_fault a b (channel_under name) (Ok x) → Keeps sights b c → HadRecord a.set c.set name
-  had_record {a = a} {b = b} {x = x} found keeps = (x.1, λ d agrees.
-      let is = stands CHANNEL_KIND channel_of (current a.set d) (current b.set d) (channel_name name) x (found.does (Ok x) refl d (agreed keeps d agrees)) in
-      record { kind = is.has_kind; value = is.has_value })
+  had_record {a = a} {b = b} {x = x} found keeps = (
+    x.1,
+    λ d agrees.
+        let is = stands CHANNEL_KIND channel_of (current a.set d) (current b.set d) (channel_name name) x (found.does (Ok x) refl d (agreed keeps d agrees)) in
+        record { kind = is.has_kind; value = is.has_value },
+  )
 
   -- the channel's record was asked for
   pub asks_first : {a b : Txn S ReadsAndWrites} → AsksOf (IsOfRecord a.set b.set (channel_name name)) sights a b → AsksOf (IsOfBoth a.set b.set name session) sights a b
@@ -72,5 +75,12 @@ module _ {S : Type 0} {sights : Sights S} (name : List ℕ) (session : Session) 
     where
       either : (item : Item) → EitherOf (ask.Object x.0) (ask.Object y.0) item → IsOfBoth a.set e.set name session item
       either item (inl is) = inl (inr (x.0, is, λ d agrees. record_leads CHANNEL_KIND channel_of (channel_name name) x found d (agreed (keeps_then own.keeps keeps) d agrees)))
-      either item (inr is) = inr (had_record found (keeps_then own.keeps keeps), inr (y.0, is, λ d agrees.
-          subst (λ (s : Run). bound_to (session_name session.name) s.world ≡ Some y.0) (current_same a.set b.set d same) (own_record_leads session y own d (agreed keeps d agrees))))
+      either item (inr is) = inr (
+        had_record found (keeps_then own.keeps keeps),
+        inr (
+          y.0,
+          is,
+          λ d agrees.
+              subst (λ (s : Run). bound_to (session_name session.name) s.world ≡ Some y.0) (current_same a.set b.set d same) (own_record_leads session y own d (agreed keeps d agrees)),
+        ),
+      )

@@ -74,26 +74,26 @@ none_more : (name : List ℕ) (found : List (ObjectId × List ℕ)) (s : Run) �
 unfolding and_then give
 none_more name found s = ap (λ l. (Ok l, s)) (append-nil found)
 
-module _ {S : Type 0} {sights : Sights S} {a b : Txn S ReadsAndWrites} (name : List ℕ) (members : List Session) where
-  -- at first all are left
-  pub at_start : (found : List (ObjectId × List ℕ)) → found ≡ [] → Resumes sights a a (records_without name members) (with_rest name found members)
-  at_start found none = subst (λ l. Resumes sights a a (records_without name members) (with_rest name l members)) (sym none) (record { keeps = keeps_all; leads = λ d agrees. then_give (records_without name members) (current a.set d) })
+-- at first all are left
+pub at_start : {S : Type 0} {sights : Sights S} {a : Txn S ReadsAndWrites} (name : List ℕ) (members : List Session) (found : List (ObjectId × List ℕ)) → found ≡ [] → Resumes sights a a (records_without name members) (with_rest name found members)
+at_start {sights = sights} {a = a} name members found none =
+    subst (λ l. Resumes sights a a (records_without name members) (with_rest name l members)) (sym none) (record { keeps = keeps_all; leads = λ d agrees. then_give (records_without name members) (current a.set d) })
 
-  module _ (i : ℕ) (found : List (ObjectId × List ℕ)) {f : Act (List (ObjectId × List ℕ))} where
-    -- what is left at a turn begins with the next member
-    pub at_member : (member : Session) → i < length members → member ≡ get_or members i member
-        → Resumes sights a b f (with_rest name found (drop i members)) → Resumes sights a b f (and_then (record_without name member) (λ one. with_rest name (found ++ option_to_list one) (drop (i + 1) members)))
-    at_member member h is p = record {
-      keeps = p.keeps;
-      leads = λ d agrees. p.leads d agrees ∙ ap (λ ms. with_rest name found ms (current b.set d)) (rest_is members i member h is) ∙ one_more name found member (drop (i + 1) members) (current b.set d);
-    }
+module _ {S : Type 0} {sights : Sights S} {a b : Txn S ReadsAndWrites} (name : List ℕ) (members : List Session) (i : ℕ) (found : List (ObjectId × List ℕ)) {f : Act (List (ObjectId × List ℕ))} where
+  -- what is left at a turn begins with the next member
+  pub at_member : (member : Session) → i < length members → member ≡ get_or members i member
+      → Resumes sights a b f (with_rest name found (drop i members)) → Resumes sights a b f (and_then (record_without name member) (λ one. with_rest name (found ++ option_to_list one) (drop (i + 1) members)))
+  at_member member h is p = record {
+    keeps = p.keeps;
+    leads = λ d agrees. p.leads d agrees ∙ ap (λ ms. with_rest name found ms (current b.set d)) (rest_is members i member h is) ∙ one_more name found member (drop (i + 1) members) (current b.set d);
+  }
 
-    -- nothing is left
-    pub at_end : length members ≤ i → Resumes sights a b f (with_rest name found (drop i members)) → Resumes sights a b f (give (Ok found))
-    at_end h p = record {
-      keeps = p.keeps;
-      leads = λ d agrees. p.leads d agrees ∙ ap (λ ms. with_rest name found ms (current b.set d)) (drop_all i members h) ∙ none_more name found (current b.set d);
-    }
+  -- nothing is left
+  pub at_end : length members ≤ i → Resumes sights a b f (with_rest name found (drop i members)) → Resumes sights a b f (give (Ok found))
+  at_end h p = record {
+    keeps = p.keeps;
+    leads = λ d agrees. p.leads d agrees ∙ ap (λ ms. with_rest name found ms (current b.set d)) (drop_all i members h) ∙ none_more name found (current b.set d);
+  }
 
 pub no_members : (members : List Session) → (length members == 0) ≡ true → members ≡ []
 no_members [] h = refl

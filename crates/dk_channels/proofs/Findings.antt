@@ -54,6 +54,12 @@ found_at : (before after : ReadsAndWrites) (members : List Session) (i : ℕ) (m
     → (d : DurableWorld) → Agrees d after.reads → first_of find members (current before d).world ≡ option_or (find m (current after d).world) (first_of find (drop (i + 1) members) (current after d).world)
 found_at before after members i m more at find later d agrees = later d agrees ∙ ap (λ ms. first_of find ms (current after d).world) (rest_is members i m more at)
 
+-- a refusal by another number tells of no kind
+pub kind_never : (e : Refusal) (k : ℕ) → (k ≡ 3 → ⊥) → (before after : ReadsAndWrites) (found : DurableWorld → Option ℕ) → refusal_fault e ≡ Some (Refused k) → TellsFound refusal.WrongKind before after found e
+kind_never e k other before after found told n is d agrees =
+    let twice : Some (Refused k) ≡ Some (Refused 3) = sym told ∙ ap refusal_fault is in
+    let same : k ≡ 3 = cc in absurd (other same)
+
 module _ {S : Type 0} {sights : Sights S} where
   -- a refusal by another number tells nothing
   found_never : {a b : Txn S ReadsAndWrites} {A : Type 0} {f : Act A} {e : Refusal} (k : ℕ) (sort : ℕ → Refusal) (before : ReadsAndWrites) (found : DurableWorld → Option ℕ) → ((n : ℕ) → refusal_fault (sort n) ≡ Some (Refused k)) → Avoids k f
@@ -81,12 +87,6 @@ module _ {S : Type 0} {sights : Sights S} where
           let has : kind_under (session_name m.name) (current a.set d).world ≡ Some n = subst (λ (s : Run). kind_under (session_name m.name) s.world ≡ Some n) (current_same a.set b.set d same) (told_here d agrees) in
           not_session_is (kind_under (session_name m.name) (current a.set d).world) n has (look_other m (current a.set d) (current b.set d) refused)
 
-  -- a refusal by another number tells of no kind
-  pub kind_never : {e : Refusal} (k : ℕ) → (k ≡ 3 → ⊥) → (b : Txn S ReadsAndWrites) (before : ReadsAndWrites) (found : DurableWorld → Option ℕ) → refusal_fault e ≡ Some (Refused k) → TellsFound refusal.WrongKind before b.set found e
-  kind_never {e = e} k other b before found told n is d agrees =
-      let twice : Some (Refused k) ≡ Some (Refused 3) = sym told ∙ ap refusal_fault is in
-      let same : k ≡ 3 = cc in absurd (other same)
-
   -- a last call that is refused over no kind, or over no length
   pub kind_unfound_last : {a b : Txn S ReadsAndWrites} {A : Type 0} {f : Act A} (r : Result A Refusal) (before : ReadsAndWrites) (found : DurableWorld → Option ℕ) → Avoids 3 f → Does sights refusal_fault a b f r → IfErr r (TellsFound refusal.WrongKind before b.set found)
   kind_unfound_last (Ok x) before found never p = tt
@@ -97,9 +97,9 @@ module _ {S : Type 0} {sights : Sights S} where
   length_unfound_last (Err e) before found never p = found_never 4 refusal.TooLong before found (λ n. refl) never p
 
   -- the record of a member is too long without the channel
-  pub member_length : {a b : Txn S ReadsAndWrites} {e : Refusal} (name : List ℕ) (m : Session) (x : ObjectId × SessionRecord) → Does sights refusal_fault a b (record_if_connected m) (Ok (Some x))
+  pub member_length : {a b : Txn S ReadsAndWrites} (e : Refusal) (name : List ℕ) (m : Session) (x : ObjectId × SessionRecord) → Does sights refusal_fault a b (record_if_connected m) (Ok (Some x))
       → is_too_long (bytes_without name x.1) ≡ true → TellsLength (bytes_without name x.1) e → TellsFound refusal.TooLong a.set b.set (long_record_of name m) e
-  member_length {a = a} {b = b} {e = e} name m x p long told = λ n is d agrees.
+  member_length {a = a} {b = b} e name m x p long told = λ n is d agrees.
       let l = looked name m (Some x) (current a.set d) (current b.set d) (p.does (Ok (Some x)) refl d agrees) in
       let len : n ≡ length (bytes_without name x.1) = subst (TellsLength (bytes_without name x.1)) is told in
       l.found.1 ∙ ap (λ b. if b then Some (length (bytes_without name x.1)) else None) long ∙ ap (λ k. Some k) (sym len)

@@ -1,8 +1,7 @@
-use Rattle.std.proofs.Common.{◌≡◌, true, false, refl, sym, ap, ◌∙◌}
+use Rattle.std.proofs.Common.{◌≡◌, true, false, sym, ap, ◌∙◌}
 use Rattle.dk_model.specs.Runs as act
 use Rattle.dk_model.specs.Platforms as platform
 use Rattle.dk_txn.proofs.Kit.{then_does, stops, give_does, if_true_does, if_false_does}
-use Rattle.dk_txn.proofs.Together.{starves}
 use Rattle.dk_channels.specs.AllMembers.{wrong_kind_of, long_record_of}
 use Rattle.dk_channels.proofs.Looks.{look_avoids}
 use Rattle.dk_channels.proofs.Sendings.{refuses_long}
@@ -15,22 +14,19 @@ returns-in_err-record_if_connected-clause-does g c = stops _ c.in_err-record_if_
 pub returns-in-None-clause-does : goal.returns-in-None-clause-does
 returns-in-None-clause-does g c = then_does (platform.without_it c.args.name.now) (rw c.in-None.is at c.in_ok-record_if_connected.ensures.does) give_does
 
-pub returns-in_err-payload-clause-does : goal.returns-in_err-payload-clause-does
-returns-in_err-payload-clause-does g c = starves c.record_if_connected.ensures.does.keeps refl c.from_residual-in_err-payload.ensures.1
-
 pub returns-then-is_too_long-clause-does : goal.returns-then-is_too_long-clause-does
 returns-then-is_too_long-clause-does g c =
-    let long : act.is_too_long (platform.bytes_without c.args.name.now c.in-Some.sessions) ≡ true = ap act.is_too_long (sym c.in_ok-payload.ensures) ∙ sym c.is_too_long.ensures ∙ c.if-is_too_long.true in
+    let long : act.is_too_long (platform.bytes_without c.args.name.now c.in-Some.sessions) ≡ true = ap act.is_too_long (sym c.in_ok-payload-in-Some.ensures) ∙ sym c.is_too_long.ensures ∙ c.if-is_too_long.true in
     then_does (platform.without_it c.args.name.now) (rw c.in-Some.is at c.in_ok-record_if_connected.ensures.does) (if_true_does _ long (refuses_long c.too_long.ensures.told))
 
-pub returns-clause-does : goal.returns-clause-does
-returns-clause-does g c =
-    let short : act.is_too_long (platform.bytes_without c.args.name.now c.in-Some.sessions) ≡ false = ap act.is_too_long (sym c.in_ok-payload.ensures) ∙ sym c.is_too_long.ensures ∙ c.if-is_too_long.false in
-    then_does (platform.without_it c.args.name.now) (rw c.in-Some.is at c.in_ok-record_if_connected.ensures.does) (if_false_does _ short (rw (c.id.ensures, c.in_ok-payload.ensures) give_does))
+pub returns-else-is_too_long-clause-does : goal.returns-else-is_too_long-clause-does
+returns-else-is_too_long-clause-does g c =
+    let short : act.is_too_long (platform.bytes_without c.args.name.now c.in-Some.sessions) ≡ false = ap act.is_too_long (sym c.in_ok-payload-in-Some.ensures) ∙ sym c.is_too_long.ensures ∙ c.if-is_too_long.false in
+    then_does (platform.without_it c.args.name.now) (rw c.in-Some.is at c.in_ok-record_if_connected.ensures.does) (if_false_does _ short (rw (c.id.ensures, c.in_ok-payload-in-Some.ensures) give_does))
 
-pub returns-clause-found : goal.returns-clause-found
-returns-clause-found g c =
-    rw c.id.ensures (member_found c.args.name.now c.args.session.now (c.in-Some.place, c.in-Some.sessions) c.in_ok-payload.payload (rw c.in-Some.is at c.in_ok-record_if_connected.ensures.does) (sym c.is_too_long.ensures ∙ c.if-is_too_long.false))
+pub returns-else-is_too_long-clause-found : goal.returns-else-is_too_long-clause-found
+returns-else-is_too_long-clause-found g c =
+    rw c.id.ensures (member_found c.args.name.now c.args.session.now (c.in-Some.place, c.in-Some.sessions) c.in_ok-payload-in-Some.payload (rw c.in-Some.is at c.in_ok-record_if_connected.ensures.does) (sym c.is_too_long.ensures ∙ c.if-is_too_long.false))
 
 pub returns-in_err-record_if_connected-clause-kind : goal.returns-in_err-record_if_connected-clause-kind
 returns-in_err-record_if_connected-clause-kind g c =
@@ -41,9 +37,9 @@ returns-in_err-record_if_connected-clause-length g c =
     length_unfound _ c.args.txn.now.set (long_record_of c.args.name.now c.args.session.now) (look_avoids c.args.session.now) c.in_err-record_if_connected.ensures.does c.from_residual.ensures.1
 
 pub returns-then-is_too_long-clause-kind : goal.returns-then-is_too_long-clause-kind
-returns-then-is_too_long-clause-kind g c = kind_never 4 (λ e. cc) c.record_if_connected.new.txn c.args.txn.now.set (wrong_kind_of c.args.session.now) c.too_long.ensures.told
+returns-then-is_too_long-clause-kind g c = kind_never _ 4 (λ e. cc) c.args.txn.now.set c.record_if_connected.new.txn.set (wrong_kind_of c.args.session.now) c.too_long.ensures.told
 
 pub returns-then-is_too_long-clause-length : goal.returns-then-is_too_long-clause-length
 returns-then-is_too_long-clause-length g c =
-    let long : act.is_too_long (platform.bytes_without c.args.name.now c.in-Some.sessions) ≡ true = ap act.is_too_long (sym c.in_ok-payload.ensures) ∙ sym c.is_too_long.ensures ∙ c.if-is_too_long.true in
-    member_length c.args.name.now c.args.session.now (c.in-Some.place, c.in-Some.sessions) (rw c.in-Some.is at c.in_ok-record_if_connected.ensures.does) long (rw c.in_ok-payload.ensures at c.too_long.ensures.length)
+    let long : act.is_too_long (platform.bytes_without c.args.name.now c.in-Some.sessions) ≡ true = ap act.is_too_long (sym c.in_ok-payload-in-Some.ensures) ∙ sym c.is_too_long.ensures ∙ c.if-is_too_long.true in
+    member_length _ c.args.name.now c.args.session.now (c.in-Some.place, c.in-Some.sessions) (rw c.in-Some.is at c.in_ok-record_if_connected.ensures.does) long (rw c.in_ok-payload-in-Some.ensures at c.too_long.ensures.length)

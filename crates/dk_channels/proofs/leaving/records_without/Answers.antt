@@ -30,7 +30,7 @@ returns-in_err-one-clause-does g c =
 
 pub returns-in_err-one-clause-asks : goal.returns-in_err-one-clause-asks
 returns-in_err-one-clause-asks g c =
-    asks_next c.record_without.ensures.does.keeps c.loop-member.invariant.same c.record_without.ensures.same_changes c.args.members.now c.loop-member.member-index c.member-item.result c.loop-member-test.true c.member-item.is c.loop-member.invariant.asks c.record_without.ensures.asks
+    asks_next c.args.txn.now c.record_without.ensures.does.keeps c.loop-member.invariant.same c.record_without.ensures.same_changes c.args.members.now c.loop-member.member-index c.member-item.result c.loop-member-test.true c.member-item.is c.loop-member.invariant.asks c.record_without.ensures.asks
 
 pub returns-in_err-one-clause-kind : goal.returns-in_err-one-clause-kind
 returns-in_err-one-clause-kind g c =
@@ -47,7 +47,7 @@ returns-in_err-put_last-clause-does g c = starves (keeps_then c.loop-member.inva
 
 pub returns-in_err-put_last-clause-asks : goal.returns-in_err-put_last-clause-asks
 returns-in_err-put_last-clause-asks g c =
-    asks_next c.record_without.ensures.does.keeps c.loop-member.invariant.same c.record_without.ensures.same_changes c.args.members.now c.loop-member.member-index c.member-item.result c.loop-member-test.true c.member-item.is c.loop-member.invariant.asks c.record_without.ensures.asks
+    asks_next c.args.txn.now c.record_without.ensures.does.keeps c.loop-member.invariant.same c.record_without.ensures.same_changes c.args.members.now c.loop-member.member-index c.member-item.result c.loop-member-test.true c.member-item.is c.loop-member.invariant.asks c.record_without.ensures.asks
 
 pub loop-member-preserved : goal.loop-member-preserved
 loop-member-preserved g c =
@@ -59,10 +59,10 @@ loop-member-preserved g c =
       leads = subst (λ l. Resumes g.V.View.sights c.args.txn.now c.record_without.new.txn (records_without c.args.name.now c.args.members.now) (with_rest c.args.name.now l (drop (c.loop-member.member-index + 1) c.args.members.now))) put
           (leads_then (λ one. with_rest c.args.name.now (c.loop-member.found.items ++ option_to_list one) (drop (c.loop-member.member-index + 1) c.args.members.now))
           (at_member c.args.name.now c.args.members.now c.loop-member.member-index c.loop-member.found.items c.member-item.result more at c.loop-member.invariant.leads) c.in_ok-one.ensures.does);
-      asks = asks_next k c.loop-member.invariant.same c.record_without.ensures.same_changes c.args.members.now c.loop-member.member-index c.member-item.result more at c.loop-member.invariant.asks c.record_without.ensures.asks;
+      asks = asks_next c.args.txn.now k c.loop-member.invariant.same c.record_without.ensures.same_changes c.args.members.now c.loop-member.member-index c.member-item.result more at c.loop-member.invariant.asks c.record_without.ensures.asks;
       same = c.record_without.ensures.same_changes ∙ ap (λ (t : ReadsAndWrites). record t { reads = c.record_without.new.txn.set.reads }) c.loop-member.invariant.same;
       found = subst (λ l. AllByRecursion (IsFoundAmong c.args.txn.now.set c.record_without.new.txn.set c.args.members.now) l) put
-          (found_next k c.loop-member.invariant.same c.record_without.ensures.same_changes c.args.members.now c.loop-member.member-index c.member-item.result more at c.loop-member.found.items c.in_ok-one.one c.loop-member.invariant.found c.in_ok-one.ensures.found);
+          (found_next c.args.txn.now k c.loop-member.invariant.same c.record_without.ensures.same_changes c.args.members.now c.loop-member.member-index c.member-item.result more at c.loop-member.found.items c.in_ok-one.one c.loop-member.invariant.found c.in_ok-one.ensures.found);
       kinds = later_kinds c.args.name.now c.args.txn.now.set c.args.members.now c.loop-member.member-index c.member-item.result more at c.in_ok-one.one c.loop-member.invariant.kinds c.in_ok-one.ensures.does;
       lengths = later_lengths c.args.name.now c.args.txn.now.set c.args.members.now c.loop-member.member-index c.member-item.result more at c.in_ok-one.one c.loop-member.invariant.lengths c.in_ok-one.ensures.does;
     }
