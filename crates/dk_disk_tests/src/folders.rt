@@ -10,7 +10,7 @@ use std::alloc::Global;
 use std::fs::{self, File};
 use std::rt::Files;
 
-/// `folder memory`, `folder calls DIR`, `folder keeps DIR`, `folder grows DIR`, `folder file PATH`, `folder remove DIR`.
+/// `folder memory`, `folder calls DIR`, `folder keeps DIR`, `folder grows DIR`, `folder syncs DIR`, `folder file PATH`, `folder remove DIR`.
 pub fn answer<R: Files<File = File> + AllocGlobal + Clone + Drop>(
     alloc: Global,
     rt: &R,
@@ -21,6 +21,7 @@ pub fn answer<R: Files<File = File> + AllocGlobal + Clone + Drop>(
         "calls" => in_folder(alloc, rt.clone().ok()?, call.word()?),
         "keeps" => kept(alloc, rt.clone().ok()?, call.rest()),
         "grows" => grown(alloc, rt, call.word()?),
+        "syncs" => synced(alloc, rt.clone().ok()?, call.word()?),
         "file" => file(alloc, rt, call.word()?),
         "remove" => {
             let _ = fs::remove_dir_all(rt, call.word()?);
@@ -156,4 +157,17 @@ fn grown<R: Files<File = File> + AllocGlobal + Clone + Drop>(
     let first = home.read(Side::Zero, 0, &mut into).is_ok();
     let second = home.read(Side::Zero, 0, &mut into).is_ok();
     format!(in alloc; "{first} then {second}, {} faults", home.faults()).ok()
+}
+
+/// Writes and syncs a file, the other one and the first again: whether each sync was answered Ok, and the faults.
+fn synced<R: Files<File = File> + Drop>(alloc: Global, system: R, dir: &str) -> Option<String> {
+    let mut home = FolderHome::new(alloc, system);
+    if home.open(dir).is_err() {
+        return text(alloc, "not opened");
+    }
+    append(&mut home, Side::Zero, b"abc").ok()?;
+    let first = home.sync(Side::Zero).is_ok();
+    let other = home.sync(Side::One).is_ok();
+    let again = home.sync(Side::Zero).is_ok();
+    format!(in alloc; "{first}, {other} and {again}, {} faults", home.faults()).ok()
 }
