@@ -246,7 +246,8 @@ fn record_without<V: View>(
 {
     match record_if_connected(alloc, txn, session)? {
         None => Ok(None),
-        Some((place, sessions)) => {
+        Some(own) => {
+            let (place, sessions) = own;
             let payload = encoded_without(alloc, name, sessions)?;
             if is_too_long(&payload) {
                 return Err(too_long(&payload));

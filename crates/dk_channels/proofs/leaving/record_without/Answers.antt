@@ -16,17 +16,17 @@ returns-in-None-clause-does g c = then_does (platform.without_it c.args.name.now
 
 pub returns-then-is_too_long-clause-does : goal.returns-then-is_too_long-clause-does
 returns-then-is_too_long-clause-does g c =
-    let long : act.is_too_long (platform.bytes_without c.args.name.now c.in-Some.sessions) ≡ true = ap act.is_too_long (sym c.in_ok-payload-in-Some.ensures) ∙ sym c.is_too_long.ensures ∙ c.if-is_too_long.true in
+    let long : act.is_too_long (platform.bytes_without c.args.name.now c.in-Some.own.1) ≡ true = ap act.is_too_long (sym c.in_ok-payload-in-Some.ensures) ∙ sym c.is_too_long.ensures ∙ c.if-is_too_long.true in
     then_does (platform.without_it c.args.name.now) (rw c.in-Some.is at c.in_ok-record_if_connected.ensures.does) (if_true_does _ long (refuses_long c.too_long.ensures.told))
 
 pub returns-else-is_too_long-clause-does : goal.returns-else-is_too_long-clause-does
 returns-else-is_too_long-clause-does g c =
-    let short : act.is_too_long (platform.bytes_without c.args.name.now c.in-Some.sessions) ≡ false = ap act.is_too_long (sym c.in_ok-payload-in-Some.ensures) ∙ sym c.is_too_long.ensures ∙ c.if-is_too_long.false in
+    let short : act.is_too_long (platform.bytes_without c.args.name.now c.in-Some.own.1) ≡ false = ap act.is_too_long (sym c.in_ok-payload-in-Some.ensures) ∙ sym c.is_too_long.ensures ∙ c.if-is_too_long.false in
     then_does (platform.without_it c.args.name.now) (rw c.in-Some.is at c.in_ok-record_if_connected.ensures.does) (if_false_does _ short (rw (c.id.ensures, c.in_ok-payload-in-Some.ensures) give_does))
 
 pub returns-else-is_too_long-clause-found : goal.returns-else-is_too_long-clause-found
 returns-else-is_too_long-clause-found g c =
-    rw c.id.ensures (member_found c.args.name.now c.args.session.now (c.in-Some.place, c.in-Some.sessions) c.in_ok-payload-in-Some.payload (rw c.in-Some.is at c.in_ok-record_if_connected.ensures.does) (sym c.is_too_long.ensures ∙ c.if-is_too_long.false))
+    rw c.id.ensures (member_found c.args.name.now c.args.session.now c.in-Some.own c.in_ok-payload-in-Some.payload (rw c.in-Some.is at c.in_ok-record_if_connected.ensures.does) (sym c.is_too_long.ensures ∙ c.if-is_too_long.false))
 
 pub returns-in_err-record_if_connected-clause-kind : goal.returns-in_err-record_if_connected-clause-kind
 returns-in_err-record_if_connected-clause-kind g c =
@@ -41,5 +41,5 @@ returns-then-is_too_long-clause-kind g c = kind_never _ 4 (λ e. cc) c.args.txn.
 
 pub returns-then-is_too_long-clause-length : goal.returns-then-is_too_long-clause-length
 returns-then-is_too_long-clause-length g c =
-    let long : act.is_too_long (platform.bytes_without c.args.name.now c.in-Some.sessions) ≡ true = ap act.is_too_long (sym c.in_ok-payload-in-Some.ensures) ∙ sym c.is_too_long.ensures ∙ c.if-is_too_long.true in
-    member_length _ c.args.name.now c.args.session.now (c.in-Some.place, c.in-Some.sessions) (rw c.in-Some.is at c.in_ok-record_if_connected.ensures.does) long (rw c.in_ok-payload-in-Some.ensures at c.too_long.ensures.length)
+    let long : act.is_too_long (platform.bytes_without c.args.name.now c.in-Some.own.1) ≡ true = ap act.is_too_long (sym c.in_ok-payload-in-Some.ensures) ∙ sym c.is_too_long.ensures ∙ c.if-is_too_long.true in
+    member_length _ c.args.name.now c.args.session.now c.in-Some.own (rw c.in-Some.is at c.in_ok-record_if_connected.ensures.does) long (rw c.in_ok-payload-in-Some.ensures at c.too_long.ensures.length)
