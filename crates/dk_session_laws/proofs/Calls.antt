@@ -18,9 +18,9 @@ use Rattle.dk_model.specs.declared.records.ChannelRecord.{ChannelRecord}
 use Rattle.dk_model.specs.declared.records.Delivery.{Delivery}
 use Rattle.dk_model.specs.Records.{SESSION_KIND, CHANNEL_KIND, session_bytes, session_of, channel_bytes, channel_of, session_name, channel_name, is_name_too_long}
 use Rattle.dk_model.specs.Runs as act
-use Rattle.dk_model.specs.Runs.{Run, Act, and_then, refuse, give, create, bind, save, send, with_object, is_too_long, NAME_NOT_BOUND, NAME_EXISTS, TOO_LONG, TOO_MANY}
+use Rattle.dk_model.specs.Runs.{Run, and_then, refuse, give, save, with_object, is_too_long, NAME_NOT_BOUND, NAME_EXISTS, TOO_LONG, TOO_MANY}
 use Rattle.dk_model.specs.Platforms as does
-use Rattle.dk_model.specs.Platforms.{platform_bound, numbered, recorded_as, drop_recorded, drop_each, leave_members, is_member, is_sender, without_member, without_channel, same_name}
+use Rattle.dk_model.specs.Platforms.{platform_bound, numbered, is_member, is_sender, without_member, without_channel, same_name}
 use Rattle.dk_model.proofs.Maps.{some_is}
 use Rattle.dk_session_laws.specs.Sessions.{IsRecord, IsStanding, IsKept, EndsBy, KeepsAt, Keeps}
 use Rattle.dk_session_laws.proofs.Ends.{Reads, IsReadAs, ends_if, ends_if_at, ends_refuse, ends_give, reads_then, reads_more, reads_give, reads_under, reads_own}

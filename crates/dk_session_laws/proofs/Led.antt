@@ -8,9 +8,8 @@ use Rattle.dk_types.specs.declared.mode.Mode.TheVariants.{Platform}
 use Rattle.dk_model.specs.declared.records.SessionRecord.{SessionRecord}
 use Rattle.dk_model.specs.Records.{session_name}
 use Rattle.dk_model.specs.Runs as act
-use Rattle.dk_model.specs.Runs.{Run, Act, and_then, with_object, with_name, is_too_long, RESERVED, TOO_LONG, TOO_MANY, NAME_EXISTS}
+use Rattle.dk_model.specs.Runs.{Run, with_object, with_name, RESERVED}
 use Rattle.dk_model.specs.Platforms as does
-use Rattle.dk_model.specs.Platforms.{platform_bound}
 use Rattle.dk_model.proofs.Maps.{ids_total, exact_ids, names_total, exact_names, get-with_value_here, get-with_value_other, get-with_value_cases, some_is, not_both}
 use Rattle.dk_session_laws.specs.Sessions.{IsRecord, SessionsStand, IsStanding, IsKept, EndsBy, Ends}
 use Rattle.dk_session_laws.specs.Numbers.{IsLed}

@@ -1,17 +1,12 @@
 -- The rules of the channels keep the sessions: what they change of a session's record is the names of its channels.
-use Rattle.std.proofs.Common.{◌≡◌, ℕ, ◌&&◌, not, Bool, true, false, Option, Some, None, List, refl, length, nat_lt, nat_eq, ltb-true, ltb-false, eqb-true, Ok, Err}
-use Rattle.std.specs.Str.Lossy.{utf8_valid_len}
-use Rattle.dk_types.specs.declared.number.ConnNo.{ConnNo}
+use Rattle.std.proofs.Common.{ℕ, true, false, Option, Some, None, List, refl, Ok, Err}
 use Rattle.dk_types.specs.declared.job.Job.TheVariants as job
 use Rattle.dk_types.specs.declared.job.Session.{Session}
 use Rattle.dk_types.specs.declared.job.Out.TheVariants as out
 use Rattle.dk_types.specs.declared.fault.AppFault.TheVariants as fault
-use Rattle.dk_types.specs.declared.mode.Mode.{Mode}
 use Rattle.dk_types.specs.declared.mode.Mode.TheVariants.{Game}
 use Rattle.dk_types.specs.Names.{IsName}
 use Rattle.dk_model.specs.declared.records.Delivery.TheVariants.{Reliable}
-use Rattle.dk_model.specs.Records.{is_name_too_long}
-use Rattle.dk_model.specs.Runs.{Act, and_then, give}
 use Rattle.dk_model.specs.Steps.{of_session}
 use Rattle.dk_model.proofs.Bytes.{name_of_ascii}
 use Rattle.dk_session_laws.specs.Sessions.{Keeps, KeepSessions}

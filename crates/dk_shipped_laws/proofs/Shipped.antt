@@ -1,5 +1,5 @@
 -- The shipped games are lawful and keep the sessions, so in the stores that they write every session counts.
-use Rattle.std.proofs.Common.{◌≡◌, ℕ, List, [], ◌∷◌, sym, subst, inl, inr}
+use Rattle.std.proofs.Common.{List, [], ◌∷◌, sym, subst, inl, inr}
 use Rattle.std.specs.List.{AllByRecursion}
 use Rattle.dk_model.specs.Events.{Meaning}
 use Rattle.dk_model.specs.Lawful.{AreLawful}
