@@ -6,7 +6,7 @@ use Rattle.dk_types.specs.declared.item.Item.TheVariants as ask
 use Rattle.dk_types.specs.declared.job.Session.{Session}
 use Rattle.dk_model.specs.declared.records.ChannelRecord.{ChannelRecord}
 use Rattle.dk_model.specs.declared.records.SessionRecord.{SessionRecord}
-use Rattle.dk_model.specs.DurableWorlds.{DurableWorld, Agrees}
+use Rattle.dk_model.specs.DurableWorlds.{DurableWorld}
 use Rattle.dk_model.specs.Records.{CHANNEL_KIND, channel_of, channel_name, session_name}
 use Rattle.dk_model.specs.Runs.{Run}
 use Rattle.dk_model.specs.Platforms.{channel_under, own_record}
@@ -25,7 +25,7 @@ use Rattle.dk_refs.proofs.RecordAsks.{asks_record, of_record_in}
 use Rattle.dk_refs.proofs.Standing.{stands, record_leads, own_record_leads}
 use Rattle.dk_refs.proofs.Tellings.{current_same}
 use Rattle.dk_channels.specs.Channels.{recorded}
-use Rattle.dk_channels.specs.BothAsks.{HasRecord, HadRecord, IsOfBoth}
+use Rattle.dk_channels.specs.BothAsks.{HadRecord, IsOfBoth}
 
 -- the name, and then the record
 pub asks_channel : {S : Type 0} {sights : Sights S} {a b c : Txn S ReadsAndWrites} {id : ObjectId} (name : List ℕ)
