@@ -58,6 +58,7 @@ PlaysAreSeen =
     (o : Opened) (done : List (List Line)) (marks : List ℕ) (s : Said) (workers : List (Known Event)) (main : Known Event) (log : List Event)
     → IsBetween o done marks s workers main → IsSeenBy workers main log → HavePlayed o (length workers) done log marks s
 
+-- where the budget is spent, as many runs were claimed and committed as it has, and something can still be run
 abbrev pub SpentIsSeen : Type 0
 SpentIsSeen =
     (o : Opened) (granted : ℕ) (workers : List (Known Event)) (main : Known Event) (log : List Event) → IsSpentAt o granted workers main → IsSeenBy workers main log → IsBudgetSpent o log granted
