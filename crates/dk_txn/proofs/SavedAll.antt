@@ -145,7 +145,7 @@ module _ {S : Type 0} {sights : Sights S} {a b c : Txn S ReadsAndWrites} {front 
     so_far = one_more front changes (id, bytes) (id, change) (still_rewritten l again a.set front changes on.so_far) (rewritten_so {a = a} id bytes known change looks_keeps can made);
   }
 
--- changes that know what was there before make of a sound log a sound one
+-- changes that know what was there before make of a sound read and write set a sound one
 sound_all : (t : ReadsAndWrites) (start now : ReadsAndWrites) (payloads : List (ObjectId × List ℕ)) (changes : List (ObjectId × Change Object)) → t.reads ≡ now.reads → t.run ≡ now.run → IsSound start → IsSound t
     → AreRewritten start now payloads changes → IsSound (changing_objects t changes)
 sound_all t start now [] [] reads run began s all = s

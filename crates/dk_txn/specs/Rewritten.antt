@@ -22,7 +22,7 @@ abbrev pub IsObjectOf : {A : Type 0} → List (ObjectId × A) → Item → Type 
 IsObjectOf [] q = ⊥
 IsObjectOf (one ∷ rest) q = (q ≡ ask.Object one.0) ⊎ IsObjectOf rest q
 
--- the change c leaves the object of p, which stands, with the bytes of p, and knows what was there before the run, whose log was `start` before it looked
+-- the change c leaves the object of p, which stands, with the bytes of p, and knows what was there before the run, whose reads and writes were `start` before it looked
 pub record IsRewritten (start now : ReadsAndWrites) (p : ObjectId × List ℕ) (c : ObjectId × Change Object) : Type 0 where
   pub same_id : c.0 ≡ p.0
   pub object : Object
