@@ -26,7 +26,7 @@ pub struct Filler {
 fn empty(alloc: Global) -> Blob
     ensures { result ≡ [] }
 {
-    Blob::from_vec(Vec::new(alloc))
+    Blob::new(alloc)
 }
 
 /// The task that raises the counter 7 each millisecond.

@@ -85,7 +85,7 @@ fn pending(alloc: Global, key: TaskKey) -> Pending {
         due: key.run.0,
         period: 1,
         kind: 0,
-        arg: Blob::from_vec(Vec::new(alloc)),
+        arg: Blob::new(alloc),
     }
 }
 

@@ -22,7 +22,7 @@ impl View for AnyObject {
         let answer = match item {
             Item::Object(_) => Answer::Object(Object {
                 kind: 1,
-                bytes: Blob::from_vec(Vec::new(self.alloc)),
+                bytes: Blob::new(self.alloc),
             }),
             Item::Bound(_) => Answer::NoName,
             Item::NextAfter(_) => Answer::Next(None),
@@ -61,7 +61,7 @@ fn in_a_run(alloc: Global, objects: u32) -> Option<u64> {
 
 /// Makes an object, and reads one that stood before the run.
 fn make_and_read<V: View>(alloc: Global, txn: &mut Txn<'_, V>, k: u32) -> Option<()> {
-    txn.create(1, Blob::from_vec(Vec::new(alloc))).ok()?;
+    txn.create(1, Blob::new(alloc)).ok()?;
     let run = RunNo(1);
     txn.get(ObjectId { run, k }).ok()?;
     Some(())

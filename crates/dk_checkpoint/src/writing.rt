@@ -42,12 +42,12 @@ fn file_of(alloc: Global, header: &Header, image: &Blob) -> Result<Blob, NoMemor
     ensures { IfOk result (λ bytes. (bytes ≡ behind_gate (store_header header.now) image.now) × (length bytes ≡ 69 + length image.now) × IsGameId header.now.game) }
 {
     let image = image.as_slice();
-    let mut bytes = header_fields_of(alloc, header)?.into_vec();
+    let mut bytes = header_fields_of(alloc, header)?;
     bytes.push(1)?;
     bytes.extend_from_slice(&(image.len() as u32).to_be_bytes())?;
     bytes.extend_from_slice(image)?;
     bytes.push(0)?;
-    Ok(Blob::from_vec(bytes))
+    Ok(bytes)
 }
 
 // The new file behind its gate. All memory that a checkpoint needs is taken here.

@@ -63,7 +63,7 @@ fn gives_up<V: View>(
     let at = claimed.at();
     assert!(rt; at <= MOMENT_MOST_MS);
     let mut txn = Txn::begin(alloc, view, claimed.run(), at);
-    let arg = Blob::from_vec(Vec::new(alloc));
+    let arg = Blob::new(alloc);
     txn.schedule(1, arg, 0).ok().ok_or("a task")?;
     Ok(txn.end(claimed.job(), Err(AppFault::Game(1)))?)
 }

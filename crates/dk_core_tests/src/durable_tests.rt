@@ -52,7 +52,7 @@ fn hall(alloc: Global) -> Result<Name, Fail> {
 }
 
 fn empty(alloc: Global) -> Blob {
-    Blob::from_vec(Vec::new(alloc))
+    Blob::new(alloc)
 }
 
 fn act<V: View>(alloc: Global, txn: &mut Txn<'_, V>, deed: Deed, name: &Name) -> Option<()> {

@@ -20,7 +20,7 @@ pub(crate) struct Twins;
 fn empty(alloc: Global) -> Blob
     ensures { result ≡ [] }
 {
-    Blob::from_vec(Vec::new(alloc))
+    Blob::new(alloc)
 }
 
 /// An object under a name.

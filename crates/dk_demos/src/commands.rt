@@ -74,7 +74,7 @@ fn names_body(alloc: Global, members: &[Session]) -> Result<Blob, NoMemory>
     ensures { IfOk result (λ body. body ≡ rules.names_text members.now) }
 {
     match members.split_first() {
-        None => Ok(Blob::from_vec(Vec::new(alloc))),
+        None => Ok(Blob::new(alloc)),
         Some((first, others)) => {
             let mut text = Vec::from_slice(alloc, first.name.as_slice())?;
             push_names(&mut text, others)?;

@@ -34,7 +34,7 @@ fn count_name(alloc: Global) -> Result<Name, NoMemory>
 fn no_arg(alloc: Global) -> Blob
     ensures { result ≡ [] }
 {
-    Blob::from_vec(Vec::new(alloc))
+    Blob::new(alloc)
 }
 
 fn begin<V: View>(alloc: Global, txn: &mut Txn<'_, V>) -> Result<(), Halt>

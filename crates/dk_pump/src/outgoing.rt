@@ -44,7 +44,7 @@ impl Outgoing {
         ensures { result ≡ [] }
     {
         Outgoing {
-            frame: Blob::from_vec(Vec::new(alloc)),
+            frame: Blob::new(alloc),
             put: 0,
             outs: Listed::from_vec(Vec::new(alloc)),
             next: 0,
@@ -57,7 +57,7 @@ impl Outgoing {
         ensures { result ≡ frames_of outs }
     {
         Outgoing {
-            frame: Blob::from_vec(Vec::new(alloc)),
+            frame: Blob::new(alloc),
             put: 0,
             outs,
             next: 0,

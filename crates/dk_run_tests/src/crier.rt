@@ -38,8 +38,8 @@ impl Game for Crier {
     }
 
     fn run<V: View>(&self, alloc: Global, _job: &Job, txn: &mut Txn<'_, V>) -> Result<(), Halt> {
-        txn.create(7, Blob::from_vec(Vec::new(alloc)))?;
-        let cry = Out::Message(Blob::from_vec(Vec::new(alloc)));
+        txn.create(7, Blob::new(alloc))?;
+        let cry = Out::Message(Blob::new(alloc));
         txn.send(self.bystander, cry)?;
         if self.gives_up {
             Err(Halt::Fault(AppFault::Game(5)))

@@ -31,7 +31,7 @@ fn task(alloc: Global, call: &mut Words<'_>) -> Option<Job> {
         due: call.number()?,
         period: call.number()?,
         kind: 1,
-        arg: Blob::from_vec(Vec::new(alloc)),
+        arg: Blob::new(alloc),
     })
 }
 

@@ -10,7 +10,7 @@ use dk_image::encode_image;
 use dk_journal::Journal;
 use dk_recover::recover;
 use dk_rows::Words;
-use dk_types::{GameId, Side};
+use dk_types::{Blob, GameId, Side};
 use std::alloc::Global;
 
 /// `plays GAME START PAYLOADS STEPS ZERO ONE`: whether the files are these after the steps.
@@ -46,11 +46,11 @@ pub fn images(alloc: Global, pieces: &Pieces, call: &mut Words<'_>) -> Option<St
 }
 
 /// How many commits these files hold, and the image of their world, if they hold one; no store yet has the empty world.
-fn world_in(alloc: Global, game: &GameId, zero: &[u8], one: &[u8]) -> Option<(u64, Vec<u8>)> {
+fn world_in(alloc: Global, game: &GameId, zero: &[u8], one: &[u8]) -> Option<(u64, Blob)> {
     let mut home = OpenHome::of(alloc, zero, one, 0)?;
     let found = recover(alloc, &mut home, game).ok()?;
     let image = encode_image(alloc, &found.durable).ok()?;
-    Some((found.durable.commits, image.into_vec()))
+    Some((found.durable.commits, image))
 }
 
 /// The least number of commits that an image at this moment has, if each has the world of the known commits or of one more.
@@ -59,7 +59,7 @@ fn held(alloc: Global, pieces: &Pieces, played: &Played, known: u64, moment: u64
     for (zero, one) in &played.home.images_at(alloc, moment)? {
         let (commits, world) = world_in(alloc, &played.game, zero, one)?;
         let is_either = commits == known || commits == known.saturating_add(1);
-        if !is_either || world != pieces.numbered(alloc, "image", commits)? {
+        if !is_either || world.as_slice() != pieces.numbered(alloc, "image", commits)?.as_slice() {
             return None;
         }
         least = least.min(commits);

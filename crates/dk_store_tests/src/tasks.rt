@@ -26,7 +26,7 @@ fn pending(alloc: Global, key: TaskKey, due: u64, kind: u16) -> Pending {
         due,
         period: 0,
         kind,
-        arg: Blob::from_vec(Vec::new(alloc)),
+        arg: Blob::new(alloc),
     }
 }
 

@@ -1,16 +1,18 @@
 //! Bytes: what an object holds, a task's argument, a message's body.
-ghost use Rattle.std.specs.Prelude.{◌≡◌, nat_eq, IfOk};
+ghost use Rattle.std.specs.Prelude.{◌≡◌, [], ◌∷◌, ◌++◌, nat_eq, IfOk, OnOk, OnErr};
 ghost use Rattle.std.specs.Cmp.Lexicographic.{pointwise, nat_list_eq_equiv};
 ghost use Rattle.std.specs.Cmp;
 
 use crate::fault::NoMemory;
+use smallvec::SmallVec;
 use std::alloc::{AllocError, Global};
 use std::marker::Model;
 
-/// Bytes, seen by contracts as a list.
+/// Bytes, seen by contracts as a list. Up to 64 of them stand in the value itself, as most objects and messages of a game
+/// have no more, and take no memory of their own.
 #[derive(Debug, Drop)]
 pub struct Blob {
-    bytes: Vec<u8>,
+    bytes: SmallVec<u8, 64>,
 }
 
 impl Model for Blob {
@@ -22,19 +24,22 @@ impl Model for Blob {
 }
 
 impl Blob {
-    /// The bytes of a `Vec`, taken over as they are.
+    /// No bytes.
+    pub fn new(alloc: Global) -> Blob
+        ensures { result ≡ [] }
+    {
+        Blob {
+            bytes: SmallVec::new(alloc),
+        }
+    }
+
+    /// The bytes of a `Vec`, whose memory is taken over where they have some of their own.
     pub fn from_vec(bytes: Vec<u8>) -> Blob
         ensures { result ≡ bytes.items }
     {
-        Blob { bytes }
-    }
-
-    /// The `Vec` of the bytes, handed over as it is.
-    pub fn into_vec(self) -> Vec<u8>
-        ensures { result.items ≡ self }
-    {
-        let Blob { bytes } = self;
-        bytes
+        Blob {
+            bytes: SmallVec::from_vec(bytes),
+        }
     }
 
     /// A copy of the bytes.
@@ -42,15 +47,45 @@ impl Blob {
         ensures { IfOk result (λ blob. blob ≡ bytes.now) }
     {
         Ok(Blob {
-            bytes: Vec::from_slice(alloc, bytes)?,
+            bytes: SmallVec::from_slice(alloc, bytes)?,
         })
     }
 
     /// The bytes.
+    #[inline]
     pub fn as_slice(&self) -> &[u8]
         ensures { result.now ≡ self.now }
     {
         self.bytes.as_slice()
+    }
+
+    /// Appends a byte.
+    pub fn push(&mut self, byte: u8) -> Result<(), NoMemory>
+        ensures ok { OnOk result (self.new ≡ self.old ++ byte ∷ []) }
+        ensures err { OnErr result (self.new ≡ self.old) }
+    {
+        self.bytes.push(byte)?;
+        Ok(())
+    }
+
+    /// Appends bytes.
+    pub fn extend_from_slice(&mut self, more: &[u8]) -> Result<(), NoMemory>
+        ensures ok { OnOk result (self.new ≡ self.old ++ more.now) }
+        ensures err { OnErr result (self.new ≡ self.old) }
+    {
+        self.bytes.extend_from_slice(more)?;
+        Ok(())
+    }
+
+    /// Appends bytes and others behind them, or nothing.
+    pub fn extend_from_both(&mut self, front: &[u8], back: &[u8]) -> Result<(), NoMemory>
+        ensures ok { OnOk result (self.new ≡ self.old ++ front.now ++ back.now) }
+        ensures err { OnErr result (self.new ≡ self.old) }
+    {
+        self.bytes.reserve(front.len() + back.len())?;
+        self.bytes.extend_from_slice(front)?;
+        self.bytes.extend_from_slice(back)?;
+        Ok(())
     }
 }
 
@@ -58,7 +93,7 @@ impl Clone for Blob {
     ghost is_clone = { λ old new. new ≡ old };
 
     fn clone(&self) -> Result<Blob, AllocError> {
-        let bytes = self.bytes.clone()?;
+        let bytes = SmallVec::from_slice(*self.bytes.allocator(), self.as_slice())?;
         Ok(Blob { bytes })
     }
 }
@@ -69,7 +104,7 @@ impl PartialEq for Blob {
     ghost laws = { Cmp.partial_equiv_from_equiv nat_list_eq_equiv };
 
     fn eq(&self, other: &Blob) -> bool {
-        self.bytes.as_slice() == other.bytes.as_slice()
+        self.as_slice() == other.as_slice()
     }
 }
 

@@ -8,15 +8,16 @@ ghost use Rattle.std.specs.Cmp;
 
 use crate::fault::NoMemory;
 use crate::limits::NAME_MOST_BYTES;
+use smallvec::SmallVec;
 use std::alloc::{AllocError, Global};
 use std::cmp::Ordering;
 use std::marker::Model;
 use thiserror::Error;
 
-/// A name: 1 to 255 bytes of UTF-8, ordered by its bytes.
+/// A name: 1 to 255 bytes of UTF-8, ordered by its bytes. Up to 32 of them stand in the value itself.
 #[derive(Debug, Drop)]
 pub struct Name {
-    bytes: Vec<u8>,
+    bytes: SmallVec<u8, 32>,
 }
 
 impl Model for Name {
@@ -84,7 +85,7 @@ impl Name {
         requires most { length text.now ≤ NAME_MOST_BYTES }
         ensures { IfOk result (λ name. (name ≡ text.now) × IsName text.now) }
     {
-        let bytes = Vec::from_slice(alloc, text.as_bytes())?;
+        let bytes = SmallVec::from_slice(alloc, text.as_bytes())?;
         Ok(Name { bytes })
     }
 
@@ -124,7 +125,7 @@ impl Clone for Name {
     ghost is_clone = { λ old new. new ≡ old };
 
     fn clone(&self) -> Result<Name, AllocError> {
-        let bytes = self.bytes.clone()?;
+        let bytes = SmallVec::from_slice(*self.bytes.allocator(), self.bytes.as_slice())?;
         Ok(Name { bytes })
     }
 }

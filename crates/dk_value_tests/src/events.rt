@@ -89,7 +89,7 @@ fn job(alloc: Global, call: &mut Words<'_>) -> Option<Job> {
                 due: 300,
                 period: 100,
                 kind: 1,
-                arg: Blob::from_vec(Vec::new(alloc)),
+                arg: Blob::new(alloc),
             })
         }
         _ => None,

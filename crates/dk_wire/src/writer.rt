@@ -10,7 +10,7 @@ use std::marker::Model;
 /// Puts fields at the end of bytes. Where there is no memory, the bytes stay as they were.
 #[derive(Debug, Drop)]
 pub struct Writer {
-    out: Vec<u8>,
+    out: Blob,
 }
 
 impl Model for Writer {
@@ -18,7 +18,7 @@ impl Model for Writer {
 
     ghost Value = { List ℕ };
 
-    ghost view = { λ w. w.out.items };
+    ghost view = { λ w. w.out };
 }
 
 impl Writer {
@@ -27,7 +27,7 @@ impl Writer {
         ensures { result ≡ [] }
     {
         Writer {
-            out: Vec::new(alloc),
+            out: Blob::new(alloc),
         }
     }
 
@@ -36,7 +36,7 @@ impl Writer {
         ensures { result ≡ self }
     {
         let Writer { out } = self;
-        Blob::from_vec(out)
+        out
     }
 
     /// Appends a byte.
@@ -104,7 +104,7 @@ impl Writer {
         ensures err { OnErr result (self.new ≡ self.old) }
     {
         let name = value.as_slice();
-        append_both(&mut self.out, &[name.len() as u8], name)
+        self.out.extend_from_both(&[name.len() as u8], name)
     }
 
     /// Puts the blob, whose length is its low 32 bits where it has more bytes.
@@ -116,7 +116,7 @@ impl Writer {
         let blob = value.as_slice();
         let mut len = [0; 8];
         BigEndian::write_u64(&mut len, blob.len() as u64);
-        append_both(&mut self.out, &len[4..], blob)
+        self.out.extend_from_both(&len[4..], blob)
     }
 
     /// Appends an object's id.
@@ -143,16 +143,4 @@ impl Writer {
             k: value.k,
         })
     }
-}
-
-// Appends both or, where there is no memory, nothing.
-fn append_both(out: &mut Vec<u8>, front: &[u8], back: &[u8]) -> Result<(), NoMemory>
-    requires { length front.now ≤ 255 }
-    ensures ok { OnOk result (out.new.items ≡ out.old.items ++ front.now ++ back.now) }
-    ensures err { OnErr result (out.new.items ≡ out.old.items) }
-{
-    out.reserve(front.len() + back.len())?;
-    out.extend_from_slice(front)?;
-    out.extend_from_slice(back)?;
-    Ok(())
 }
