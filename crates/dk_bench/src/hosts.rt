@@ -9,7 +9,7 @@ use dk_demos::Counters;
 use dk_disk::{FolderHome, HoldingHome, Home, MemoryHome};
 use dk_game::Game;
 use dk_host::{Host, Hosting, OpenedStore, WorldBook, open_store};
-use dk_turn::{TurnBuilder, Naming, Pass};
+use dk_turn::{Naming, Pass, TurnBuilder};
 use std::alloc::Global;
 use std::fs::File;
 use std::marker::Brand;

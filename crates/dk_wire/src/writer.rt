@@ -45,8 +45,7 @@ impl Writer {
         ensures ok { OnOk result (self.new ≡ self.old ++ u8_spelling value) }
         ensures err { OnErr result (self.new ≡ self.old) }
     {
-        self.out.push(value)?;
-        Ok(())
+        self.out.push(value)
     }
 
     /// Appends a number of 16 bits.
@@ -57,8 +56,7 @@ impl Writer {
     {
         let mut bytes = [0; 2];
         BigEndian::write_u16(&mut bytes, value);
-        self.out.extend_from_slice(&bytes)?;
-        Ok(())
+        self.out.extend_from_slice(&bytes)
     }
 
     /// Appends a number of 32 bits.
@@ -69,8 +67,7 @@ impl Writer {
     {
         let mut bytes = [0; 4];
         BigEndian::write_u32(&mut bytes, value);
-        self.out.extend_from_slice(&bytes)?;
-        Ok(())
+        self.out.extend_from_slice(&bytes)
     }
 
     /// Puts the number of a list's items: its low 32 bits, which are all of it below 2^32.
@@ -81,8 +78,7 @@ impl Writer {
     {
         let mut bytes = [0; 8];
         BigEndian::write_u64(&mut bytes, count);
-        self.out.extend_from_slice(&bytes[4..])?;
-        Ok(())
+        self.out.extend_from_slice(&bytes[4..])
     }
 
     /// Appends a number of 64 bits.
@@ -93,8 +89,7 @@ impl Writer {
     {
         let mut bytes = [0; 8];
         BigEndian::write_u64(&mut bytes, value);
-        self.out.extend_from_slice(&bytes)?;
-        Ok(())
+        self.out.extend_from_slice(&bytes)
     }
 
     /// Appends a name, behind its length.
@@ -125,11 +120,11 @@ impl Writer {
         ensures ok { OnOk result (self.new ≡ self.old ++ id_spelling value) }
         ensures err { OnErr result (self.new ≡ self.old) }
     {
-        let mut bytes = [0; 12];
-        BigEndian::write_u64(&mut bytes, value.run.0);
-        BigEndian::write_u32(&mut bytes[8..], value.k);
-        self.out.extend_from_slice(&bytes)?;
-        Ok(())
+        let mut run = [0; 8];
+        BigEndian::write_u64(&mut run, value.run.0);
+        let mut k = [0; 4];
+        BigEndian::write_u32(&mut k, value.k);
+        self.out.extend_from_both(&run, &k)
     }
 
     /// Puts the key of a task, which has the form of an id.
