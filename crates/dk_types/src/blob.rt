@@ -10,9 +10,15 @@ use std::marker::Model;
 
 /// Bytes, seen by contracts as a list. Up to 64 of them stand in the value itself, as most objects and messages of a game
 /// have no more, and take no memory of their own.
-#[derive(Debug, Drop)]
+#[derive(Debug)]
 pub struct Blob {
     bytes: SmallVec<u8, 64>,
+}
+
+impl Drop for Blob {
+    fn drop(self) {
+        let Blob { bytes: _ } = self;
+    }
 }
 
 impl Model for Blob {

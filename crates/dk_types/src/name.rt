@@ -15,9 +15,15 @@ use std::marker::Model;
 use thiserror::Error;
 
 /// A name: 1 to 255 bytes of UTF-8, ordered by its bytes. Up to 32 of them stand in the value itself.
-#[derive(Debug, Drop)]
+#[derive(Debug)]
 pub struct Name {
     bytes: SmallVec<u8, 32>,
+}
+
+impl Drop for Name {
+    fn drop(self) {
+        let Name { bytes: _ } = self;
+    }
 }
 
 impl Model for Name {
