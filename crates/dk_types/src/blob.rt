@@ -74,11 +74,14 @@ impl Blob {
         Ok(())
     }
 
-    /// Appends bytes.
+    /// Appends bytes. The first take no more memory than they need.
     pub fn extend_from_slice(&mut self, more: &[u8]) -> Result<(), NoMemory>
         ensures ok { OnOk result (self.new ≡ self.old ++ more.now) }
         ensures err { OnErr result (self.new ≡ self.old) }
     {
+        if self.bytes.is_empty() {
+            self.bytes.reserve_exact(more.len())?;
+        }
         self.bytes.extend_from_slice(more)?;
         Ok(())
     }
