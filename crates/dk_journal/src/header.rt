@@ -30,7 +30,7 @@ pub fn header_fields_of(alloc: Global, header: &Header) -> Result<Blob, NoMemory
     ensures { IfOk result (λ bytes. (bytes ≡ header_fields (store_header header.now)) × (length bytes ≡ 63) × IsGameId header.now.game) }
 {
     let game = header.game.as_slice();
-    let mut bytes = Blob::new(alloc);
+    let mut bytes = Vec::new(alloc);
     bytes.extend_from_slice(&LETTERS)?;
     let mut format = [0; 2];
     BigEndian::write_u16(&mut format, header.format);
@@ -42,7 +42,7 @@ pub fn header_fields_of(alloc: Global, header: &Header) -> Result<Blob, NoMemory
     bytes.extend_from_slice(game)?;
     let zeros = [0; 44];
     bytes.extend_from_slice(&zeros[game.len()..])?;
-    Ok(bytes)
+    Ok(Blob::from_vec(bytes))
 }
 
 // Whether the letters stand behind the gate.
