@@ -12,10 +12,9 @@ unfolding blob_spelling u32_spelling
 returns c =
     let image = c.as_slice-image.ensures in
     let header = c.in_ok-header_fields_of.ensures in
-    let all : c.from_vec.result ≡ behind_gate (store_header c.args.header.now) c.args.image.now =
-    c.from_vec.ensures
-    ∙ c.in_ok-push-2.ensures.items
-    ∙ ap (λ (l : List ℕ). l ++ 0 ∷ []) (c.in_ok-extend_from_slice-2.ensures.items ∙ ap (λ (l : List ℕ). l ++ c.as_slice-image.result.now) (c.in_ok-extend_from_slice.ensures.items ∙ ap (λ (l : List ℕ). l ++ c.to_be_bytes.result) (c.in_ok-push.ensures.items ∙ ap (λ (l : List ℕ). l ++ 1 ∷ []) (c.into_vec-bytes.ensures ∙ header.0))))
+    let all : c.push-2.new.self ≡ behind_gate (store_header c.args.header.now) c.args.image.now =
+    c.in_ok-push-2.ensures.ok
+    ∙ ap (λ (l : List ℕ). l ++ 0 ∷ []) (c.in_ok-extend_from_slice-2.ensures.ok ∙ ap (λ (l : List ℕ). l ++ c.as_slice-image.result.now) (c.in_ok-extend_from_slice.ensures.ok ∙ ap (λ (l : List ℕ). l ++ c.to_be_bytes.result) (c.in_ok-push.ensures.ok ∙ ap (λ (l : List ℕ). l ++ 1 ∷ []) header.0)))
     ∙ joined (header_fields (store_header c.args.header.now)) c.to_be_bytes.result c.as_slice-image.result.now
     ∙ ap (λ (l : List ℕ). header_fields (store_header c.args.header.now) ++ 1 ∷ ((l ++ c.as_slice-image.result.now) ++ 0 ∷ [])) c.to_be_bytes.ensures
     ∙ ap (λ (l : List ℕ). header_fields (store_header c.args.header.now) ++ 1 ∷ (blob_spelling l ++ 0 ∷ [])) image in
