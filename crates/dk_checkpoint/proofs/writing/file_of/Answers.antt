@@ -11,7 +11,7 @@ pub returns : goal.returns
 unfolding blob_spelling u32_spelling
 returns c =
     let image = c.as_slice-image.ensures in
-    let header = c.in_ok-header_fields_of.ensures in
+    let header = c.in_ok-bytes.ensures in
     let all : c.push-2.new.self ≡ behind_gate (store_header c.args.header.now) c.args.image.now =
     c.in_ok-push-2.ensures.ok
     ∙ ap (λ (l : List ℕ). l ++ 0 ∷ []) (c.in_ok-extend_from_slice-2.ensures.ok ∙ ap (λ (l : List ℕ). l ++ c.as_slice-image.result.now) (c.in_ok-extend_from_slice.ensures.ok ∙ ap (λ (l : List ℕ). l ++ c.to_be_bytes.result) (c.in_ok-push.ensures.ok ∙ ap (λ (l : List ℕ). l ++ 1 ∷ []) header.0)))
