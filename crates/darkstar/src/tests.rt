@@ -3,10 +3,8 @@ ghost use Rattle.std.specs.Prelude.{◌≡◌, IfOk};
 ghost use Rattle.dk_disk.specs.Opening.{NotCalled};
 ghost use Rattle.dk_edge.specs.Listening.{IsUncalled};
 
-mod meeting;
 mod rows;
 mod serving;
-mod stopping;
 
 use crate::program::{Ran, run};
 use dk_disk::{Home, MemoryHome};
