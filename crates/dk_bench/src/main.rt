@@ -4,10 +4,13 @@
 
 mod channels;
 mod cores;
+mod desk;
 mod disk;
 mod filler;
 mod frames;
+mod hosts;
 mod inspecting;
+mod records;
 mod stores;
 mod tasks;
 mod txn;
@@ -17,7 +20,9 @@ use cores::{CoreWork, on_core};
 use disk::{folder_appends, memory_calls};
 use dk_turn_books::{empty_turns_anew, locked_adds, tally_in_threads};
 use frames::Feeding;
+use hosts::{HostWork, on_host};
 use inspecting::inspect_objects;
+use records::{RecordWork, on_records};
 use std::env;
 use std::fs::File;
 use std::process::ExitCode;
@@ -53,16 +58,20 @@ enum Subcommand {
     InspectObjects,
     /// A client's stream of frames of so many bytes. Its nanoseconds are told.
     Frames(Feeding),
+    /// Records of a store, or payloads of so many entries.
+    Records(RecordWork),
+    /// Work on a shared host. Its nanoseconds are told.
+    Host(HostWork),
 }
 
 fn main(rt: HostRuntime) -> ExitCode {
-    let Some((subcommand, times)) = asked(&rt) else {
+    let Some(asked) = asked(&rt) else {
         let _ = rt.eprintln(
-            "dk_bench: locked-adds|empty-turns|tally|STORE-CALL|txn-calls|channel-sends|channel-join|channel-leave|core-tasks|core-counters|core-sessions|folder-appends|memory-calls|inspect-objects|frames-in-pieces|frames-by-byte TIMES",
+            "dk_bench: locked-adds|empty-turns|tally|STORE-CALL|txn-calls|channel-sends|channel-join|channel-leave|core-tasks|core-counters|core-sessions|folder-appends|memory-calls|inspect-objects|frames-in-pieces|frames-by-byte|store-appends|store-recover|store-decode|host-tasks|host-folder-tasks|host-commits|host-reads|host-held-reads|host-copy|host-checkpoint-read TIMES, or several of these",
         );
         return ExitCode::from(2);
     };
-    match run(&rt, subcommand, times) {
+    match run_all(&rt, asked.as_slice()) {
         Some(told) => {
             let _ = println!(rt; "{told}");
             ExitCode::from(0)
@@ -71,12 +80,23 @@ fn main(rt: HostRuntime) -> ExitCode {
     }
 }
 
-/// The subcommand and its number, if the words are such.
-fn asked<R: Env + AllocGlobal>(rt: &R) -> Option<(Subcommand, u32)> {
-    let mut args = env::args(rt).ok()?.skip(1);
-    let subcommand = named(args.next()?.as_str())?;
-    let times = args.next()?.as_str().parse().ok()?;
-    Some((subcommand, times))
+/// The subcommands and their numbers, if the words are such.
+fn asked<R: Env + AllocGlobal>(rt: &R) -> Option<Vec<(Subcommand, u32)>> {
+    let mut asked = Vec::new(rt.alloc());
+    let mut subcommand = None;
+    for word in env::args(rt).ok()?.skip(1) {
+        match subcommand {
+            None => subcommand = Some(named(word.as_str())?),
+            Some(known) => {
+                asked.push((known, word.as_str().parse().ok()?)).ok()?;
+                subcommand = None;
+            }
+        }
+    }
+    if asked.is_empty() || subcommand.is_some() {
+        return None;
+    }
+    Some(asked)
 }
 
 fn named(word: &str) -> Option<Subcommand> {
@@ -92,11 +112,28 @@ fn named(word: &str) -> Option<Subcommand> {
             .map(Subcommand::Store)
             .or(channels::named(word).map(Subcommand::Channel))
             .or(cores::named(word).map(Subcommand::Core))
-            .or(frames::named(word).map(Subcommand::Frames)),
+            .or(frames::named(word).map(Subcommand::Frames))
+            .or(records::named(word).map(Subcommand::Records))
+            .or(hosts::named(word).map(Subcommand::Host)),
     }
 }
 
-fn run<R: AllocGlobal + Threads + Wait + Sync + Clock + Files<File = File> + Clone + Drop>(
+/// Runs them one after another. What one tells is told, and of several how many they are.
+fn run_all<
+    R: AllocGlobal + Threads + Wait + Send + Sync + Clock + Files<File = File> + Clone + Drop,
+>(rt: &R, asked: &[(Subcommand, u32)]) -> Option<u64> {
+    let mut told = 0;
+    for (subcommand, times) in asked {
+        told = run(rt, *subcommand, *times)?;
+    }
+    if asked.len() == 1 {
+        Some(told)
+    } else {
+        Some(asked.len() as u64)
+    }
+}
+
+fn run<R: AllocGlobal + Threads + Wait + Send + Sync + Clock + Files<File = File> + Clone + Drop>(
     rt: &R,
     subcommand: Subcommand,
     times: u32,
@@ -113,5 +150,7 @@ fn run<R: AllocGlobal + Threads + Wait + Sync + Clock + Files<File = File> + Clo
         Subcommand::MemoryCalls => memory_calls(rt.alloc(), times),
         Subcommand::InspectObjects => inspect_objects(rt, times),
         Subcommand::Frames(feeding) => frames::decode(rt, feeding, times),
+        Subcommand::Records(work) => on_records(rt, work, times),
+        Subcommand::Host(work) => on_host(rt, work, times),
     }
 }

@@ -1,0 +1,226 @@
+//! Work on a shared host, which is opened for it on a new store.
+ghost use Rattle.std.specs.Prelude.{◌≡◌, false};
+ghost use Rattle.dk_disk.specs.Opening.{NotCalled};
+ghost use Rattle.dk_bench.specs.Hosts.{opened_for};
+
+use crate::desk::Desk;
+use crate::filler::Filler;
+use dk_demos::Counters;
+use dk_disk::{FolderHome, HoldingHome, Home, MemoryHome};
+use dk_game::Game;
+use dk_host::{Host, Hosting, OpenedStore, WorldBook, open_store};
+use dk_turn::{TurnBuilder, Naming, Pass};
+use std::alloc::Global;
+use std::fs::File;
+use std::marker::Brand;
+use std::rt::Files;
+use std::sync::atomic::AtomicU64;
+use std::sync::{Arc, Wait, ledger};
+use std::thread::Threads;
+use std::time::Clock;
+
+/// So many objects stand in the world of a login at most.
+const LOGIN_OBJECTS: u32 = 1_000;
+
+/// A held sync looks so often whether it is let go.
+const HELD_TURNS: u64 = 1 << 34;
+
+/// What is timed on a host. The nanoseconds are told.
+#[derive(Clone, Copy)]
+pub enum HostWork {
+    /// So many tasks of the counter game by one worker, the store in memory.
+    Tasks,
+    /// The same, the store in the folder `host`.
+    FolderTasks,
+    /// 20,000 commits over so many objects.
+    Commits,
+    /// So many reads.
+    Reads,
+    /// So many reads while the sync of a commit is held.
+    HeldReads,
+    /// A copy of a world of so many objects.
+    Copy,
+    /// The longest of the reads while a world of so many objects is written anew.
+    CheckpointRead,
+}
+
+/// The work of this word.
+pub fn named(word: &str) -> Option<HostWork> {
+    match word {
+        "host-tasks" => Some(HostWork::Tasks),
+        "host-folder-tasks" => Some(HostWork::FolderTasks),
+        "host-commits" => Some(HostWork::Commits),
+        "host-reads" => Some(HostWork::Reads),
+        "host-held-reads" => Some(HostWork::HeldReads),
+        "host-copy" => Some(HostWork::Copy),
+        "host-checkpoint-read" => Some(HostWork::CheckpointRead),
+        _ => None,
+    }
+}
+
+/// Some work, its number, and the word that can hold the sync of a home in memory.
+#[derive(Clone, Copy)]
+struct Order<'a> {
+    work: HostWork,
+    number: u32,
+    hold: &'a AtomicU64,
+}
+
+/// The nanoseconds, or nothing where the disk, memory or the clock is wanting.
+pub fn on_host<
+    R: AllocGlobal + Clock + Files<File = File> + Threads + Wait + Clone + Send + Sync + Drop,
+>(rt: &R, work: HostWork, number: u32) -> Option<u64> {
+    let hold = Arc::new(rt.alloc(), AtomicU64::new(0)).ok()?;
+    let order = Order {
+        work,
+        number,
+        hold: &hold,
+    };
+    match work {
+        HostWork::FolderTasks => {
+            let home = FolderHome::new(rt.alloc(), rt.clone().ok()?);
+            in_home(rt, &Counters::new(7, number), home, &order)
+        }
+        HostWork::Tasks => in_memory(rt, &Counters::new(7, number), &hold, &order),
+        HostWork::Reads | HostWork::HeldReads => {
+            in_memory(rt, &Counters::new(7, 1), &hold, &order)
+        }
+        HostWork::Commits | HostWork::Copy | HostWork::CheckpointRead => {
+            let objects = number.min(LOGIN_OBJECTS);
+            in_memory(rt, &Filler { objects }, &hold, &order)
+        }
+    }
+}
+
+fn in_memory<G: Game + Sync, R: AllocGlobal + Clock + Threads + Wait + Sync>(
+    rt: &R,
+    game: &G,
+    hold: &Arc<AtomicU64, Global>,
+    order: &Order<'_>,
+) -> Option<u64> {
+    let alloc = rt.alloc();
+    let none = Vec::new(alloc);
+    let inner = MemoryHome::new(alloc, Vec::new(alloc), Vec::new(alloc), none, false);
+    let hold = Arc::try_clone(hold).ok()?;
+    in_home(rt, game, HoldingHome::new(inner, hold, HELD_TURNS), order)
+}
+
+/// Makes a store in a home that is not opened yet, and works on a host of it.
+fn in_home<G: Game + Sync, M: Home + Send + Drop, R: AllocGlobal + Clock + Threads + Wait + Sync>(
+    rt: &R,
+    game: &G,
+    mut home: M,
+    order: &Order<'_>,
+) -> Option<u64>
+    requires { M.opening home ≡ NotCalled }
+{
+    home.open("host").ok()?;
+    let store = open_store(rt.alloc(), home, &game.id()).ok()?;
+    let commits = ledger::Blank::new(1);
+    let places = ledger::Blank::new(1);
+    on_ledgers::<G, Brand, M, R>(rt, game, commits, places, store, order)
+}
+
+fn on_ledgers<
+    G: Game + Sync,
+    W: Hosting + Send + Sync,
+    M: Home + Send + Drop,
+    R: AllocGlobal + Clock + Threads + Wait + Sync,
+>(
+    rt: &R,
+    game: &G,
+    commits: ledger::Blank,
+    places: ledger::Blank,
+    store: OpenedStore<M>,
+    order: &Order<'_>,
+) -> Option<u64>
+    requires commits { (commits.name ≡ W.commits) × (commits.parts ≡ 1) }
+    requires places { (places.name ≡ W.places) × (places.parts ≡ 1) }
+    requires opened { W.opened ≡ opened_for (G.rules game.now) store.durable }
+    requires began { M.past store.home ≡ W.began }
+    requires first { store.journal.epoch ≡ W.first }
+    requires opening { M.opening store.home ≡ W.opening }
+    requires counted { M.counted store.home ≡ W.counted }
+    requires keeps { W.keeps ≡ false }
+{
+    let blank = TurnBuilder::new(rt.alloc(), 2).ok()?;
+    on_turn::<G, W, Brand, M, R>(rt, game, blank, commits, places, store, order)
+}
+
+fn on_turn<
+    G: Game + Sync,
+    W: Hosting + Send + Sync,
+    J: Naming + Send + Sync,
+    M: Home + Send + Drop,
+    R: AllocGlobal + Clock + Threads + Wait + Sync,
+>(
+    rt: &R,
+    game: &G,
+    blank: TurnBuilder<WorldBook<W>>,
+    commits: ledger::Blank,
+    places: ledger::Blank,
+    store: OpenedStore<M>,
+    order: &Order<'_>,
+) -> Option<u64>
+    requires name { blank ≡ J.name }
+    requires commits { (commits.name ≡ W.commits) × (commits.parts ≡ 1) }
+    requires places { (places.name ≡ W.places) × (places.parts ≡ 1) }
+    requires opened { W.opened ≡ opened_for (G.rules game.now) store.durable }
+    requires began { M.past store.home ≡ W.began }
+    requires first { store.journal.epoch ≡ W.first }
+    requires opening { M.opening store.home ≡ W.opening }
+    requires counted { M.counted store.home ≡ W.counted }
+    requires keeps { W.keeps ≡ false }
+{
+    let alloc = rt.alloc();
+    let opened = Host::<W, J, M>::open(alloc, blank, commits, places, store, None, false);
+    let Ok((host, mut passes)) = opened else {
+        return None;
+    };
+    let mut one = passes.pop()?;
+    let mut other = passes.pop()?;
+    let desk = Desk {
+        rt,
+        alloc,
+        host: &host,
+        game,
+    };
+    let told = done(&desk, &mut one, &mut other, order);
+    if host.close(passes).commits < least_commits(order) {
+        return None;
+    }
+    told
+}
+
+/// What the work tells.
+fn done<
+    G: Game + Sync,
+    W: Hosting + Send + Sync,
+    J: Naming + Send + Sync,
+    M: Home + Send + Drop,
+    R: Clock + Threads + Wait + Sync,
+>(
+    desk: &Desk<'_, G, W, J, M, R>,
+    one: &mut Pass<WorldBook<W>, J>,
+    other: &mut Pass<WorldBook<W>, J>,
+    order: &Order<'_>,
+) -> Option<u64> {
+    let number = order.number;
+    let logins = (number / LOGIN_OBJECTS).max(1);
+    match order.work {
+        HostWork::Tasks | HostWork::FolderTasks => desk.tasks(one),
+        HostWork::Reads => desk.free_reads(one, number),
+        HostWork::HeldReads => desk.held_reads(one, other, order.hold, number),
+        HostWork::Commits => desk.commits(one, logins),
+        HostWork::Copy => desk.copy(one, logins),
+        HostWork::CheckpointRead => desk.checkpoint_read(one, other, logins),
+    }
+}
+
+/// So many commits are made at least.
+fn least_commits(order: &Order<'_>) -> u64 {
+    match order.work {
+        HostWork::Tasks | HostWork::FolderTasks => (order.number as u64).saturating_add(1),
+        _ => 1,
+    }
+}
