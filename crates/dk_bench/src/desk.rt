@@ -113,12 +113,6 @@ impl<G: Game, W: Hosting, J: Naming, M: Home, R: Clock + Wait> Desk<'_, G, W, J,
         nanoseconds(self.rt, &start)
     }
 
-    /// The same behind the first run, while nothing else is done.
-    pub(crate) fn free_reads(&self, pass: &mut Pass<WorldBook<W>, J>, reads: u32) -> Option<u64> {
-        self.commit_next(pass)?;
-        self.reads(pass, reads)
-    }
-
     /// So many reads once a sync is held, if it is held to their end.
     fn reads_beside(
         &self,
@@ -151,10 +145,8 @@ impl<G: Game, W: Hosting, J: Naming, M: Home, R: Clock + Wait> Desk<'_, G, W, J,
         told
     }
 
-    /// A copy of the world behind so many logins, the second one.
-    pub(crate) fn copy(&self, pass: &mut Pass<WorldBook<W>, J>, logins: u32) -> Option<u64> {
-        self.fill(pass, logins)?;
-        self.host.durable(self.rt, pass).ok()?;
+    /// A copy of the world.
+    fn copied(&self, pass: &mut Pass<WorldBook<W>, J>) -> Option<u64> {
         let start = Instant::now(self.rt).ok()?;
         let durable = self.host.durable(self.rt, pass).ok()?;
         let spent = nanoseconds(self.rt, &start);
@@ -164,27 +156,34 @@ impl<G: Game, W: Hosting, J: Naming, M: Home, R: Clock + Wait> Desk<'_, G, W, J,
         spent
     }
 
-    /// The longest of the reads until the store is written.
-    fn longest_read(
+    /// The same, and then says so.
+    fn copied_then_done(
         &self,
         pass: &mut Pass<WorldBook<W>, J>,
-        is_written: &AtomicBool,
+        is_done: &AtomicBool,
     ) -> Option<u64> {
+        let told = self.copied(pass);
+        is_done.store(true, Ordering::SeqCst);
+        told
+    }
+
+    /// Writes the store anew, and then says so.
+    fn write_anew(&self, pass: &mut Pass<WorldBook<W>, J>, is_done: &AtomicBool) -> bool {
+        let written = self.host.checkpoint(self.rt, pass).is_ok();
+        is_done.store(true, Ordering::SeqCst);
+        written
+    }
+
+    /// The longest of the reads until something is done.
+    fn longest_read(&self, pass: &mut Pass<WorldBook<W>, J>, is_done: &AtomicBool) -> Option<u64> {
         let mut longest = 0;
         for _ in 0..u64::MAX {
             longest = longest.max(self.reads(pass, 1)?);
-            if is_written.load(Ordering::SeqCst) {
+            if is_done.load(Ordering::SeqCst) {
                 return Some(longest);
             }
         }
         None
-    }
-
-    /// Writes the store anew.
-    fn write_anew(&self, pass: &mut Pass<WorldBook<W>, J>, is_written: &AtomicBool) -> bool {
-        let written = self.host.checkpoint(self.rt, pass).is_ok();
-        is_written.store(true, Ordering::SeqCst);
-        written
     }
 }
 
@@ -195,6 +194,25 @@ impl<
     M: Home + Send,
     R: Clock + Threads + Wait + Sync,
 > Desk<'_, G, W, J, M, R> {
+    /// So many reads by the other pass behind the first run, while a thread looks at the word as a held sync does, and no
+    /// sync is held.
+    pub(crate) fn free_reads(
+        &self,
+        one: &mut Pass<WorldBook<W>, J>,
+        other: &mut Pass<WorldBook<W>, J>,
+        hold: &AtomicU64,
+        reads: u32,
+    ) -> Option<u64> {
+        self.commit_next(one)?;
+        hold.store(HELD, Ordering::SeqCst);
+        let ((), told) = join(
+            self.rt,
+            || look_until_free(hold),
+            || self.reads_then_free(other, hold, reads),
+        );
+        told
+    }
+
     /// So many reads by the other pass, while the sync of a commit is held.
     pub(crate) fn held_reads(
         &self,
@@ -214,20 +232,52 @@ impl<
         told
     }
 
-    /// The longest of the reads by the other pass while the store is written anew, behind so many logins and a copy.
+    /// The second copy of the world behind so many logins, beside which the other pass reads.
+    fn copy_beside_reads(
+        &self,
+        one: &mut Pass<WorldBook<W>, J>,
+        other: &mut Pass<WorldBook<W>, J>,
+        logins: u32,
+    ) -> Option<u64> {
+        self.fill(one, logins)?;
+        self.copied(one)?;
+        let is_done = AtomicBool::new(false);
+        let (spent, longest) = join(
+            self.rt,
+            || self.copied_then_done(one, &is_done),
+            || self.longest_read(other, &is_done),
+        );
+        longest?;
+        spent
+    }
+
+    /// The longest of the reads by the other pass while the store is written anew, behind so many logins, in thousandths of
+    /// a copy of the world beside such reads.
     pub(crate) fn checkpoint_read(
         &self,
         one: &mut Pass<WorldBook<W>, J>,
         other: &mut Pass<WorldBook<W>, J>,
         logins: u32,
     ) -> Option<u64> {
-        self.copy(one, logins)?;
-        let is_written = AtomicBool::new(false);
+        let copy = self.copy_beside_reads(one, other, logins)?;
+        let is_done = AtomicBool::new(false);
         let (written, longest) = join(
             self.rt,
-            || self.write_anew(one, &is_written),
-            || self.longest_read(other, &is_written),
+            || self.write_anew(one, &is_done),
+            || self.longest_read(other, &is_done),
         );
-        if written { longest } else { None }
+        if !written {
+            return None;
+        }
+        longest?.saturating_mul(1_000).checked_div(copy.max(1))
+    }
+}
+
+/// Looks until no sync is held.
+fn look_until_free(hold: &AtomicU64) {
+    for _ in 0..u64::MAX {
+        if hold.load(Ordering::SeqCst) != HELD {
+            return;
+        }
     }
 }

@@ -9,7 +9,7 @@ use dk_demos::Counters;
 use dk_disk::{FolderHome, HoldingHome, Home, MemoryHome};
 use dk_game::Game;
 use dk_host::{Host, Hosting, OpenedStore, WorldBook, open_store};
-use dk_turn::{TurnBuilder, Naming, Pass};
+use dk_turn::{Naming, Pass, TurnBuilder};
 use std::alloc::Global;
 use std::fs::File;
 use std::marker::Brand;
@@ -25,7 +25,7 @@ const LOGIN_OBJECTS: u32 = 1_000;
 /// A held sync looks so often whether it is let go.
 const HELD_TURNS: u64 = 1 << 34;
 
-/// What is timed on a host. The nanoseconds are told.
+/// What is timed on a host. The nanoseconds are told, where nothing else is said.
 #[derive(Clone, Copy)]
 pub enum HostWork {
     /// So many tasks of the counter game by one worker, the store in memory.
@@ -34,13 +34,11 @@ pub enum HostWork {
     FolderTasks,
     /// 20,000 commits over so many objects.
     Commits,
-    /// So many reads.
+    /// So many reads beside a thread that does what a held sync does.
     Reads,
     /// So many reads while the sync of a commit is held.
     HeldReads,
-    /// A copy of a world of so many objects.
-    Copy,
-    /// The longest of the reads while a world of so many objects is written anew.
+    /// The longest of the reads while a world of so many objects is written anew, in thousandths of a copy of that world.
     CheckpointRead,
 }
 
@@ -52,7 +50,6 @@ pub fn named(word: &str) -> Option<HostWork> {
         "host-commits" => Some(HostWork::Commits),
         "host-reads" => Some(HostWork::Reads),
         "host-held-reads" => Some(HostWork::HeldReads),
-        "host-copy" => Some(HostWork::Copy),
         "host-checkpoint-read" => Some(HostWork::CheckpointRead),
         _ => None,
     }
@@ -85,7 +82,7 @@ pub fn on_host<
         HostWork::Reads | HostWork::HeldReads => {
             in_memory(rt, &Counters::new(7, 1), &hold, &order)
         }
-        HostWork::Commits | HostWork::Copy | HostWork::CheckpointRead => {
+        HostWork::Commits | HostWork::CheckpointRead => {
             let objects = number.min(LOGIN_OBJECTS);
             in_memory(rt, &Filler { objects }, &hold, &order)
         }
@@ -209,10 +206,9 @@ fn done<
     let logins = (number / LOGIN_OBJECTS).max(1);
     match order.work {
         HostWork::Tasks | HostWork::FolderTasks => desk.tasks(one),
-        HostWork::Reads => desk.free_reads(one, number),
+        HostWork::Reads => desk.free_reads(one, other, order.hold, number),
         HostWork::HeldReads => desk.held_reads(one, other, order.hold, number),
         HostWork::Commits => desk.commits(one, logins),
-        HostWork::Copy => desk.copy(one, logins),
         HostWork::CheckpointRead => desk.checkpoint_read(one, other, logins),
     }
 }

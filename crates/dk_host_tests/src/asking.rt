@@ -62,9 +62,11 @@ impl<
         if ask == "together" {
             return self.work_together(passes);
         }
-        let [one, other] = passes else {
+        if passes.len() < 2 {
             return None;
-        };
+        }
+        let (first_half, second_half) = passes.split_at_mut(1);
+        let (one, other) = (&mut first_half[0], &mut second_half[0]);
         match ask.split_once(" | ") {
             Some((first, second)) => self.answer_both(one, first, other, second),
             None if ask == "overtake" => self.overtake(one, other),
