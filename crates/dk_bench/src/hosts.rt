@@ -6,14 +6,12 @@ ghost use Rattle.dk_bench.specs.Hosts.{opened_for};
 use crate::desk::Desk;
 use crate::filler::Filler;
 use dk_demos::Counters;
-use dk_disk::{FolderHome, HoldingHome, Home, MemoryHome};
+use dk_disk::{HoldingHome, Home, MemoryHome};
 use dk_game::Game;
 use dk_host::{Host, Hosting, OpenedStore, WorldBook, open_store};
 use dk_turn::{Naming, Pass, TurnBuilder};
 use std::alloc::Global;
-use std::fs::File;
 use std::marker::Brand;
-use std::rt::Files;
 use std::sync::atomic::AtomicU64;
 use std::sync::{Arc, Wait, ledger};
 use std::thread::Threads;
@@ -63,10 +61,16 @@ struct Order<'a> {
     hold: &'a AtomicU64,
 }
 
-/// The nanoseconds, or nothing where the disk, memory or the clock is wanting.
-pub fn on_host<
-    R: AllocGlobal + Clock + Files<File = File> + Threads + Wait + Clone + Send + Sync + Drop,
->(rt: &R, work: HostWork, number: u32) -> Option<u64> {
+/// What is told, or nothing where the disk, memory or the clock is wanting. `folder` is a home in which a folder can be
+/// opened.
+pub fn on_host<M: Home + Send + Drop, R: AllocGlobal + Clock + Threads + Wait + Sync>(
+    rt: &R,
+    folder: M,
+    work: HostWork,
+    number: u32,
+) -> Option<u64>
+    requires { M.opening folder ≡ NotCalled }
+{
     let hold = Arc::new(rt.alloc(), AtomicU64::new(0)).ok()?;
     let order = Order {
         work,
@@ -74,10 +78,7 @@ pub fn on_host<
         hold: &hold,
     };
     match work {
-        HostWork::FolderTasks => {
-            let home = FolderHome::new(rt.alloc(), rt.clone().ok()?);
-            in_home(rt, &Counters::new(7, number), home, &order)
-        }
+        HostWork::FolderTasks => in_home(rt, &Counters::new(7, number), folder, &order),
         HostWork::Tasks => in_memory(rt, &Counters::new(7, number), &hold, &order),
         HostWork::Reads | HostWork::HeldReads => {
             in_memory(rt, &Counters::new(7, 1), &hold, &order)
@@ -201,13 +202,15 @@ fn done<
     one: &mut Pass<WorldBook<W>, J>,
     other: &mut Pass<WorldBook<W>, J>,
     order: &Order<'_>,
-) -> Option<u64> {
+) -> Option<u64>
+    requires rules { W.opened.rules ≡ G.rules desk.now.game.now }
+{
     let number = order.number;
     let logins = (number / LOGIN_OBJECTS).max(1);
     match order.work {
         HostWork::Tasks | HostWork::FolderTasks => desk.tasks(one),
-        HostWork::Reads => desk.free_reads(one, other, order.hold, number),
-        HostWork::HeldReads => desk.held_reads(one, other, order.hold, number),
+        HostWork::Reads => desk.reads_beside_hold(one, other, order.hold, number, false),
+        HostWork::HeldReads => desk.reads_beside_hold(one, other, order.hold, number, true),
         HostWork::Commits => desk.commits(one, logins),
         HostWork::CheckpointRead => desk.checkpoint_read(one, other, logins),
     }

@@ -2,6 +2,10 @@
 //! times; the number behind it says how many times.
 #![tactic(auto)]
 
+ghost use Rattle.std.specs.Prelude.{◌≡◌};
+ghost use Rattle.dk_disk.specs.Opening.{NotCalled};
+
+mod beside;
 mod channels;
 mod cores;
 mod desk;
@@ -18,6 +22,7 @@ mod txn;
 use channels::{Doing, on_channel};
 use cores::{CoreWork, on_core};
 use disk::{folder_appends, memory_calls};
+use dk_disk::{FolderHome, Home};
 use dk_turn_books::{empty_turns_anew, locked_adds, tally_in_threads};
 use frames::Feeding;
 use hosts::{HostWork, on_host};
@@ -71,13 +76,24 @@ fn main(rt: HostRuntime) -> ExitCode {
         );
         return ExitCode::from(2);
     };
-    match run_all(&rt, asked.as_slice()) {
-        Some(told) => {
-            let _ = println!(rt; "{told}");
-            ExitCode::from(0)
+    let mut told = 0;
+    for (subcommand, times) in &asked {
+        let system: Result<_, _> = rt.clone();
+        let Ok(system) = system else {
+            return ExitCode::from(1);
+        };
+        let folder = FolderHome::new(rt.alloc(), system);
+        match run(&rt, folder, *subcommand, *times) {
+            Some(number) => told = number,
+            None => return ExitCode::from(1),
         }
-        None => ExitCode::from(1),
     }
+    // What one tells is told, and of several how many they are.
+    let _ = match asked.len() {
+        1 => println!(rt; "{told}"),
+        several => println!(rt; "{several}"),
+    };
+    ExitCode::from(0)
 }
 
 /// The subcommands and their numbers, if the words are such.
@@ -118,26 +134,13 @@ fn named(word: &str) -> Option<Subcommand> {
     }
 }
 
-/// Runs them one after another. What one tells is told, and of several how many they are.
-fn run_all<
-    R: AllocGlobal + Threads + Wait + Send + Sync + Clock + Files<File = File> + Clone + Drop,
->(rt: &R, asked: &[(Subcommand, u32)]) -> Option<u64> {
-    let mut told = 0;
-    for (subcommand, times) in asked {
-        told = run(rt, *subcommand, *times)?;
-    }
-    if asked.len() == 1 {
-        Some(told)
-    } else {
-        Some(asked.len() as u64)
-    }
-}
-
-fn run<R: AllocGlobal + Threads + Wait + Send + Sync + Clock + Files<File = File> + Clone + Drop>(
-    rt: &R,
-    subcommand: Subcommand,
-    times: u32,
-) -> Option<u64> {
+/// Runs a subcommand, which may work in the folder of a home that is not opened yet.
+fn run<
+    M: Home + Send + Drop,
+    R: AllocGlobal + Threads + Wait + Sync + Clock + Files<File = File> + Clone + Drop,
+>(rt: &R, folder: M, subcommand: Subcommand, times: u32) -> Option<u64>
+    requires { M.opening folder ≡ NotCalled }
+{
     match subcommand {
         Subcommand::LockedAdds => Some(locked_adds(rt, times as u64)),
         Subcommand::EmptyTurns => empty_turns_anew(rt, rt.alloc(), times as u64),
@@ -151,6 +154,6 @@ fn run<R: AllocGlobal + Threads + Wait + Send + Sync + Clock + Files<File = File
         Subcommand::InspectObjects => inspect_objects(rt, times),
         Subcommand::Frames(feeding) => frames::decode(rt, feeding, times),
         Subcommand::Records(work) => on_records(rt, work, times),
-        Subcommand::Host(work) => on_host(rt, work, times),
+        Subcommand::Host(work) => on_host(rt, folder, work, times),
     }
 }
