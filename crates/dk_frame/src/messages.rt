@@ -9,8 +9,8 @@ use crate::body::Body;
 use crate::frame::ClientFrame;
 use crate::front::length_of;
 use crate::stage::{MESSAGE, Stage};
-use dk_types::limits::BODY_MOST_BYTES;
 use dk_types::NoMemory;
+use dk_types::limits::BODY_MOST_BYTES;
 use std::alloc::Global;
 
 /// Puts messages at the front of these bytes behind the frames, where `stage` says that one may come, and tells how many
