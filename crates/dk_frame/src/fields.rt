@@ -5,10 +5,11 @@ ghost use Rattle.dk_types.specs.Fields.{name_spelling};
 ghost use Rattle.dk_model.specs.Frames.{Frame};
 ghost use Rattle.dk_frame.specs.Fields.{IsFrameOf, HasNoFrame, BeginsWithNoName};
 
+use crate::body::Body;
 use crate::frame::ClientFrame;
 use crate::stage::{CHANNEL, LOGIN, MESSAGE};
 use dk_types::limits::BODY_MOST_BYTES;
-use dk_types::{Blob, Name, NoMemory};
+use dk_types::{Name, NoMemory};
 use dk_wire::{Reader, WireRefused};
 use std::alloc::Global;
 
@@ -53,7 +54,7 @@ fn message(alloc: Global, fields: &[u8]) -> Result<Option<ClientFrame>, NoMemory
     if fields.len() as u64 > BODY_MOST_BYTES {
         return Ok(None);
     }
-    Ok(Some(ClientFrame::Message(Blob::copy_of(alloc, fields)?)))
+    Ok(Some(ClientFrame::Message(Body::copy_of(alloc, fields)?)))
 }
 
 #[tactic(auto, using(crate::proofs::FieldLemmas::no_channel))]
@@ -66,7 +67,7 @@ fn channel(alloc: Global, fields: &[u8]) -> Result<Option<ClientFrame>, NoMemory
     if body.len() as u64 > BODY_MOST_BYTES {
         return Ok(None);
     }
-    let body = Blob::copy_of(alloc, body)?;
+    let body = Body::copy_of(alloc, body)?;
     Ok(Some(ClientFrame::Channel { channel, body }))
 }
 

@@ -1,7 +1,8 @@
 //! A client's frames, and what may be wrong with one.
 ghost use Rattle.std.specs.Prelude.{◌≡◌};
 
-use dk_types::{Blob, Name, NoMemory};
+use crate::body::Body;
+use dk_types::{Name, NoMemory};
 use thiserror::Error;
 
 /// A whole frame of a client.
@@ -9,9 +10,9 @@ use thiserror::Error;
 pub enum ClientFrame {
     /// The client logs in under this name.
     Login(Name),
-    Message(Blob),
+    Message(Body),
     /// A message on a channel.
-    Channel { channel: Name, body: Blob },
+    Channel { channel: Name, body: Body },
     Logout,
 }
 

@@ -5,10 +5,12 @@
 //! `laws` has what follows from that definition. Nothing here reads or writes a link.
 #![tactic(auto)]
 
+pub use body::Body;
 pub use decoder::Decoder;
 pub use encode::encode_out;
 pub use frame::{ClientFrame, FrameFault, FrameRefused, Truncated};
 
+pub mod body;
 pub mod decoder;
 pub mod encode;
 mod fields;

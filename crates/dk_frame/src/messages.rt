@@ -1,14 +1,16 @@
 //! Messages one behind another, as most frames of a session are. They are taken in a loop of their own, since each costs
 //! little more there than its memory.
-ghost use Rattle.std.specs.Prelude.{◌≡◌, map, IfOk, IfSome};
+ghost use Rattle.std.specs.Prelude.{◌≡◌, [], ◌∷◌, ◌++◌, map, IfOk, OnOk, IfSome};
+ghost use Rattle.dk_model.specs.Frames.{Message};
 ghost use Rattle.dk_frame.specs.Meanings.{frame_of, stage_of};
 ghost use Rattle.dk_frame.specs.Fronts.{AddsTaken, IsMessage};
 
+use crate::body::Body;
 use crate::frame::ClientFrame;
 use crate::front::length_of;
 use crate::stage::{MESSAGE, Stage};
+use dk_types::NoMemory;
 use dk_types::limits::BODY_MOST_BYTES;
-use dk_types::{Blob, NoMemory};
 use std::alloc::Global;
 
 /// Puts messages at the front of these bytes behind the frames, where `stage` says that one may come, and tells how many
@@ -26,10 +28,23 @@ pub(crate) fn take_messages(
     }
     let mut rest = bytes;
     'messages: while let Some((body, behind)) = message_at(rest) {
-        frames.push(ClientFrame::Message(Blob::copy_of(alloc, body)?))?;
+        push_message(alloc, frames, body)?;
         rest = behind;
     }
     Ok(bytes.len() - rest.len())
+}
+
+// Puts a message with this body behind the frames. It is written where it stands, since a copy that was just written is slow
+// to be copied on.
+fn push_message(alloc: Global, frames: &mut Vec<ClientFrame>, body: &[u8]) -> Result<(), NoMemory>
+    ensures { OnOk result (map frame_of frames.new.items ≡ map frame_of frames.old.items ++ Message body.now ∷ []) }
+{
+    let at = frames.len();
+    frames.push(ClientFrame::Message(Body::new(alloc)))?;
+    match &mut frames[at] {
+        ClientFrame::Message(message) => message.extend_from_slice(body),
+        _ => unreachable!(),
+    }
 }
 
 /// The body of a message at the front of these bytes, and what stands behind it. Where it gives none, `Front::of` judges

@@ -81,6 +81,14 @@ module _ (o : Opened) (count pass : ℕ) (conn : ConnNo) where
         enters = p.enters;
       }
 
+  -- up to a frame for which there was no memory
+  pub posted_without_memory : (all rest : List Frame) (f : Frame) (front front' : List Event) → IsPosting o count pass conn all (f ∷ rest) front front' → PostsFrames o count pass conn all (Err refused.NoMemory) front front'
+  posted_without_memory all rest f front front' p = record {
+    events = taken pass conn (inputs_of p.done);
+    posts = record { before = inputs_of p.done; after = inputs_of (f ∷ rest); parts = ap inputs_of p.parts ∙ inputs-append p.done (f ∷ rest); posts = refl };
+    enters = p.enters;
+  }
+
   -- the inputs of all, where one frame among them asks for this
   parted_inputs : (all done rest : List Frame) (f : Frame) (asked : Input) → all ≡ done ++ f ∷ rest → inputs_in f ≡ asked ∷ [] → inputs_of all ≡ inputs_of done ++ asked ∷ inputs_of rest
   parted_inputs all done rest f asked parts is = ap inputs_of parts ∙ inputs-append done (f ∷ rest) ∙ ap (λ is. inputs_of done ++ (is ++ inputs_of rest)) is

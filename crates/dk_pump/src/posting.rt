@@ -1,5 +1,5 @@
 //! Frames as posts.
-ghost use Rattle.std.specs.Prelude.{◌≡◌, ◌<◌, ◌≤◌, All, map, length, MatchOption};
+ghost use Rattle.std.specs.Prelude.{◌≡◌, ◌<◌, ◌≤◌, All, map, length, IfOk, MatchOption};
 ghost use Rattle.dk_types.specs.Names.{IsName};
 ghost use Rattle.dk_types.specs.declared.job.Input.TheVariants as input;
 ghost use Rattle.dk_types.specs.declared.limits.TheConstants.{BODY_MOST_BYTES};
@@ -13,7 +13,7 @@ use dk_disk::Home;
 use dk_frame::ClientFrame;
 use dk_host::{Host, Hosting, WorldBook};
 use dk_turn::{Naming, Pass};
-use dk_types::{Blob, ConnNo, Input, Name};
+use dk_types::{Blob, ConnNo, Input, Name, NoMemory};
 use std::sync::Wait;
 
 /// How far frames were posted.
@@ -37,7 +37,7 @@ pub(crate) fn post_frames<W: Hosting, J: Naming, M: Home, R: Wait>(
     ensures posts { PostsFrames W.opened J.name.passes pass.old.number conn (map frame_of frames.items) result pass.old.front pass.new.front }
 {
     for frame in frames {
-        let Some(input) = input_of(frame) else {
+        let Some(input) = input_of(frame)? else {
             return Ok(Progress::ToLogout);
         };
         host.post(rt, pass, conn, input)?;
@@ -46,17 +46,17 @@ pub(crate) fn post_frames<W: Hosting, J: Naming, M: Home, R: Wait>(
 }
 
 /// What a frame in a session asks for. None is asked for by a LOGOUT alone.
-fn input_of(frame: ClientFrame) -> Option<Input>
+fn input_of(frame: ClientFrame) -> Result<Option<Input>, NoMemory>
     requires may_come { MayCome InSession (opcode_of (frame_of frame)) }
     requires within { IsFrame (frame_of frame) }
-    ensures { MatchOption result (frame_of frame ≡ Logout) (IsAsked (frame_of frame)) }
+    ensures { IfOk result (λ asked. MatchOption asked (frame_of frame ≡ Logout) (IsAsked (frame_of frame))) }
 {
-    match frame {
-        ClientFrame::Message(body) => Some(message(body)),
-        ClientFrame::Channel { channel, body } => Some(channel_message(channel, body)),
+    Ok(match frame {
+        ClientFrame::Message(body) => Some(message(body.into_blob()?)),
+        ClientFrame::Channel { channel, body } => Some(channel_message(channel, body.into_blob()?)),
         ClientFrame::Login(_) => unreachable!(),
         ClientFrame::Logout => None,
-    }
+    })
 }
 
 fn message(body: Blob) -> Input
