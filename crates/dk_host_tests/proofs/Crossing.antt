@@ -15,4 +15,10 @@ use Rattle.dk_host_tests.specs.contracts.stage.Stage as stage
 pub stage_sync : (ℓ : NamedLft) (G W J M R : RattleType) (j : naming.Ghosts J.Denot) (m : home.Ghosts M.Denot) (w : hosting.Ghosts W.Denot)
     → IsSync G → IsSend W → IsSend J → IsSend M → IsSync R → IsSync (stage.the_row ℓ G W J M R j m w)
 stage_sync ℓ G W J M R j m w g a b c r =
-    declared_sync (stage.the_type ℓ G W J M R j m w) (search (sendable, crosses, host_sync W J M w j m a b c, global.the_sync, g, r) depth 20)
+    declared_sync (stage.the_type ℓ G W J M R j m w) (
+      search (sendable, crosses, r) depth 20,
+      (
+        search (sendable, crosses, global.the_sync) depth 20,
+        (search (sendable, crosses, host_sync W J M w j m a b c) depth 20, (search (sendable, crosses, g) depth 20, (search (sendable, crosses) depth 20, tt))),
+      ),
+    )

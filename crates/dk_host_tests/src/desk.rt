@@ -2,7 +2,7 @@
 
 use crate::plays::{Files, Played, TORN, play};
 use crate::stops::Trial;
-use dk_rows::{Section, Subject, Words};
+use dk_rows::{Section, Words};
 use dk_types::Side;
 use std::alloc::Global;
 use std::sync::Wait;
@@ -12,7 +12,7 @@ use std::thread::Threads;
 const FORMAT_AT: usize = 10;
 
 /// The last play, with its files, its rows and which call of its home fails, or none at 0; the files that rows have named, and the
-/// worlds after so many commits.
+/// worlds after so many commits; and what was told of it last.
 #[derive(Drop)]
 pub struct Desk<'a, R> {
     rt: &'a R,
@@ -23,6 +23,7 @@ pub struct Desk<'a, R> {
     played: Option<Played>,
     kept: Vec<(String, Files)>,
     worlds: Vec<String>,
+    told: Vec<String>,
 }
 
 impl<'a, R: Threads + Wait + Sync> Desk<'a, R> {
@@ -37,15 +38,49 @@ impl<'a, R: Threads + Wait + Sync> Desk<'a, R> {
             played: None,
             kept: Vec::new(alloc),
             worlds: Vec::new(alloc),
+            told: Vec::new(alloc),
         }
     }
 
-    /// The answers of a section's rows.
-    pub fn play(&mut self, section: &'a Section) -> &[String] {
+    /// The answers of a section's rows: of a new play, or of the play before it.
+    pub fn answers(&mut self, section: &'a Section) -> &[String] {
+        if section.given.is_empty() {
+            self.told = self.told_of(section.rows.as_slice());
+            return &self.told;
+        }
         self.played = self.played_on(section);
         match &self.played {
             Some(played) => &played.answers,
             None => &[],
+        }
+    }
+
+    /// What is told of the last play, row by row, until there is no answer.
+    fn told_of(&mut self, rows: &[String]) -> Vec<String> {
+        let mut told = Vec::new(self.alloc);
+        for row in rows {
+            let row = row.as_str();
+            let call = row.split_once(" = ").unwrap_or((row, "")).0;
+            let Some(answer) = self.told(&mut Words::of(call)) else {
+                break;
+            };
+            if told.push(answer).is_err() {
+                break;
+            }
+        }
+        told
+    }
+
+    fn told(&mut self, call: &mut Words<'_>) -> Option<String> {
+        match call.word()? {
+            "keep" => self.keep(call),
+            "world" => self.world(call),
+            "left" => self.left(),
+            "files" => self.files(),
+            "stops" => self.stops(call),
+            "spent" => format!(in self.alloc; "{}", self.played.as_ref()?.home.spent()).ok(),
+            "calls" => format!(in self.alloc; "{}", self.played.as_ref()?.calls()).ok(),
+            _ => None,
         }
     }
 
@@ -143,20 +178,5 @@ impl<'a, R: Threads + Wait + Sync> Desk<'a, R> {
             before: call.number()?,
         };
         trial.stops()
-    }
-}
-
-impl<R: Threads + Wait + Sync> Subject for Desk<'_, R> {
-    fn answer(&mut self, alloc: Global, call: &mut Words<'_>) -> Option<String> {
-        match call.word()? {
-            "keep" => self.keep(call),
-            "world" => self.world(call),
-            "left" => self.left(),
-            "files" => self.files(),
-            "stops" => self.stops(call),
-            "spent" => format!(in alloc; "{}", self.played.as_ref()?.home.spent()).ok(),
-            "calls" => format!(in alloc; "{}", self.played.as_ref()?.calls()).ok(),
-            _ => None,
-        }
     }
 }

@@ -43,10 +43,6 @@ fn hold_section<'a, R: Threads + Wait + Sync, W: Write>(
     section: &'a Section,
 ) -> io::Result<()> {
     let rows = section.rows.as_slice();
-    let held = if section.given.is_empty() {
-        hold(alloc, out, desk, rows)?
-    } else {
-        hold(alloc, out, &mut Answers::new(desk.play(section)), rows)?
-    };
+    let held = hold(alloc, out, &mut Answers::new(desk.answers(section)), rows)?;
     writeln!(out, "{held} rows: {}", section.title)
 }

@@ -119,7 +119,7 @@ pub fn play<R: Threads + Wait + Sync>(
     })
 }
 
-/// The answers of a play, which are given one after another.
+/// Answers that are given one after another.
 #[derive(Drop)]
 pub struct Answers<'a> {
     answers: &'a [String],
