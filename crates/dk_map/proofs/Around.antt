@@ -58,6 +58,11 @@ module _ {K V : Type 0} (R : K → K → Ordering) where
   above_from x [] h = tt
   above_from x (e ∷ es) h = (less _ (first _ _ h), above_from x es (second _ _ h))
 
+  -- the end of entries in order is in order
+  pub ordered_after : (l m : List (K × V)) → IsOrdered R (l ++ m) → IsOrdered R m
+  ordered_after [] m h = h
+  ordered_after (x ∷ l) m h = ordered_after l m (second _ _ h)
+
   below_front : (x : K) (l m : List (K × V)) → T (below_all R x (l ++ m)) → T (below_all R x l)
   below_front x [] m h = tt
   below_front x (e ∷ l) m h = both _ _ (first _ _ h) (below_front x l m (second _ _ h))

@@ -1,11 +1,13 @@
 pub mod Around
 pub mod Changed
 pub mod Counts
+pub mod Floor
 pub mod Heights
 pub mod Keys
 pub mod Maps
 pub mod Next
 pub mod PutBack
+pub mod Puts
 pub mod Seen
 pub mod Top
 pub mod Turns

@@ -140,11 +140,13 @@ impl<K: Ord + Drop, V: Drop> OrderedMap<K, V> {
         ensures ordered { IsOrdered K.cmp self.new.entries }
     {
         prove!(self.tree.height() < 128);
-        let old = self.tree.insert(key, value, &mut self.cells);
-        if old.is_none() {
+        let mut entry = Some((key, value));
+        self.tree.insert(&mut entry, &mut self.cells);
+        let Some((_, old)) = entry else {
             self.len += 1;
-        }
-        old
+            return None;
+        };
+        Some(old)
     }
 
     /// Changes the value at a key where it stands, if there is one, and gives what the change answers. Nothing is moved.

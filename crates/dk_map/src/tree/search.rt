@@ -2,6 +2,7 @@
 ghost use Rattle.std.specs.Prelude.{◌≡◌, ◌+◌, ◌≤◌, ◌++◌, map, length, None, Some, vec_len, vec_capacity};
 ghost use Rattle.std.specs.Option.{option_map, option_copied, option_or};
 ghost use Rattle.dk_map.specs.Entries.{find, IsOrdered, first_entry, first_above};
+ghost use Rattle.dk_map.specs.Floor.{IsFloor};
 
 use super::Tree;
 use std::cmp::Ordering;
@@ -11,15 +12,32 @@ impl<K: Ord, V> Tree<K, V> {
         requires { IsOrdered K.cmp self.now.0 }
         ensures { option_copied result ≡ find K.cmp key.now self.now.0 }
     {
-        let mut tree = self;
-        'descent: while let Some(node) = tree.node() {
-            tree = match key.cmp(&node.key) {
-                Ordering::Less => &node.left,
-                Ordering::Equal => return Some(&node.value),
-                Ordering::Greater => &node.right,
-            };
+        let Some((found, value)) = self.floor(key) else {
+            return None;
+        };
+        if let Ordering::Equal = key.cmp(found) {
+            Some(value)
+        } else {
+            None
         }
-        None
+    }
+
+    /// The last entry whose key is not above a key. Keys are compared once a level.
+    fn floor(&self, key: &K) -> Option<(&K, &V)>
+        requires { IsOrdered K.cmp self.now.0 }
+        ensures { IsFloor K.cmp key.now self.now.0 (option_map (λ e. (e.0.now, e.1.now)) result) }
+    {
+        let mut tree = self;
+        let mut nearest = None;
+        'descent: while let Some(node) = tree.node() {
+            if let Ordering::Less = key.cmp(&node.key) {
+                tree = &node.left;
+            } else {
+                nearest = Some((&node.key, &node.value));
+                tree = &node.right;
+            }
+        }
+        nearest
     }
 
     pub(crate) fn above(&self, key: &K) -> Option<(&K, &V)>
