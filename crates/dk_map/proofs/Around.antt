@@ -30,6 +30,12 @@ less Less p = refl
 less Equal p = absurd p
 less Greater p = absurd p
 
+-- what is neither below nor above ties
+pub only_equal : (o : Ordering) → (o ≡ Less → ⊥) → (o ≡ Greater → ⊥) → o ≡ Equal
+only_equal Less n m = absurd (n refl)
+only_equal Equal n m = refl
+only_equal Greater n m = absurd (m refl)
+
 -- each list beside an element is shorter than the whole
 shorter_sides : {X : Type 0} (l : List X) (e : X) (r : List X) → (length l < length (l ++ e ∷ r)) × (length r < length (l ++ e ∷ r))
 shorter_sides l e r = omega (arith, length-append l (e ∷ r))
@@ -140,7 +146,7 @@ module _ {K V : Type 0} (R : K → K → Ordering) where
       ]
 
   -- an entry goes past keys below it
-  put_below : (k : K) (v : V) (l m : List (K × V)) → AllBelow R k l → put R k v (l ++ m) ≡ l ++ put R k v m
+  pub put_below : (k : K) (v : V) (l m : List (K × V)) → AllBelow R k l → put R k v (l ++ m) ≡ l ++ put R k v m
   put_below k v [] m a = refl
   put_below k v (x ∷ l) m a = ap (λ c. by_order c ((k, v) ∷ x ∷ (l ++ m)) ((x.0, v) ∷ (l ++ m)) (x ∷ put R k v (l ++ m))) a.0 ∙ ap (λ t. x ∷ t) (put_below k v l m a.1)
 

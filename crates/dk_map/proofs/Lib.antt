@@ -1,11 +1,14 @@
 pub mod Around
+pub mod Blocks
 pub mod Changed
 pub mod Counts
+pub mod Forks
 pub mod Heights
 pub mod Keys
 pub mod Maps
 pub mod Next
 pub mod PutBack
+pub mod Puts
 pub mod Seen
 pub mod Top
 pub mod Turns

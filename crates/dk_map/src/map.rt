@@ -5,7 +5,8 @@ ghost use Rattle.std.specs.declared.cmp.Ordering.TheVariants.{Equal};
 ghost use Rattle.std.specs.Fn.{FnOnceReturnsAtMut};
 ghost use Rattle.dk_map.specs.Entries.{find, put, without, first_entry, entry_after, IsOrdered, IsChanged};
 
-use crate::tree::{Cell, Tree};
+use crate::tree::room::Room;
+use crate::tree::{LEAST, MOST, Tree};
 use std::alloc::{AllocError, Global};
 use std::marker::Model;
 
@@ -14,22 +15,26 @@ use std::marker::Model;
 pub struct OrderedMap<K: Ord, V> {
     tree: Tree<K, V>,
     len: usize,
-    cells: Vec<Cell<K, V>>,
+    spare: usize,
+    // How many blocks there are, those of the tree and those that wait in `rooms`.
+    made: usize,
+    rooms: Vec<Room<K, V>>,
     alloc: Global,
 }
 
 impl<K: Ord, V> Model for OrderedMap<K, V> {
-    ghost use Rattle.std.specs.Prelude.{◌≡◌, ◌+◌, ◌≤◌, length, vec_len, vec_capacity};
     ghost use Rattle.dk_map.specs.OrderedMap.{Ordered, ordered_code};
-    ghost use Rattle.dk_map.specs.Entries.{IsOrdered};
 
     ghost Value = { Ordered K V };
 
     ghost coded = { ordered_code K.code V.code };
 
-    ghost view = { λ a. record { entries = a.tree.0; spare = vec_len a.cells } };
+    ghost use Rattle.std.specs.Prelude.{vec_len, vec_capacity};
+    ghost use Rattle.dk_map.specs.Room.{IsStored};
 
-    ghost invariant = { λ a. IsOrdered K.cmp a.tree.0 × (a.len ≡ length a.tree.0) × (a.len + vec_len a.cells ≤ vec_capacity a.cells) };
+    ghost view = { λ a. record { entries = a.tree.0; spare = a.spare } };
+
+    ghost invariant = { λ a. IsStored K.cmp a.tree a.len a.spare a.made (vec_len a.rooms) (vec_capacity a.rooms) };
 }
 
 impl<K: Ord, V> OrderedMap<K, V> {
@@ -39,9 +44,11 @@ impl<K: Ord, V> OrderedMap<K, V> {
         ensures spare { result.spare ≡ 0 }
     {
         OrderedMap {
-            tree: Tree::leaf(),
+            tree: Tree::vacant(),
             len: 0,
-            cells: Vec::new(alloc),
+            spare: 0,
+            made: 0,
+            rooms: Vec::new(alloc),
             alloc,
         }
     }
@@ -66,7 +73,7 @@ impl<K: Ord, V> OrderedMap<K, V> {
     pub fn spare(&self) -> usize
         ensures { result ≡ self.now.spare }
     {
-        self.cells.len()
+        self.spare
     }
 
     /// The value at a key.
@@ -119,15 +126,21 @@ impl<K: Ord + Drop, V: Drop> OrderedMap<K, V> {
         ensures had_room { more ≤ self.old.spare → (self.new ≡ self.old) × (result ≡ Ok tt) }
         ensures refused { OnErr result (self.new ≡ self.old) }
     {
-        let had = self.cells.len();
-        if more <= had {
+        if more <= self.spare {
             return Ok(());
         }
-        let Some(total) = self.len.checked_add(more - had) else {
+        let Some(total) = total(self.len, more) else {
             return Err(AllocError);
         };
-        self.cells.reserve(total)?;
-        fill(&mut self.cells, self.alloc, more)
+        let made = (total + 1) / LEAST + 1;
+        if made > self.made {
+            let waiting = self.rooms.len();
+            self.rooms.reserve(made - waiting)?;
+            fill(&mut self.rooms, self.alloc, waiting + (made - self.made))?;
+            self.made = made;
+        }
+        self.spare = more;
+        Ok(())
     }
 
     /// Puts a value at a key. At a new key it uses one of `spare`, and no memory. At a key that is there it gives
@@ -140,9 +153,11 @@ impl<K: Ord + Drop, V: Drop> OrderedMap<K, V> {
         ensures ordered { IsOrdered K.cmp self.new.entries }
     {
         prove!(self.tree.height() < 128);
-        let old = self.tree.insert(key, value, &mut self.cells);
+        let mut entry = Some((key, value));
+        let old = self.tree.insert(&mut entry, &mut self.rooms);
         if old.is_none() {
             self.len += 1;
+            self.spare -= 1;
         }
         old
     }
@@ -169,35 +184,51 @@ impl<K: Ord + Drop, V: Drop> OrderedMap<K, V> {
             return None;
         }
         prove!(self.tree.height() < 128);
-        let removed = self.tree.remove(key, &mut self.cells);
+        let removed = self.tree.remove(key, &mut self.rooms);
         if removed.is_some() {
             self.len -= 1;
+            self.spare += 1;
         }
         removed
     }
 }
 
-/// Adds empty cells until there are `most`. Where memory is refused the list is as it was.
+/// How many entries a map is to have room for, if that many can be counted.
+fn total(len: usize, more: usize) -> Option<usize>
+    ensures { IfSome result (λ n. (n ≡ len + more) × (n < 2 ^ 63)) }
+{
+    let total = len.checked_add(more)?;
+    if total < 1 << 63 { Some(total) } else { None }
+}
+
+/// Adds rooms until there are `most`. Where memory is refused the list is as it was.
 fn fill<K: Drop, V: Drop>(
-    cells: &mut Vec<Cell<K, V>>,
+    rooms: &mut Vec<Room<K, V>>,
     alloc: Global,
     most: usize,
 ) -> Result<(), AllocError>
-    requires less { vec_len cells.old ≤ most }
-    requires room { most ≤ vec_capacity cells.old }
-    ensures capacity { vec_capacity cells.new ≡ vec_capacity cells.old }
-    ensures filled { OnOk result (vec_len cells.new ≡ most) }
-    ensures refused { OnErr result (vec_len cells.new ≡ vec_len cells.old) }
+    requires less { vec_len rooms.old ≤ most }
+    requires room { most ≤ vec_capacity rooms.old }
+    ensures capacity { vec_capacity rooms.new ≡ vec_capacity rooms.old }
+    ensures filled { OnOk result (vec_len rooms.new ≡ most) }
+    ensures refused { OnErr result (vec_len rooms.new ≡ vec_len rooms.old) }
 {
-    let had = cells.len();
-    'fill: while cells.len() < most {
-        match Box::new(alloc, None) {
-            Ok(cell) => cells.push_reserved(cell),
-            Err(_) => {
-                cells.truncate(had);
-                return Err(AllocError);
+    let had = rooms.len();
+    'fill: while rooms.len() < most {
+        match room(alloc) {
+            Ok(room) => rooms.push_reserved(room),
+            Err(refused) => {
+                rooms.truncate(had);
+                return Err(refused);
             }
         }
     }
     Ok(())
+}
+
+/// A room for a block, and for the fork above it.
+fn room<K: Drop, V: Drop>(alloc: Global) -> Result<Room<K, V>, AllocError> {
+    let row = Vec::with_capacity(alloc, MOST + 1)?;
+    let cell = Box::new(alloc, None)?;
+    Ok(Room::new(row, cell))
 }

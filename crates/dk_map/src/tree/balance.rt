@@ -1,6 +1,6 @@
 // The rotations that keep a tree balanced.
 ghost use Rattle.std.specs.Prelude.{◌≡◌, ◌∷◌, ◌++◌, ◌+◌, ◌-◌, ◌^◌, ◌<◌, ◌≤◌, max};
-ghost use Rattle.dk_map.specs.Balance.{node_entries, node_height, near_height, far_height, on_sides, DifferByAtMost, IsLeaning, IsNearlyAvl, SettlesTo};
+ghost use Rattle.dk_map.specs.Balance.{node_entries, node_height, node_rows, IsPart, near_height, far_height, on_sides, DifferByAtMost, IsLeaning, IsNearlyAvl, SettlesTo};
 
 use super::{Node, Tree};
 use std::mem;
@@ -52,10 +52,13 @@ fn turn<K, V>(side: Side, cell: &mut Option<Node<K, V>>) -> u8
 fn lean<K, V>(side: Side, node: Node<K, V>) -> Node<K, V>
     requires two_higher { near_height side node ≡ far_height side node + 2 }
     requires fits { near_height side node < 2 ^ 8 - 1 }
+    requires parts { IsPart node.left × IsPart node.right }
     ensures entries { node_entries result ≡ node_entries node }
     ensures balanced { DifferByAtMost 1 result.left.1 result.right.1 }
     ensures not_lower { near_height side node ≤ node_height result }
     ensures at_most_one_higher { node_height result ≤ near_height side node + 1 }
+    ensures rows { node_rows result ≡ node_rows node }
+    ensures parts { IsPart result.left × IsPart result.right }
 {
     let (near, key, value, far) = node.apart(side);
     let (cell, upper) = near.open();
@@ -80,6 +83,8 @@ impl<K, V> Node<K, V> {
         ensures entries { node_entries result ≡ on_sides side near.0 (key, value) far.0 }
         ensures height { node_height result ≡ max near.1 far.1 + 1 }
         ensures balanced { DifferByAtMost 1 near.1 far.1 → DifferByAtMost 1 result.left.1 result.right.1 }
+        ensures rows { node_rows result ≡ near.2 + far.2 }
+        ensures parts { IsPart near → IsPart far → IsPart result.left × IsPart result.right }
     {
         let (left, right) = match side {
             Side::Left => (near, far),
@@ -100,6 +105,8 @@ impl<K, V> Node<K, V> {
         ensures far { result.3.1 ≡ far_height side self }
         ensures height { node_height self ≡ max result.0.1 result.3.1 + 1 }
         ensures balanced { DifferByAtMost 1 self.left.1 self.right.1 → DifferByAtMost 1 result.0.1 result.3.1 }
+        ensures rows { node_rows self ≡ result.0.2 + result.3.2 }
+        ensures parts { IsPart self.left → IsPart self.right → IsPart result.0 × IsPart result.3 }
     {
         let Node {
             left,

@@ -1,74 +1,105 @@
-use Rattle.std.proofs.Common.{◌≡◌, ◌∷◌, ◌++◌, refl, sym, ap, ◌∙◌, arith}
-use Rattle.dk_map.proofs.Around.{find_left, find_middle, find_right, without_left, without_middle, without_right, otherwise}
-use Rattle.dk_map.proofs.Top.{has_top, at_top, settled, left_falls, right_falls, same_node}
+use Rattle.std.proofs.Common.{◌≡◌, ◌∷◌, ◌++◌, Some, ◌+◌, ◌<◌, ◌≤◌, length, sym, ap, subst, ◌∙◌, arith}
+use Rattle.dk_map.specs.Balance.{HasFork, IsMended}
+use Rattle.dk_map.proofs.Around.{find_left, find_middle, find_right, without_left, without_middle, without_right}
+use Rattle.dk_map.proofs.Top.{has_top, at_top, has_block, fork_shrinks}
 use Rattle.dk_map.proofs.tree.Tree.+remove.Goals as goal
-use Rattle.dk_map.proofs.tree.Tree.+remove.Goals.{in-Less, in_default-order-2}
+use Rattle.dk_map.proofs.tree.Tree.+remove.Goals.{in-Less, in-Greater, in-Equal}
 
 pub remove-removed-requires : goal.remove-removed-requires
 remove-removed-requires g t c κs within =
-    let top = has_top c.self.view_is c.self.invariant c.in-Some-root.is c.deref_mut-in-Some-root.ensures.value c.in-Some-deref_mut.is in
+    let top = has_top c.self.view_is c.self.invariant c.in-Fork.is c.deref_mut.ensures.value c.in-Some.is in
     let a = at_top g.met.K.Ord.total top c.requires.ordered in
-    (omega (arith, a.shorter), (within.0, (within.1, (a.left, (c.requires.room, omega (arith, top.height, c.requires.fits))))))
+    (omega (arith, a.shorter), (within.0, (within.1, (a.left, (omega (arith, top.rows, c.requires.room), omega (arith, top.height, c.requires.fits))))))
 
-pub remove-removed-requires-in_default-order-2 : goal.remove-removed-requires-in_default-order-2
-remove-removed-requires-in_default-order-2 g t c κs within =
-    let top = has_top c.self.view_is c.self.invariant c.in-Some-root.is c.deref_mut-in-Some-root.ensures.value c.in-Some-deref_mut.is in
+pub remove-removed-requires-in-Greater : goal.remove-removed-requires-in-Greater
+remove-removed-requires-in-Greater g t c κs within =
+    let top = has_top c.self.view_is c.self.invariant c.in-Fork.is c.deref_mut.ensures.value c.in-Some.is in
     let a = at_top g.met.K.Ord.total top c.requires.ordered in
-    (omega (arith, a.shorter), (within.0, (within.1, (a.right, (c.requires.room, omega (arith, top.height, c.requires.fits))))))
+    (omega (arith, a.shorter), (within.0, (within.1, (a.right, (omega (arith, top.rows, c.requires.room), omega (arith, top.height, c.requires.fits))))))
 
-pub returns-in-Equal-clause-value : goal.returns-in-Equal-clause-value
-returns-in-Equal-clause-value g t c =
+pub returns-after-cmp-clause-value : goal.returns-after-cmp-clause-value
+returns-after-cmp-clause-value g t c =
     let o = g.met.K.Ord.total in
-    let a = at_top o (has_top c.self.view_is c.self.invariant c.in-Some.is c.deref.ensures c.in-Some-deref.is) c.requires.ordered in
-    let p = c.in-Some-replace.ensures in
-    let q = c.in-Some-replace-2.ensures in
-    let same : c.in-Some-replace-2.node ≡ c.in-Some-deref.node = cc in
-    rw same (sym (find_middle o a _ (sym c.cmp-order.ensures ∙ c.in-Equal.is)))
-
-pub returns-in-Equal-clause-entries : goal.returns-in-Equal-clause-entries
-returns-in-Equal-clause-entries g t c =
-    let o = g.met.K.Ord.total in
-    let a = at_top o (has_top c.self.view_is c.self.invariant c.in-Some.is c.deref.ensures c.in-Some-deref.is) c.requires.ordered in
-    let p = c.in-Some-replace.ensures in
-    let q = c.in-Some-replace-2.ensures in
-    let same : c.in-Some-replace-2.node ≡ c.in-Some-deref.node = cc in
-    ap (λ d. d.0) c.join-in-Equal.view_is ∙ c.join.ensures.entries ∙ ap (λ n. n.left.0 ++ n.right.0) same ∙ sym (without_middle o a _ (sym c.cmp-order.ensures ∙ c.in-Equal.is))
-
-pub returns : goal.returns
-returns g t c =
-    let o = g.met.K.Ord.total in
-    let n = c.in-Some-deref_mut.node in
-    let same : c.in-Some-deref.node ≡ c.in-Some-deref_mut.node = same_node c.in-Some.is c.deref.ensures c.in-Some-deref.is c.in-Some-root.is c.deref_mut-in-Some-root.ensures.value c.in-Some-deref_mut.is in
-    let top = has_top c.self.view_is c.self.invariant c.in-Some-root.is c.deref_mut-in-Some-root.ensures.value c.in-Some-deref_mut.is in
+    let top = has_top c.self.view_is c.self.invariant c.in-Fork.is c.deref_mut.ensures.value c.in-Some.is in
     let a = at_top o top c.requires.ordered in
-    let cmp = c.cmp-order.ensures ∙ ap (λ m. g.K.Ord.cmp c.args.key.now m.key) same in
-    elim c.match-order-2.branch [
+    elim c.match-cmp.branch [
+      | in-Less w ↦ rw w.removed-is (w.remove-removed.ensures.value ∙ sym (find_left o a _ (sym c.cmp.ensures ∙ w.in-Less.is)))
+      | in-Greater w ↦ rw w.removed-is (w.remove-removed-in-Greater.ensures.value ∙ sym (find_right o a _ (sym c.cmp.ensures ∙ w.in-Greater.is)))
+      | in-Equal w ↦ rw w.removed-is (ap Some w.replace-in-Equal.ensures.value ∙ sym (find_middle o a _ (sym c.cmp.ensures ∙ w.in-Equal.is)))
+    ]
+
+pub returns-after-cmp-clause-entries : goal.returns-after-cmp-clause-entries
+returns-after-cmp-clause-entries g t c =
+    let o = g.met.K.Ord.total in
+    let n = c.in-Some.node in
+    let top = has_top c.self.view_is c.self.invariant c.in-Fork.is c.deref_mut.ensures.value c.in-Some.is in
+    let a = at_top o top c.requires.ordered in
+    let new = c.mend-self-inside.new.root in
+    let h = c.mend-self-inside.result in
+    elim c.match-cmp.branch [
       | in-Less w ↦
-          let e = w.remove-removed.ensures in
-          let p = sym cmp ∙ w.in-Less.is in
-          let s = settled _ _ _ c.settle-self-inside.ensures c.deref_mut-in-Some-deref_mut.ensures.value w.cell-is refl in
-          let falls = left_falls n.left.1 n.right.1 _ _ top.balanced e.not_higher e.at_most_one_lower s.2 in
-          record {
-            value = rw w.removed-is (e.value ∙ sym (find_left o a _ p));
-            same_key = rw w.removed-is e.same_key;
-            entries = s.1 ∙ ap (λ l. l ++ (n.key, n.value) ∷ n.right.0) e.entries ∙ sym (without_left o a _ p);
-            spare = rw (w.removed-is, w.spare-is) e.spare;
-            capacity = rw w.spare-is e.capacity;
-            not_higher = rw top.height falls.0;
-            at_most_one_lower = rw top.height falls.1;
-          }
-      | in_default-order-2 w ↦
-          let e = w.remove-removed-in_default-order-2.ensures in
-          let p = otherwise o a _ (λ q. w.in_default-order-2.not-Less (cmp ∙ q)) (λ q. c.in_default-order.not-Equal (cmp ∙ q)) in
-          let s = settled _ _ _ c.settle-self-inside.ensures c.deref_mut-in-Some-deref_mut.ensures.value w.cell-is refl in
-          let falls = right_falls n.left.1 n.right.1 _ _ top.balanced e.not_higher e.at_most_one_lower s.2 in
-          record {
-            value = rw w.removed-is (e.value ∙ sym (find_right o a _ p));
-            same_key = rw w.removed-is e.same_key;
-            entries = s.1 ∙ ap (λ r. n.left.0 ++ (n.key, n.value) ∷ r) e.entries ∙ sym (without_right o a _ p);
-            spare = rw (w.removed-is, w.spare-is) e.spare;
-            capacity = rw w.spare-is e.capacity;
-            not_higher = rw top.height falls.0;
-            at_most_one_lower = rw top.height falls.1;
-          }
+          let m = subst (λ s. HasFork (λ n'. IsMended n' new h) s.root) w.self-inside-is c.mend-self-inside.ensures.mended in
+          m.entries ∙ ap (λ l. l ++ (n.key, n.value) ∷ n.right.0) w.remove-removed.ensures.entries ∙ sym (without_left o a _ (sym c.cmp.ensures ∙ w.in-Less.is))
+      | in-Greater w ↦
+          let m = subst (λ s. HasFork (λ n'. IsMended n' new h) s.root) w.self-inside-is c.mend-self-inside.ensures.mended in
+          m.entries ∙ ap (λ r. n.left.0 ++ (n.key, n.value) ∷ r) w.remove-removed-in-Greater.ensures.entries ∙ sym (without_right o a _ (sym c.cmp.ensures ∙ w.in-Greater.is))
+      | in-Equal w ↦
+          let m = subst (λ s. HasFork (λ n'. IsMended n' new h) s.root) w.self-inside-is c.mend-self-inside.ensures.mended in
+          let r = w.take_first-key.new.self.0 in
+          m.entries ∙ ap (λ k. n.left.0 ++ (k, w.replace-in-Equal.new.dest) ∷ r) w.replace.ensures.after
+          ∙ ap (λ v. n.left.0 ++ (w.take_first-key.result.0, v) ∷ r) w.replace-in-Equal.ensures.after
+          ∙ ap (λ l. n.left.0 ++ l) (sym w.take_first-key.ensures.entries) ∙ sym (without_middle o a _ (sym c.cmp.ensures ∙ w.in-Equal.is))
+    ]
+
+pub returns-after-cmp-clause-blocks : goal.returns-after-cmp-clause-blocks
+returns-after-cmp-clause-blocks g t c =
+    let new = c.mend-self-inside.new.root in
+    let h = c.mend-self-inside.result in
+    elim c.match-cmp.branch [
+      | in-Less w ↦
+          let m = subst (λ s. HasFork (λ n'. IsMended n' new h) s.root) w.self-inside-is c.mend-self-inside.ensures.mended in
+          λ _. has_block _ _ _ _ _ m.sound m.entries
+      | in-Greater w ↦
+          let m = subst (λ s. HasFork (λ n'. IsMended n' new h) s.root) w.self-inside-is c.mend-self-inside.ensures.mended in
+          λ _. has_block _ _ _ _ _ m.sound m.entries
+      | in-Equal w ↦
+          let m = subst (λ s. HasFork (λ n'. IsMended n' new h) s.root) w.self-inside-is c.mend-self-inside.ensures.mended in
+          λ _. has_block _ _ _ _ _ m.sound m.entries
+    ]
+
+pub returns-after-cmp-clause-shrinks : goal.returns-after-cmp-clause-shrinks
+returns-after-cmp-clause-shrinks g t c =
+    let top = has_top c.self.view_is c.self.invariant c.in-Fork.is c.deref_mut.ensures.value c.in-Some.is in
+    let new = c.mend-self-inside.new.root in
+    let h = c.mend-self-inside.result in
+    elim c.match-cmp.branch [
+      | in-Less w ↦
+          let m = subst (λ s. HasFork (λ n'. IsMended n' new h) s.root) w.self-inside-is c.mend-self-inside.ensures.mended in
+          (fork_shrinks top _ _ _ _ m.entries (omega (arith, w.remove-removed.ensures.shrinks))).0
+      | in-Greater w ↦
+          let m = subst (λ s. HasFork (λ n'. IsMended n' new h) s.root) w.self-inside-is c.mend-self-inside.ensures.mended in
+          (fork_shrinks top _ _ _ _ m.entries (omega (arith, w.remove-removed-in-Greater.ensures.shrinks))).0
+      | in-Equal w ↦
+          let m = subst (λ s. HasFork (λ n'. IsMended n' new h) s.root) w.self-inside-is c.mend-self-inside.ensures.mended in
+          (fork_shrinks top _ _ _ _ m.entries (omega (arith, ap length w.take_first-key.ensures.entries))).0
+    ]
+
+pub returns-after-cmp-clause-short : goal.returns-after-cmp-clause-short
+returns-after-cmp-clause-short g t c =
+    let top = has_top c.self.view_is c.self.invariant c.in-Fork.is c.deref_mut.ensures.value c.in-Some.is in
+    let new = c.mend-self-inside.new.root in
+    let h = c.mend-self-inside.result in
+    elim c.match-cmp.branch [
+      | in-Less w ↦
+          let m = subst (λ s. HasFork (λ n'. IsMended n' new h) s.root) w.self-inside-is c.mend-self-inside.ensures.mended in
+          let enough = (fork_shrinks top _ _ _ _ m.entries (omega (arith, w.remove-removed.ensures.shrinks))).1 in
+          λ less _. absurd (omega (arith, less, enough))
+      | in-Greater w ↦
+          let m = subst (λ s. HasFork (λ n'. IsMended n' new h) s.root) w.self-inside-is c.mend-self-inside.ensures.mended in
+          let enough = (fork_shrinks top _ _ _ _ m.entries (omega (arith, w.remove-removed-in-Greater.ensures.shrinks))).1 in
+          λ less _. absurd (omega (arith, less, enough))
+      | in-Equal w ↦
+          let m = subst (λ s. HasFork (λ n'. IsMended n' new h) s.root) w.self-inside-is c.mend-self-inside.ensures.mended in
+          let enough = (fork_shrinks top _ _ _ _ m.entries (omega (arith, ap length w.take_first-key.ensures.entries))).1 in
+          λ less _. absurd (omega (arith, less, enough))
     ]
