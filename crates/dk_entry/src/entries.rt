@@ -139,9 +139,21 @@ pub fn decode_entries(
     requires { IsFormat format }
     ensures { Decodes (AreEntries format) entries_spelling (entries_at format) payload.now result }
 {
+    entries_of(alloc, payload.as_slice(), format)
+}
+
+/// The same, of bytes that stand somewhere.
+pub fn entries_of(
+    alloc: Global,
+    payload: &[u8],
+    format: u16,
+) -> Result<Listed<Entry>, PayloadRefused>
+    requires { IsFormat format }
+    ensures { Decodes (AreEntries format) entries_spelling (entries_at format) payload.now result }
+{
     if format == 1 {
-        decode::<Listed<Entry>, EntriesForm<FirstFormat>>(alloc, payload.as_slice())
+        decode::<Listed<Entry>, EntriesForm<FirstFormat>>(alloc, payload)
     } else {
-        decode::<Listed<Entry>, EntriesForm<SecondFormat>>(alloc, payload.as_slice())
+        decode::<Listed<Entry>, EntriesForm<SecondFormat>>(alloc, payload)
     }
 }

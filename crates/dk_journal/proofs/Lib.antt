@@ -6,6 +6,7 @@ pub mod Gates
 pub mod Falling
 pub mod Steps
 pub mod Scans
+pub mod Parts
 pub mod Blanks
 pub mod HeaderBytes
 pub mod Lookings

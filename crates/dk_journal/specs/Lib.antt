@@ -1,6 +1,7 @@
 pub mod Moments
 pub mod Standing
 pub mod Scanning
+pub mod Windows
 pub mod Headers
 pub mod Refusals
 pub mod Opened

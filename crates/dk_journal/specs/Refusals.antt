@@ -27,6 +27,14 @@ IsOpenFault (NotAStore at) = ⊤
 IsOpenFault (Damaged at) = ⊥
 IsOpenFault NoMemory = ⊥
 
+-- of reading bytes into memory
+abbrev pub IsWindowFault : JournalRefused → Type 0
+IsWindowFault DiskFault = ⊤
+IsWindowFault (Full length) = ⊥
+IsWindowFault (NotAStore at) = ⊥
+IsWindowFault (Damaged at) = ⊥
+IsWindowFault NoMemory = ⊤
+
 -- of reading a record
 abbrev pub IsScanFault : JournalRefused → Type 0
 IsScanFault DiskFault = ⊤

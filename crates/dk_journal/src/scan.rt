@@ -1,5 +1,5 @@
 //! Reading a journal's payloads back.
-ghost use Rattle.std.specs.Prelude.{◌≡◌, ◌+◌, ◌<◌, ◌≤◌, ◌^◌, ℕ, List, [], ◌∷◌, ◌++◌, length, take, drop, Ok, None, IfOk, OnOk, OnErr, IfErr, IsErrOf, IfSome, IsTrue};
+ghost use Rattle.std.specs.Prelude.{◌≡◌, ◌+◌, ◌<◌, ◌≤◌, ◌^◌, ℕ, List, [], ◌∷◌, ◌++◌, length, take, drop, Ok, None, IfOk, OnOk, OnErr, IfErr, IsErrOf, IfSome, IsTrue, true, false};
 ghost use Rattle.dk_types.specs.Faults.{HasRisen};
 ghost use Rattle.dk_disk.specs.Opening.{IsOpen};
 ghost use Rattle.dk_disk.specs.DiskHistories.{now, Stays};
@@ -8,11 +8,13 @@ ghost use Rattle.dk_model.specs.Entries.{IsFormat};
 ghost use Rattle.dk_model.specs.Stores.{Reads};
 ghost use Rattle.dk_journal.specs.Moments.{Looks};
 ghost use Rattle.dk_journal.specs.Scanning.{IsScanned, IsCutOff};
+ghost use Rattle.dk_journal.specs.Windows.{IsWindowOf, HasPayload, payload_of};
 ghost use Rattle.dk_journal.specs.Refusals.{IsScanFault};
 ghost use Rattle.dk_journal.specs.declared.refused.JournalRefused.TheVariants.{DiskFault, Damaged};
 
 use crate::journal::Journal;
 use crate::refused::JournalRefused;
+use crate::window::Window;
 use byteorder::{BigEndian, ByteOrder};
 use dk_disk::Home;
 use dk_types::{Blob, Failed, Side};
@@ -74,8 +76,9 @@ pub(crate) fn byte_at<M: Home>(home: &mut M, side: Side, at: u64) -> Result<u8, 
     Ok(byte[0])
 }
 
-// The number that these bytes spell.
-fn number_of(field: &[u8; 4]) -> u32
+// The number that these four bytes spell.
+fn number_of(field: &[u8]) -> u32
+    requires { length field.now ≡ 4 }
     ensures { u32_spelling result ≡ field.now }
 {
     BigEndian::read_u32(field)
@@ -194,7 +197,52 @@ impl Scan {
         Ok(Some(payload))
     }
 
-    /// The journal that the scan has come to the end of: for a scan that answered `None`.
+    /// Reads the next payload into a window, or answers `false` at the gate that ends the journal. It is called while the
+    /// file is as it was at `open`, with a window of that file. A refusal leaves the scan.
+    pub fn next_in<M: Home>(
+        &mut self,
+        home: &mut M,
+        window: &mut Window,
+    ) -> Result<bool, JournalRefused>
+        requires is_open { IsOpen (M.opening home.old) }
+        requires whole { IsTrue M.tells → self.old.end ≡ length (now (M.past home.old) self.old.side).reads }
+        requires window { IsTrue M.tells → IsWindowOf window.old (now (M.past home.old) self.old.side).reads }
+        ensures some { IsTrue M.tells → result ≡ Ok true → (header : List ℕ) (done : List (List ℕ)) → IsScanned (now (M.past home.old) self.old.side).reads header done self.old.at self.old.end → IsScanned (now (M.past home.old) self.old.side).reads header (done ++ payload_of window.new ∷ []) self.new.at self.new.end }
+        ensures none { IsTrue M.tells → result ≡ Ok false → (header : List ℕ) (done : List (List ℕ)) → IsScanned (now (M.past home.old) self.old.side).reads header done self.old.at self.old.end → Reads (now (M.past home.old) self.old.side).reads header done }
+        ensures ended { result ≡ Ok false → self.new ≡ self.old }
+        ensures further { result ≡ Ok true → self.old.at < self.new.at }
+        ensures same { (self.new.side ≡ self.old.side) × (self.new.end ≡ self.old.end) × (self.new.epoch ≡ self.old.epoch) × (self.new.format ≡ self.old.format) }
+        ensures there { result ≡ Ok true → HasPayload window.new }
+        ensures window { IsTrue M.tells → IsWindowOf window.new (now (M.past home.old) self.old.side).reads }
+
+        // An error has a cause, and leaves the scan.
+        ensures damaged { IsTrue M.tells → (at : ℕ) → IsErrOf result (Damaged at) → (at ≡ self.old.at) × IsCutOff (now (M.past home.old) self.old.side).reads at }
+        ensures cause { IsErrOf result DiskFault → HasRisen (M.counted home.old) (M.counted home.new) }
+        ensures steady { (IsErrOf result DiskFault → ⊥) → M.counted home.new ≡ M.counted home.old }
+        ensures only { IfErr result IsScanFault }
+        ensures refused { OnErr result (self.new ≡ self.old) }
+        ensures looks { IsTrue M.tells → Looks (M.past home.old) (M.past home.new) }
+        ensures opening { M.opening home.new ≡ M.opening home.old }
+    {
+        window.hold(home, self.side, self.at, self.end, 1)?;
+        if window.part(self.at, 1)[0] != 1 {
+            return Ok(false);
+        }
+        if self.end - self.at < 6 {
+            return Err(JournalRefused::Damaged { at: self.at });
+        }
+        window.hold(home, self.side, self.at + 1, self.end, 4)?;
+        let size = number_of(window.part(self.at + 1, 4));
+        if self.end - self.at - 6 < u64::from(size) {
+            return Err(JournalRefused::Damaged { at: self.at });
+        }
+        window.hold(home, self.side, self.at + 5, self.end, size as usize)?;
+        window.mark(self.at + 5, size as usize);
+        self.at += 5 + u64::from(size);
+        Ok(true)
+    }
+
+    /// The journal that the scan has come to the end of: for a scan that answered `None` or `false`.
     pub fn journal(self) -> Journal
         ensures length { result.length ≡ self.at + 1 }
         ensures header { (result.side ≡ self.side) × (result.epoch ≡ self.epoch) × (result.format ≡ self.format) }

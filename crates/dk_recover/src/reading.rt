@@ -10,7 +10,7 @@ ghost use Rattle.dk_recover.specs.Bytes.{AreBytes, EachHasBytes};
 ghost use Rattle.dk_recover.specs.declared.world.Unfit.TheVariants.{DoesNotFit};
 
 use crate::world::{Unfit, World};
-use dk_entry::{EntryRefused, decode_entries};
+use dk_entry::{EntryRefused, entries_of};
 use dk_image::{ImageFault, decode_image};
 use dk_types::{Blob, Entry, Listed};
 use std::alloc::Global;
@@ -40,7 +40,7 @@ fn after_entries(mut world: World, entries: Listed<Entry>) -> Result<World, Unfi
 pub fn after_payload(
     alloc: Global,
     world: World,
-    payload: &Blob,
+    payload: &[u8],
     format: u16,
 ) -> Result<World, Unfit>
     requires valid { IsValid world }
@@ -48,8 +48,8 @@ pub fn after_payload(
     ensures fits { IfOk result (λ end_. Takes format world payload.now end_) }
     ensures unfit { result ≡ Err DoesNotFit → (end_ : DurableWorld) → Takes format world payload.now end_ → ⊥ }
 {
-    are_bytes(payload.as_slice());
-    match decode_entries(alloc, payload, format) {
+    are_bytes(payload);
+    match entries_of(alloc, payload, format) {
         Ok(entries) => after_entries(world, entries),
         Err(EntryRefused::NotInGrammar { at: _ }) => Err(Unfit::DoesNotFit),
         Err(EntryRefused::NoMemory) => Err(Unfit::NoMemory),

@@ -9,6 +9,7 @@ ghost use Rattle.dk_model.specs.Stores.{StoreHeader, header_spelling};
 ghost use Rattle.dk_model.specs.Validity.{IsValid};
 ghost use Rattle.dk_journal.specs.Moments.{Looks};
 ghost use Rattle.dk_journal.specs.Scanning.{IsScanned};
+ghost use Rattle.dk_journal.specs.Windows.{IsWindowOf};
 ghost use Rattle.dk_recover.specs.Records.{IsStep, IsFirst, IsWhole, IsFaultOf};
 ghost use Rattle.dk_recover.specs.declared.fault.OpenFault.TheVariants.{DiskFault as FaultOfDisk, Damaged as DamagedAt};
 
@@ -16,7 +17,7 @@ use crate::fault::OpenFault;
 use crate::reading::{after_payload, world_of_image};
 use crate::world::{Unfit, World};
 use dk_disk::Home;
-use dk_journal::{Journal, JournalRefused, Scan};
+use dk_journal::{Journal, JournalRefused, Scan, Window};
 use dk_types::Side;
 use std::alloc::Global;
 
@@ -31,17 +32,19 @@ fn fault_of(refused: JournalRefused, side: Side) -> OpenFault
     }
 }
 
-/// The world after the next record, and whether there was none. It is called while the file is as it was at `open`, with
-/// the world of the records that the scan has read.
+/// The world after the next record, which is read into a window of the file, and whether there was none. It is called
+/// while the file is as it was at `open`, with the world of the records that the scan has read.
 pub fn next_world<M: Home>(
     alloc: Global,
     home: &mut M,
     world: World,
     scan: &mut Scan,
+    window: &mut Window,
     format: u16,
 ) -> Result<(World, bool), OpenFault>
     requires is_open { IsOpen (M.opening home.old) }
     requires whole { IsTrue M.tells → scan.old.end ≡ length (now (M.past home.old) scan.old.side).reads }
+    requires window { IsTrue M.tells → IsWindowOf window.old (now (M.past home.old) scan.old.side).reads }
     requires valid { IsValid world }
     requires format { IsFormat format }
     ensures step { IsTrue M.tells → (header : StoreHeader) (done : List (List ℕ)) → header.format ≡ format → IsScanned (now (M.past home.old) scan.old.side).reads (header_spelling header) done scan.old.at scan.old.end → HasWorld header done world → IsStep (now (M.past home.old) scan.old.side).reads header done scan.new.at scan.new.end result }
@@ -49,6 +52,7 @@ pub fn next_world<M: Home>(
     ensures further { IfOk result (λ r. r.1 ≡ false → scan.old.at < scan.new.at) }
     ensures ended { IfOk result (λ r. r.1 ≡ true → scan.new ≡ scan.old) }
     ensures same { (scan.new.side ≡ scan.old.side) × (scan.new.end ≡ scan.old.end) × (scan.new.epoch ≡ scan.old.epoch) × (scan.new.format ≡ scan.old.format) }
+    ensures window { IsTrue M.tells → IsWindowOf window.new (now (M.past home.old) scan.old.side).reads }
     ensures side { (side : Side) (at : ℕ) → IsErrOf result (DamagedAt side at) → side ≡ scan.old.side }
     ensures steady { (IsErrOf result FaultOfDisk → ⊥) → M.counted home.new ≡ M.counted home.old }
     ensures cause { IsErrOf result FaultOfDisk → HasRisen (M.counted home.old) (M.counted home.new) }
@@ -57,9 +61,9 @@ pub fn next_world<M: Home>(
 {
     let at = scan.at();
     let side = scan.side();
-    match scan.next(alloc, home) {
-        Ok(None) => Ok((world, true)),
-        Ok(Some(payload)) => match after_payload(alloc, world, &payload, format) {
+    match scan.next_in(home, window) {
+        Ok(false) => Ok((world, true)),
+        Ok(true) => match after_payload(alloc, world, window.payload(), format) {
             Ok(next) => Ok((next, false)),
             Err(Unfit::DoesNotFit) => Err(OpenFault::Damaged { side, at }),
             Err(Unfit::NoMemory) => Err(OpenFault::NoMemory),
@@ -90,8 +94,9 @@ pub fn read_records<M: Home>(
     ensures cause { IsErrOf result FaultOfDisk → HasRisen (M.counted home.old) (M.counted home.new) }
     ensures opening { M.opening home.new ≡ M.opening home.old }
 {
+    let mut window = Window::new(alloc);
     'records: loop {
-        let (next, is_last) = next_world(alloc, home, world, &mut scan, format)?;
+        let (next, is_last) = next_world(alloc, home, world, &mut scan, &mut window, format)?;
         world = next;
         if is_last {
             return Ok((world, scan.journal()));

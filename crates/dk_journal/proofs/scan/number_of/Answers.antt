@@ -9,4 +9,4 @@ pub returns : goal.returns
 unfolding u32_spelling
 returns c =
     let same : big_number 4 c.args.field.now ≡ from_be_bytes w32 c.args.field.now = omega arith in
-    be_bytes_4 c.args.field.now c.read_u32.result c.told-field c.fits-field (c.read_u32.ensures ∙ same)
+    be_bytes_4 c.args.field.now c.read_u32.result c.requires (λ i. omega (arith, c.type_inv.field i)) (c.read_u32.ensures ∙ same)

@@ -1,4 +1,4 @@
-use Rattle.std.proofs.Common.{List, subst, ◌∙◌}
+use Rattle.std.proofs.Common.{List, subst}
 use Rattle.dk_types.specs.declared.durable.Entry.{Entry}
 use Rattle.dk_model.specs.Recovered.{Follow}
 use Rattle.dk_recover.specs.Bytes.{AreBytes}
@@ -9,7 +9,7 @@ pub after_entries-requires-clause-entries : goal.after_entries-requires-clause-e
 after_entries-requires-clause-entries c = second_entries c.args.format c.requires.format c.in-Ok.entries c.in-Ok.ensures.0
 
 pub after_entries-requires-clause-bytes : goal.after_entries-requires-clause-bytes
-after_entries-requires-clause-bytes c = entries_bytes c.in-Ok.entries (subst AreBytes (c.as_slice.ensures ∙ c.in-Ok.ensures.1) c.are_bytes.ensures)
+after_entries-requires-clause-bytes c = entries_bytes c.in-Ok.entries (subst AreBytes c.in-Ok.ensures.1 c.are_bytes.ensures)
 
 pub returns-in-Ok-clause-unfit : goal.returns-in-Ok-clause-unfit
 returns-in-Ok-clause-unfit c wrong last takes =

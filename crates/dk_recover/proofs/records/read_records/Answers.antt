@@ -5,6 +5,7 @@ use Rattle.dk_disk.specs.Opening.{IsOpen}
 use Rattle.dk_disk.specs.DiskHistories.{now}
 use Rattle.dk_model.specs.Stores.{Reads, header_spelling}
 use Rattle.dk_journal.specs.Scanning.{IsScanned}
+use Rattle.dk_journal.specs.Windows.{IsWindowOf}
 use Rattle.dk_journal.specs.declared.scan.Scan.{Scan}
 use Rattle.dk_journal.proofs.Going.{looks_on, looks_now}
 use Rattle.dk_recover.specs.Records.{IsStepOf}
@@ -40,6 +41,7 @@ records-preserved g c =
       is_open = subst IsOpen (sym e.opening) inv.is_open;
       opening = e.opening ∙ inv.opening;
       whole = λ tells. e.same.1 ∙ inv.whole tells ∙ sym (ap (λ (s : Side). length (now new s).reads) e.same.0 ∙ ap (λ (d : Disk). length d.reads) (looks_now here new (e.looks tells) c.records.scan.side));
+      window = λ tells. subst (IsWindowOf c.next_world.new.window) (sym (ap (λ (s : Side). (now new s).reads) e.same.0 ∙ ap (λ (d : Disk). d.reads) (looks_now here new (e.looks tells) c.records.scan.side))) (e.window tells);
       valid = e.valid;
       side = e.same.0 ∙ inv.side;
       header = (e.same.2 ∙ inv.header.0, e.same.3 ∙ inv.header.1);

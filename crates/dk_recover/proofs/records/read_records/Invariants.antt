@@ -6,6 +6,7 @@ use Rattle.dk_model.specs.Stores.{StoreHeader, header_spelling}
 use Rattle.dk_model.specs.Validity.{IsValid}
 use Rattle.dk_journal.specs.Moments.{Looks}
 use Rattle.dk_journal.specs.Scanning.{IsScanned}
+use Rattle.dk_journal.specs.Windows.{IsWindowOf}
 use Rattle.dk_recover.proofs.records.read_records.Given as goal
 
 -- the records that were read so far have the world so far
@@ -14,6 +15,7 @@ invariant-records g l = record {
   is_open : IsOpen (g.M.Home.opening l.home);
   opening : g.M.Home.opening l.home ≡ g.M.Home.opening l.fn.home;
   whole : IsTrue g.M.Home.tells → l.scan.end ≡ length (now (g.M.Home.past l.home) l.scan.side).reads;
+  window : IsTrue g.M.Home.tells → IsWindowOf l.window (now (g.M.Home.past l.home) l.scan.side).reads;
   valid : IsValid l.world;
   side : l.scan.side ≡ l.fn.scan.side;
   header : (l.scan.epoch ≡ l.fn.scan.epoch) × (l.scan.format ≡ l.fn.scan.format);
