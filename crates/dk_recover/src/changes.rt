@@ -1,8 +1,8 @@
 //! Changes of an ordered map by lists, which are tested on the way: what goes is to be there, what is set is to differ from
 //! what is there, and nothing is to go and be set.
-ghost use Rattle.std.specs.Prelude.{◌≡◌, ◌≤◌, true, not, length, Some, Ok, IfOk, vec_len};
+ghost use Rattle.std.specs.Prelude.{◌≡◌, ◌<◌, ◌≤◌, ◌+◌, true, not, length, Some, Ok, IfOk, vec_len};
 ghost use Rattle.dk_types.specs.Values.{same_value};
-ghost use Rattle.dk_map.specs.Entries.{find, IsOrdered};
+ghost use Rattle.dk_map.specs.Entries.{find, put, IsOrdered};
 ghost use Rattle.dk_recover.specs.Changes.{with_put, without_all, all_differ as differ_all, all_there as there_all, none_there as there_none, changed_by, is_change};
 
 use dk_map::OrderedMap;
@@ -38,13 +38,26 @@ fn all_differ<K: Ord, V: PartialEq>(map: &OrderedMap<K, V>, entries: &[(K, V)]) 
     entries.iter().all(|(key, value)| differs(map, key, value))
 }
 
+/// Puts an entry into its place, for which there is room. A value that is there is changed where it stands.
+fn put_one<K: Ord + Drop, V: Drop>(map: &mut OrderedMap<K, V>, key: K, value: V)
+    requires { 0 < map.old.spare }
+    ensures entries { map.new.entries ≡ put K.cmp key value map.old.entries }
+    ensures spare { map.old.spare ≤ map.new.spare + 1 }
+{
+    if map.contains_key(&key) {
+        map.change(&key, |old| *old = value);
+    } else {
+        map.insert(key, value);
+    }
+}
+
 /// Puts entries into their places. There is room for them.
 pub(crate) fn put_all<K: Ord + Drop, V: Drop>(map: &mut OrderedMap<K, V>, entries: Vec<(K, V)>)
     requires { vec_len entries ≤ map.old.spare }
     ensures { map.new.entries ≡ with_put K.cmp entries.items map.old.entries }
 {
     for (key, value) in entries {
-        map.insert(key, value);
+        put_one(map, key, value);
     }
 }
 
