@@ -70,8 +70,8 @@ pub(crate) fn remove_all<K: Ord + Drop, V: Drop>(map: &mut OrderedMap<K, V>, key
     }
 }
 
-/// Makes a change, if it is one. Else the map is of no use any more.
-pub(crate) fn change<K: Ord + Drop, V: PartialEq + Drop>(
+// Makes a change, if it is one.
+fn try_change<K: Ord + Drop, V: PartialEq + Drop>(
     map: &mut OrderedMap<K, V>,
     set: Listed<(K, V)>,
     gone: &[K],
@@ -89,4 +89,20 @@ pub(crate) fn change<K: Ord + Drop, V: PartialEq + Drop>(
     map.reserve(set.as_slice().len())?;
     put_all(map, set.into_vec());
     Ok(are_absent(map, gone))
+}
+
+/// Makes a change, if it is one. Else the map is of no use any more, but that it is in order.
+pub(crate) fn change<K: Ord + Drop, V: PartialEq + Drop>(
+    map: &mut OrderedMap<K, V>,
+    set: Listed<(K, V)>,
+    gone: &[K],
+) -> Result<bool, NoMemory>
+    ensures fits { IfOk result (λ fits. fits ≡ is_change K.cmp V.eq set gone.now map.old.entries) }
+    ensures entries { result ≡ Ok true → map.new.entries ≡ changed_by K.cmp set gone.now map.old.entries }
+    ensures ordered { IsOrdered K.cmp map.new.entries }
+{
+    let made = try_change(map, set, gone);
+    // The map tells that it is in order.
+    let _ = map.len();
+    made
 }

@@ -1,5 +1,5 @@
 //! The world after payloads: an image, and entries one after another.
-ghost use Rattle.std.specs.Prelude.{◌≡◌, Err, IfOk};
+ghost use Rattle.std.specs.Prelude.{◌≡◌, Err, IfOk, OnOk};
 ghost use Rattle.std.specs.List.{AllByRecursion};
 ghost use Rattle.dk_model.specs.DurableWorlds.{DurableWorld};
 ghost use Rattle.dk_model.specs.Entries.{IsFormat, IsEntry};
@@ -22,24 +22,24 @@ fn are_bytes(bytes: &[u8])
     let _ = bytes;
 }
 
-// The world after commits, one after another, if each entry fits the world before it.
-fn after_entries(mut world: World, entries: Listed<Entry>) -> Result<World, Unfit>
-    requires valid { IsValid world }
+// Makes commits on a world, one after another, if each entry fits. Else the world is of no use any more.
+fn after_entries(world: &mut World, entries: Listed<Entry>) -> Result<(), Unfit>
+    requires valid { IsValid world.old }
     requires entries { AllByRecursion (IsEntry 2) entries }
     requires bytes { EachHasBytes entries }
-    ensures fits { IfOk result (λ end_. Follow world entries end_) }
-    ensures unfit { result ≡ Err DoesNotFit → (end_ : DurableWorld) → Follow world entries end_ → ⊥ }
+    ensures fits { OnOk result (Follow world.old entries world.new) }
+    ensures unfit { result ≡ Err DoesNotFit → (end_ : DurableWorld) → Follow world.old entries end_ → ⊥ }
 {
     for entry in entries.into_vec() {
-        world = world.after(entry)?;
+        world.commit(entry)?;
     }
-    Ok(world)
+    Ok(())
 }
 
 /// The world after a payload of entries, if it is one and each entry fits.
 pub fn after_payload(
     alloc: Global,
-    world: World,
+    mut world: World,
     payload: &[u8],
     format: u16,
 ) -> Result<World, Unfit>
@@ -50,7 +50,10 @@ pub fn after_payload(
 {
     are_bytes(payload);
     match entries_of(alloc, payload, format) {
-        Ok(entries) => after_entries(world, entries),
+        Ok(entries) => match after_entries(&mut world, entries) {
+            Ok(()) => Ok(world),
+            Err(unfit) => Err(unfit),
+        },
         Err(EntryRefused::NotInGrammar { at: _ }) => Err(Unfit::DoesNotFit),
         Err(EntryRefused::NoMemory) => Err(Unfit::NoMemory),
     }

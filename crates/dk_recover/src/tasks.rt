@@ -92,8 +92,8 @@ fn move_all(tasks: &mut Tasks, moved: &[(TaskKey, u64)])
     }
 }
 
-/// Makes a change of the tasks, if it is one. Else the tasks are of no use any more.
-pub(crate) fn change_tasks(
+// Makes a change of the tasks, if it is one.
+fn try_tasks(
     tasks: &mut Tasks,
     added: Listed<Pending>,
     dropped: &[TaskKey],
@@ -102,7 +102,6 @@ pub(crate) fn change_tasks(
     requires { IsOrdered key_cmp tasks.old.entries }
     ensures fits { IfOk result (λ fits. fits ≡ is_task_change added dropped.now moved.now tasks.old.entries) }
     ensures tasks { result ≡ Ok true → map_of key_cmp tasks.new.entries ≡ with_moved moved.now (map_of key_cmp (changed_by key_cmp (list_map task_of added) dropped.now tasks.old.entries)) }
-    ensures ordered { result ≡ Ok true → IsOrdered key_cmp tasks.new.entries }
 {
     if !are_new(tasks, added.as_slice()) || !are_there(tasks, dropped) {
         return Ok(false);
@@ -115,4 +114,22 @@ pub(crate) fn change_tasks(
     add_all(tasks, added);
     move_all(tasks, moved);
     Ok(true)
+}
+
+/// Makes a change of the tasks, if it is one. Else the tasks are of no use any more, but that they are in order.
+pub(crate) fn change_tasks(
+    tasks: &mut Tasks,
+    added: Listed<Pending>,
+    dropped: &[TaskKey],
+    moved: &[(TaskKey, u64)],
+) -> Result<bool, NoMemory>
+    requires { IsOrdered key_cmp tasks.old.entries }
+    ensures fits { IfOk result (λ fits. fits ≡ is_task_change added dropped.now moved.now tasks.old.entries) }
+    ensures tasks { result ≡ Ok true → map_of key_cmp tasks.new.entries ≡ with_moved moved.now (map_of key_cmp (changed_by key_cmp (list_map task_of added) dropped.now tasks.old.entries)) }
+    ensures ordered { IsOrdered key_cmp tasks.new.entries }
+{
+    let made = try_tasks(tasks, added, dropped, moved);
+    // The map tells that it is in order.
+    let _ = tasks.len();
+    made
 }

@@ -1,5 +1,5 @@
 //! A durable world in memory, as entries leave it.
-ghost use Rattle.std.specs.Prelude.{◌≡◌, ◌<◌, ◌^◌, ◌↔◌, true, [], Some, Ok, Err, map as list_map, IfOk, IsTrue};
+ghost use Rattle.std.specs.Prelude.{◌≡◌, ◌<◌, ◌^◌, ◌↔◌, true, [], Some, Ok, Err, map as list_map, IfOk, OnOk, IsTrue};
 ghost use Rattle.dk_model.specs.Images.{IsImageValue, world_lists};
 ghost use Rattle.dk_model.specs.DurableWorlds.{DurableWorld, empty_world, last_with as greater_of};
 ghost use Rattle.dk_model.specs.Keys.{key_cmp};
@@ -170,19 +170,12 @@ impl World {
         seq == self.commits + 1 && seq <= last.0 + 1
     }
 
-    // This world with the effects made, if they are those between it and the one that they make.
-    fn with_effects(self, effects: Effects) -> Result<World, Unfit>
+    // Makes effects on this world, if they are those between it and the one that they make. Else it is of no use any more.
+    fn make(&mut self, effects: Effects) -> Result<(), Unfit>
         requires { AreEffects 2 effects }
-        ensures fits { IfOk result (λ world. AreFit self effects × (world ≡ apply effects self)) }
-        ensures unfit { result ≡ Err DoesNotFit → AreFit self effects → ⊥ }
+        ensures fits { OnOk result (AreFit self.old effects × (self.new ≡ apply effects self.old)) }
+        ensures unfit { result ≡ Err DoesNotFit → AreFit self.old effects → ⊥ }
     {
-        let World {
-            mut objects,
-            mut names,
-            mut tasks,
-            commits,
-            last,
-        } = self;
         let Effects {
             written,
             removed,
@@ -192,32 +185,26 @@ impl World {
             dropped,
             requeued,
         } = effects;
-        if !change(&mut objects, written, removed.as_slice())? {
+        if !change(&mut self.objects, written, removed.as_slice())? {
             return Err(Unfit::DoesNotFit);
         }
-        if !change(&mut names, bound, unbound.as_slice())? {
+        if !change(&mut self.names, bound, unbound.as_slice())? {
             return Err(Unfit::DoesNotFit);
         }
         let moved = requeued.as_slice();
-        if !change_tasks(&mut tasks, added, dropped.as_slice(), moved)? {
+        if !change_tasks(&mut self.tasks, added, dropped.as_slice(), moved)? {
             return Err(Unfit::DoesNotFit);
         }
-        Ok(World {
-            objects,
-            names,
-            tasks,
-            commits,
-            last,
-        })
+        Ok(())
     }
 
-    /// The world after a commit, if its entry fits this one.
-    pub fn after(self, entry: Entry) -> Result<World, Unfit>
-        requires valid { IsValid self }
+    /// Makes a commit on this world, if its entry fits. Else it is of no use any more.
+    pub(crate) fn commit(&mut self, entry: Entry) -> Result<(), Unfit>
+        requires valid { IsValid self.old }
         requires entry { IsEntry 2 entry }
         requires bytes { HaveBytes entry.effects }
-        ensures fits { IfOk result (λ world. IsNext self entry × (world ≡ world_after entry self)) }
-        ensures unfit { result ≡ Err DoesNotFit → IsNext self entry → ⊥ }
+        ensures fits { OnOk result (IsNext self.old entry × (self.new ≡ world_after entry self.old)) }
+        ensures unfit { result ≡ Err DoesNotFit → IsNext self.old entry → ⊥ }
     {
         let Entry { seq, run, effects } = entry;
         let last = self.last_with(run);
@@ -227,11 +214,24 @@ impl World {
         {
             return Err(Unfit::DoesNotFit);
         }
-        let mut world = self.with_effects(effects)?;
-        world.commits = seq;
-        world.last = Some(last);
-        Ok(world)
+        self.make(effects)?;
+        self.commits = seq;
+        self.last = Some(last);
+        Ok(())
     }
+
+    /// The world after a commit, if its entry fits this one.
+    pub fn after(mut self, entry: Entry) -> Result<World, Unfit>
+        requires valid { IsValid self }
+        requires entry { IsEntry 2 entry }
+        requires bytes { HaveBytes entry.effects }
+        ensures fits { IfOk result (λ world. IsNext self entry × (world ≡ world_after entry self)) }
+        ensures unfit { result ≡ Err DoesNotFit → IsNext self entry → ⊥ }
+    {
+        self.commit(entry)?;
+        Ok(self)
+    }
+
     /// The world as lists.
     pub fn durable(&self, alloc: Global) -> Result<Durable, NoMemory>
         ensures { IfOk result (λ durable. durable ≡ world_lists self.now) }

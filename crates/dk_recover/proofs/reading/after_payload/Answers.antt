@@ -14,4 +14,4 @@ after_entries-requires-clause-bytes c = entries_bytes c.in-Ok.entries (subst Are
 pub returns-in-Ok-clause-unfit : goal.returns-in-Ok-clause-unfit
 returns-in-Ok-clause-unfit c wrong last takes =
     let same = entries_one c.args.format c.in-Ok.entries takes.entries c.args.payload.now c.in-Ok.ensures.0 c.in-Ok.ensures.1 takes.spelled in
-    c.after_entries.ensures.unfit wrong last (subst (λ (es : List Entry). Follow c.args.world es last) same takes.follow)
+    c.after_entries.ensures.unfit (cc) last (subst (λ (es : List Entry). Follow c.args.world es last) same takes.follow)

@@ -5,7 +5,7 @@ use Rattle.dk_model.specs.Effects.{task_of}
 use Rattle.dk_model.proofs.Maps.{keys_total, exact_keys}
 use Rattle.dk_recover.specs.Changes.{with_put}
 use Rattle.dk_recover.proofs.MapChanges.{put_ordered, without_ordered}
-use Rattle.dk_recover.proofs.tasks.change_tasks.Goals as goal
+use Rattle.dk_recover.proofs.tasks.try_tasks.Goals as goal
 
 pub move_all-requires : goal.move_all-requires
 move_all-requires c =

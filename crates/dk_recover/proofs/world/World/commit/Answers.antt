@@ -4,12 +4,12 @@ use Rattle.dk_laws.proofs.EffectsMade.{and_left}
 use Rattle.dk_recover.specs.Worlds.{is_next, are_made, are_scheduled}
 use Rattle.dk_recover.proofs.Made.{clean_fit}
 use Rattle.dk_recover.proofs.Valid.{valid_after, next_after, committed_after}
-use Rattle.dk_recover.proofs.world.World.after.Goals as goal
-use Rattle.dk_recover.proofs.world.World.after.Goals.{then-not-is_next-via-then-not-is_next, then-not-is_next-via-else-not-is_next+then-not-are_made, then-not-is_next-via-else-not-is_next+else-not-are_made+then-not-are_scheduled}
+use Rattle.dk_recover.proofs.world.World.commit.Goals as goal
+use Rattle.dk_recover.proofs.world.World.commit.Goals.{then-not-is_next-via-then-not-is_next, then-not-is_next-via-else-not-is_next+then-not-are_made, then-not-is_next-via-else-not-is_next+else-not-are_made+then-not-are_scheduled}
 
 pub returns-then-not-is_next-clause-unfit : goal.returns-then-not-is_next-clause-unfit
 returns-then-not-is_next-clause-unfit c _ fit =
-    let d = c.args.self in
+    let d = c.args.self.now in
     let entry = c.args.entry in
     let last = c.last_with-last.result in
     let greater = c.last_with-last.ensures in
@@ -25,16 +25,16 @@ returns-then-not-is_next-clause-unfit c _ fit =
 
 pub returns-clause-fits : goal.returns-clause-fits
 returns-clause-fits c =
-    let d = c.args.self in
+    let d = c.args.self.now in
     let entry = c.args.entry in
     let last = c.last_with-last.result in
     let next : is_next d.commits entry.seq last ≡ true = sym c.is_next.ensures ∙ c.if-not-is_next.false in
     let made : are_made (Some last) entry.effects.written ≡ true = ap (are_made (Some last)) (sym c.as_slice.ensures) ∙ sym c.are_made.ensures ∙ c.if-not-are_made.false in
     let scheduled : are_scheduled (Some last) entry.effects.added ≡ true = ap (are_scheduled (Some last)) (sym c.as_slice-else-not-are_made.ensures) ∙ sym c.are_scheduled.ensures ∙ c.if-not-are_scheduled.false in
-    let world = c.world.view_is ∙ c.in_ok-world.ensures.fits.1 in (
+    let world = c.self.view_is ∙ c.in_ok-make.ensures.fits.1 in (
       record {
         seq = eqb-true entry.seq (d.commits + 1) (and_left (nat_eq entry.seq (d.commits + 1)) (leb entry.seq (last.0 + 1)) next);
-        effects = c.in_ok-world.ensures.fits.0;
+        effects = c.in_ok-make.ensures.fits.0;
         valid = valid_after d entry last c.requires.entry c.last_with-last.ensures c.requires.valid c.requires.bytes made scheduled next;
       },
       λ i. record { objects = (world i).objects; names = (world i).names; tasks = (world i).tasks; commits = entry.seq; last = c.last_with-last.ensures i },

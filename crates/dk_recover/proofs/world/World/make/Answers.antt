@@ -11,53 +11,43 @@ use Rattle.dk_model.specs.DurableWorlds.{DurableWorld}
 use Rattle.dk_recover.specs.Changes.{changed_by, is_change}
 use Rattle.dk_recover.specs.TaskChanges.{is_task_change}
 use Rattle.dk_recover.proofs.Made.{AreOf, fit_clean, objects_checked, names_checked, tasks_checked, objects_needed, names_needed, tasks_needed, objects_made, names_made, tasks_made, objects_still, names_still}
-use Rattle.dk_recover.proofs.world.World.with_effects.Goals as goal
+use Rattle.dk_recover.proofs.world.World.make.Goals as goal
 
 pub returns-then-not-branch-clause-unfit : goal.returns-then-not-branch-clause-unfit
 returns-then-not-branch-clause-unfit c _ fit =
     let e = c.args.effects in
     let in' = c.self.inside in
-    let of : AreOf in'.objects.entries in'.names.entries in'.tasks.entries c.args.self = record { objects = ap (λ (w : DurableWorld). w.objects) c.self.view_is; names = ap (λ (w : DurableWorld). w.names) c.self.view_is; tasks = ap (λ (w : DurableWorld). w.tasks) c.self.view_is; objects_ordered = c.self.invariant.0; names_ordered = c.self.invariant.1; tasks_ordered = c.self.invariant.2 } in
+    let of : AreOf in'.objects.entries in'.names.entries in'.tasks.entries c.args.self.now = record { objects = ap (λ (w : DurableWorld). w.objects) c.self.view_is; names = ap (λ (w : DurableWorld). w.names) c.self.view_is; tasks = ap (λ (w : DurableWorld). w.tasks) c.self.view_is; objects_ordered = c.self.invariant.0; names_ordered = c.self.invariant.1; tasks_ordered = c.self.invariant.2 } in
     let wrong : true ≡ false =
-    sym (objects_needed c.args.self e c.requires _ _ _ of fit) ∙ ap (λ (g : List ObjectId). is_change id_cmp same_object e.written g in'.objects.entries) (sym c.as_slice.ensures) ∙ sym c.in_ok-change.ensures.fits ∙ c.if-not-branch.true in
+    sym (objects_needed c.args.self.now e c.requires _ _ _ of fit) ∙ ap (λ (g : List ObjectId). is_change id_cmp same_object e.written g in'.objects.entries) (sym c.as_slice.ensures) ∙ sym c.in_ok-change.ensures.fits ∙ c.if-not-branch.true in
     cc
 
 pub returns-then-not-branch-2-clause-unfit : goal.returns-then-not-branch-2-clause-unfit
 returns-then-not-branch-2-clause-unfit c _ fit =
     let e = c.args.effects in
     let in' = c.self.inside in
-    let of : AreOf in'.objects.entries in'.names.entries in'.tasks.entries c.args.self = record { objects = ap (λ (w : DurableWorld). w.objects) c.self.view_is; names = ap (λ (w : DurableWorld). w.names) c.self.view_is; tasks = ap (λ (w : DurableWorld). w.tasks) c.self.view_is; objects_ordered = c.self.invariant.0; names_ordered = c.self.invariant.1; tasks_ordered = c.self.invariant.2 } in
+    let of : AreOf in'.objects.entries in'.names.entries in'.tasks.entries c.args.self.now = record { objects = ap (λ (w : DurableWorld). w.objects) c.self.view_is; names = ap (λ (w : DurableWorld). w.names) c.self.view_is; tasks = ap (λ (w : DurableWorld). w.tasks) c.self.view_is; objects_ordered = c.self.invariant.0; names_ordered = c.self.invariant.1; tasks_ordered = c.self.invariant.2 } in
     let wrong : true ≡ false =
-    sym (names_needed c.args.self e c.requires _ _ _ of fit) ∙ ap (λ (g : List (List ℕ)). is_change bytes_cmp same_id e.bound g in'.names.entries) (sym c.as_slice-2.ensures) ∙ sym c.in_ok-change-2.ensures.fits ∙ c.if-not-branch-2.true in
+    sym (names_needed c.args.self.now e c.requires _ _ _ of fit) ∙ ap (λ (g : List (List ℕ)). is_change bytes_cmp same_id e.bound g in'.names.entries) (sym c.as_slice-2.ensures) ∙ sym c.in_ok-change-2.ensures.fits ∙ c.if-not-branch-2.true in
     cc
 
 pub returns-then-not-branch-3-clause-unfit : goal.returns-then-not-branch-3-clause-unfit
 returns-then-not-branch-3-clause-unfit c _ fit =
     let e = c.args.effects in
     let in' = c.self.inside in
-    let of : AreOf in'.objects.entries in'.names.entries in'.tasks.entries c.args.self = record { objects = ap (λ (w : DurableWorld). w.objects) c.self.view_is; names = ap (λ (w : DurableWorld). w.names) c.self.view_is; tasks = ap (λ (w : DurableWorld). w.tasks) c.self.view_is; objects_ordered = c.self.invariant.0; names_ordered = c.self.invariant.1; tasks_ordered = c.self.invariant.2 } in
+    let of : AreOf in'.objects.entries in'.names.entries in'.tasks.entries c.args.self.now = record { objects = ap (λ (w : DurableWorld). w.objects) c.self.view_is; names = ap (λ (w : DurableWorld). w.names) c.self.view_is; tasks = ap (λ (w : DurableWorld). w.tasks) c.self.view_is; objects_ordered = c.self.invariant.0; names_ordered = c.self.invariant.1; tasks_ordered = c.self.invariant.2 } in
     let wrong : true ≡ false =
-    sym (tasks_needed c.args.self e c.requires _ _ _ of fit)
+    sym (tasks_needed c.args.self.now e c.requires _ _ _ of fit)
     ∙ ap (λ (g : List TaskKey). is_task_change e.added g e.requeued in'.tasks.entries) (sym c.as_slice-3.ensures) ∙ ap (λ (g : List (TaskKey × ℕ)). is_task_change e.added c.as_slice-3.result.now g in'.tasks.entries) (sym c.as_slice-moved.ensures)
     ∙ sym c.in_ok-change_tasks.ensures.fits ∙ c.if-not-branch-3.true in
     cc
 
-pub invariant_of-result : goal.invariant_of-result
-invariant_of-result c =
-    let e = c.args.effects in
-    let in' = c.self.inside in
-    let of : AreOf in'.objects.entries in'.names.entries in'.tasks.entries c.args.self = record { objects = ap (λ (w : DurableWorld). w.objects) c.self.view_is; names = ap (λ (w : DurableWorld). w.names) c.self.view_is; tasks = ap (λ (w : DurableWorld). w.tasks) c.self.view_is; objects_ordered = c.self.invariant.0; names_ordered = c.self.invariant.1; tasks_ordered = c.self.invariant.2 } in (
-      subst (IsOrdered id_cmp) (sym (c.in_ok-change.ensures.entries (ap Ok c.if-not-branch.false) ∙ ap (λ (g : List ObjectId). changed_by id_cmp e.written g in'.objects.entries) c.as_slice.ensures)) (objects_still c.args.self e c.requires _ _ _ of),
-      subst (IsOrdered bytes_cmp) (sym (c.in_ok-change-2.ensures.entries (ap Ok c.if-not-branch-2.false) ∙ ap (λ (g : List (List ℕ)). changed_by bytes_cmp e.bound g in'.names.entries) c.as_slice-2.ensures)) (names_still c.args.self e c.requires _ _ _ of),
-      c.in_ok-change_tasks.ensures.ordered (ap Ok c.if-not-branch-3.false),
-    )
-
 pub returns : goal.returns
 returns c =
-    let d = c.args.self in
+    let d = c.args.self.now in
     let e = c.args.effects in
     let in' = c.self.inside in
-    let of : AreOf in'.objects.entries in'.names.entries in'.tasks.entries c.args.self = record { objects = ap (λ (w : DurableWorld). w.objects) c.self.view_is; names = ap (λ (w : DurableWorld). w.names) c.self.view_is; tasks = ap (λ (w : DurableWorld). w.tasks) c.self.view_is; objects_ordered = c.self.invariant.0; names_ordered = c.self.invariant.1; tasks_ordered = c.self.invariant.2 } in
+    let of : AreOf in'.objects.entries in'.names.entries in'.tasks.entries c.args.self.now = record { objects = ap (λ (w : DurableWorld). w.objects) c.self.view_is; names = ap (λ (w : DurableWorld). w.names) c.self.view_is; tasks = ap (λ (w : DurableWorld). w.tasks) c.self.view_is; objects_ordered = c.self.invariant.0; names_ordered = c.self.invariant.1; tasks_ordered = c.self.invariant.2 } in
     let objects : is_change id_cmp same_object e.written e.removed in'.objects.entries ≡ true =
     ap (λ (g : List ObjectId). is_change id_cmp same_object e.written g in'.objects.entries) (sym c.as_slice.ensures) ∙ sym c.in_ok-change.ensures.fits ∙ c.if-not-branch.false in
     let names : is_change bytes_cmp same_id e.bound e.unbound in'.names.entries ≡ true =
