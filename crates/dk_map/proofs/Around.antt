@@ -1,6 +1,6 @@
 -- What stands around an entry e of a list in order, and where a key's place is in it.
 use Rattle.std.proofs.Common.{◌≡◌, refl, ap, subst, ◌∙◌, Bool, true, false, cond, not, ◌&&◌, List, [], ◌∷◌, ◌++◌, ◌<◌, length, length-append, arith}
-use Rattle.std.specs.Prelude.{T, None, Some}
+use Rattle.std.specs.Prelude.{T, Option, None, Some}
 use Rattle.std.specs.Option.{option_or}
 use Rattle.std.specs.declared.cmp.Ordering.{Ordering}
 use Rattle.std.specs.declared.cmp.Ordering.TheVariants.{Less, Equal, Greater}
@@ -181,6 +181,11 @@ module _ {K V : Type 0} (R : K → K → Ordering) where
 pub first_left : {K V : Type 0} (l : List (K × V)) (e : K × V) (r : List (K × V)) → first_entry (l ++ e ∷ r) ≡ option_or (first_entry l) (Some e)
 first_left [] e r = refl
 first_left (x ∷ l) e r = refl
+
+-- of three answers, the last is not asked where the second is there
+pub or_nearer : {A : Type 0} (r : Option A) (e : A) (far : Option A) → option_or (option_or r (Some e)) far ≡ option_or r (Some e)
+or_nearer None e far = refl
+or_nearer (Some x) e far = refl
 
 -- the place of a key q among entries in order, by how it compares to the key of the entry e in the middle
 module _ {K V : Type 0} {R : K → K → Ordering} (o : IsTotalOrder R) {d l : List (K × V)} {e : K × V} {r : List (K × V)} (a : AtEntry R d l e r) (q : K) where

@@ -66,6 +66,11 @@ module _ {K V : Type 0} where
   IsNearlyAvl None = ⊥
   IsNearlyAvl (Some n) = (node_height n < 2 ^ 8 - 1) × DifferByAtMost 2 n.left.1 n.right.1
 
+  -- the cell has a node that is two levels higher on a side, and there is room for one level more
+  abbrev pub IsLeaning : Side → Option (Node K V) → Type 0
+  IsLeaning s None = ⊥
+  IsLeaning s (Some n) = (near_height s n ≡ far_height s n + 2) × (near_height s n < 2 ^ 8 - 1)
+
   -- the new cell is balanced and h high, and has the old one's entries
   abbrev pub SettlesTo : Option (Node K V) → Option (Node K V) → ℕ → Type 0
   SettlesTo None m h = ⊥

@@ -1,6 +1,6 @@
 // The rotations that keep a tree balanced.
 ghost use Rattle.std.specs.Prelude.{◌≡◌, ◌∷◌, ◌++◌, ◌+◌, ◌-◌, ◌^◌, ◌<◌, ◌≤◌, max};
-ghost use Rattle.dk_map.specs.Balance.{node_entries, node_height, near_height, far_height, on_sides, DifferByAtMost, IsNearlyAvl, SettlesTo};
+ghost use Rattle.dk_map.specs.Balance.{node_entries, node_height, near_height, far_height, on_sides, DifferByAtMost, IsLeaning, IsNearlyAvl, SettlesTo};
 
 use super::{Node, Tree};
 use std::mem;
@@ -13,22 +13,31 @@ pub(crate) enum Side {
 }
 
 /// Brings a node whose sides differ by two at most into balance, and gives its height.
+#[inline(always)]
 pub(super) fn settle<K, V>(cell: &mut Option<Node<K, V>>) -> u8
     requires { IsNearlyAvl cell.old }
     ensures { SettlesTo cell.old cell.new result }
 {
     let Some(node) = cell else { unreachable!() };
     let (left, right) = (node.left.height(), node.right.height());
-    if left <= right + 1 && right <= left + 1 {
-        return node.height();
+    if left > right + 1 {
+        return turn(Side::Left, cell);
     }
+    if right > left + 1 {
+        return turn(Side::Right, cell);
+    }
+    node.height()
+}
+
+/// Turns the node of a cell, which is two levels higher on a side, and gives its height.
+#[cold]
+#[inline(never)]
+fn turn<K, V>(side: Side, cell: &mut Option<Node<K, V>>) -> u8
+    requires { IsLeaning side cell.old }
+    ensures { SettlesTo cell.old cell.new result }
+{
     let Some(node) = mem::replace(cell, None) else {
         unreachable!()
-    };
-    let side = if left > right {
-        Side::Left
-    } else {
-        Side::Right
     };
     let node = lean(side, node);
     let height = node.height();

@@ -11,30 +11,32 @@ impl<K: Ord, V> Tree<K, V> {
         requires { IsOrdered K.cmp self.now.0 }
         ensures { option_copied result ≡ find K.cmp key.now self.now.0 }
     {
-        let Some(node) = self.node() else {
-            return None;
-        };
-        match key.cmp(&node.key) {
-            Ordering::Less => node.left.get(key),
-            Ordering::Equal => Some(&node.value),
-            Ordering::Greater => node.right.get(key),
+        let mut tree = self;
+        'descent: while let Some(node) = tree.node() {
+            tree = match key.cmp(&node.key) {
+                Ordering::Less => &node.left,
+                Ordering::Equal => return Some(&node.value),
+                Ordering::Greater => &node.right,
+            };
         }
+        None
     }
 
     pub(crate) fn above(&self, key: &K) -> Option<(&K, &V)>
         requires { IsOrdered K.cmp self.now.0 }
         ensures { option_map (λ e. (e.0.now, e.1.now)) result ≡ first_above K.cmp key.now self.now.0 }
     {
-        let Some(node) = self.node() else {
-            return None;
-        };
-        if let Ordering::Less = key.cmp(&node.key) {
-            let Some(entry) = node.left.above(key) else {
-                return Some((&node.key, &node.value));
-            };
-            return Some(entry);
+        let mut tree = self;
+        let mut nearest = None;
+        'descent: while let Some(node) = tree.node() {
+            if let Ordering::Less = key.cmp(&node.key) {
+                nearest = Some((&node.key, &node.value));
+                tree = &node.left;
+            } else {
+                tree = &node.right;
+            }
         }
-        node.right.above(key)
+        nearest
     }
 }
 
@@ -42,14 +44,15 @@ impl<K, V> Tree<K, V> {
     pub(crate) fn first(&self) -> Option<(&K, &V)>
         ensures { option_map (λ e. (e.0.now, e.1.now)) result ≡ first_entry self.now.0 }
     {
-        let Some(node) = self.node() else {
-            return None;
-        };
-        let Some(entry) = node.left.first() else {
-            return Some((&node.key, &node.value));
-        };
-        Some(entry)
+        let mut tree = self;
+        let mut nearest = None;
+        'descent: while let Some(node) = tree.node() {
+            nearest = Some((&node.key, &node.value));
+            tree = &node.left;
+        }
+        nearest
     }
+
     /// Puts references to the entries at the end of a list, in order.
     pub(crate) fn list_into<'a>(&'a self, out: &mut Vec<(&'a K, &'a V)>)
         requires { vec_len out.old + length self.now.0 ≤ vec_capacity out.old }
