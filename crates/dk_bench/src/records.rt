@@ -25,6 +25,9 @@ const OBJECTS: u64 = 1_000;
 /// So many entries are decoded, however many stand in a payload.
 const ENTRIES: u32 = 200_000;
 
+/// So often they are.
+const DECODINGS: u32 = 5;
+
 /// What is done with records.
 #[derive(Clone, Copy)]
 pub enum RecordWork {
@@ -32,7 +35,7 @@ pub enum RecordWork {
     Append,
     /// A store of so many records is recovered. The nanoseconds are told.
     Recover,
-    /// Payloads of so many entries are decoded, 200,000 entries in all. The nanoseconds are told.
+    /// Payloads of so many entries are decoded, 200,000 entries in all, and that five times. The nanoseconds of the fastest time are told.
     Decode,
 }
 
@@ -154,16 +157,26 @@ fn recover_all<R: AllocGlobal + Clock, S: Files<File = File> + Drop>(
     spent
 }
 
-fn decode<R: AllocGlobal + Clock>(rt: &R, entries: u32) -> Option<u64> {
-    let payload = payload(rt.alloc(), 1, entries)?;
+/// The payload decoded again and again, until so many entries are. The nanoseconds.
+fn decode_all<R: AllocGlobal + Clock>(rt: &R, payload: &Blob, entries: u32) -> Option<u64> {
     let mut spent: u64 = 0;
     for _ in 0..ENTRIES.checked_div(entries)? {
         let start = Instant::now(rt).ok()?;
-        let decoded = decode_entries(rt.alloc(), &payload, 2).ok()?;
+        let decoded = decode_entries(rt.alloc(), payload, 2).ok()?;
         spent = spent.saturating_add(nanoseconds(rt, &start)?);
         if decoded.as_slice().len() != entries as usize {
             return None;
         }
     }
     Some(spent)
+}
+
+/// The least of some times, of which the first takes the memory that the others find.
+fn decode<R: AllocGlobal + Clock>(rt: &R, entries: u32) -> Option<u64> {
+    let payload = payload(rt.alloc(), 1, entries)?;
+    let mut least = u64::MAX;
+    for _ in 0..DECODINGS {
+        least = least.min(decode_all(rt, &payload, entries)?);
+    }
+    Some(least)
 }

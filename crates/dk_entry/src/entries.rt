@@ -120,12 +120,15 @@ impl<F: StoreFormat> Form<Listed<Entry>> for EntriesForm<F> {
     }
 }
 
+/// A payload begins with room for so many bytes: most commits of a game are written in less.
+const ROOM_BYTES: usize = 256;
+
 /// The payload of these entries. It is alike in both formats. Entries that are none of a format have no spelling of
 /// their own, and `decode_entries` refuses these bytes in it.
 pub fn encode_entries(alloc: Global, entries: &[Entry]) -> Result<Blob, NoMemory>
     ensures { IfOk result (λ payload. payload ≡ entries_spelling entries.now) }
 {
-    let mut writer = Writer::new(alloc);
+    let mut writer = Writer::with_capacity(alloc, ROOM_BYTES)?;
     put_list::<Entry, EntryForm<SecondFormat>>(&mut writer, entries)?;
     Ok(writer.finish())
 }

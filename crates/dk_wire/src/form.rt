@@ -84,6 +84,9 @@ pub fn put_list<T, F: Form<T>>(writer: &mut Writer, items: &[T]) -> Result<(), N
     Ok(())
 }
 
+/// A list begins with room for its items, but for so many at most: its count alone is no reason to take more.
+const FIRST_ITEMS: usize = 16;
+
 /// Takes a list: its count, and that many items, each behind the one before it.
 #[tactic(auto, unfolding(dk_types::specs::Lists::list_at))]
 pub fn take_list<T: Drop, F: Form<T>>(
@@ -106,7 +109,7 @@ fn take_items<'a, T: Drop, F: Form<T>>(
 ) -> Result<(Listed<T>, Reader<'a>), PayloadRefused>
     ensures { GivesBack (items_at F.reading None count) reader.entry result }
 {
-    let mut items: Vec<T> = Vec::new(alloc);
+    let mut items: Vec<T> = Vec::with_capacity(alloc, FIRST_ITEMS.min(count as usize))?;
     for _ in 0..count {
         let (item, behind) = F::take(alloc, reader, items.last())?;
         items.push(item)?;

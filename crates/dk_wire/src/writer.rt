@@ -1,5 +1,5 @@
 //! Putting fields at the end.
-ghost use Rattle.std.specs.Prelude.{◌≡◌, ◌<◌, ◌≤◌, ◌^◌, ◌++◌, [], length, OnOk, OnErr};
+ghost use Rattle.std.specs.Prelude.{◌≡◌, ◌<◌, ◌≤◌, ◌^◌, ◌++◌, [], length, IfOk, OnOk, OnErr};
 ghost use Rattle.dk_types.specs.Fields.{u8_spelling, u16_spelling, u32_spelling, u64_spelling, name_spelling, blob_spelling, id_spelling, key_spelling};
 
 use byteorder::{BigEndian, ByteOrder};
@@ -29,6 +29,15 @@ impl Writer {
         Writer {
             out: Vec::new(alloc),
         }
+    }
+
+    /// A writer that has put nothing, with room for so many bytes.
+    pub fn with_capacity(alloc: Global, bytes: usize) -> Result<Writer, NoMemory>
+        ensures { IfOk result (λ writer. writer ≡ []) }
+    {
+        Ok(Writer {
+            out: Vec::with_capacity(alloc, bytes)?,
+        })
     }
 
     /// The bytes that were put, handed over as they are.

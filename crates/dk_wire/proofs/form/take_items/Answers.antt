@@ -7,7 +7,7 @@ use Rattle.dk_wire.proofs.form.take_items.Goals as goal
 
 pub returns-in_err-item : goal.returns-in_err-item
 returns-in_err-item g c =
-    let p = err_from_is_err_and c.from_residual.result c.from_residual.ensures.1 in
+    let p = err_from_is_err_and c.from_residual-in_err-item.result c.from_residual-in_err-item.ensures.1 in
     let before : option_copied c.last.result ≡ last_of c.loop.items.items = rw c.deref.ensures.value at c.last.ensures.value in
     let misses = rw before at c.in_err-item.ensures in
     rw (p.1, p.2) (ends g.F.Form.reading c.in_err-item.field-0.0 c.loop.items.items c.args.count c.loop.counter c.loop.reader (items_at g.F.Form.reading None c.args.count c.args.reader) c.loop-test.true misses c.loop.invariant)
