@@ -18,7 +18,7 @@ module _ (ℓ : NamedLft) (G W J M R : RattleType) (j : naming.Ghosts J.Denot) (
   pub desk_sync : IsSync (desk.the_row ℓ G W J M R j m w)
   desk_sync = declared_sync (desk.the_type ℓ G W J M R j m w) (search (sendable, crosses, host_sync W J M w j m a b c, global.the_sync, g, r) depth 20)
 
-  -- a commit, or what a held sync does, and reads
+  -- a commit whose sync is held, and reads
   pub hold_sync : IsSync (hold.the_row ℓ G W J M R j m w)
   hold_sync = declared_sync (hold.the_type ℓ G W J M R j m w) (search (sendable, crosses, desk_sync) depth 20)
 

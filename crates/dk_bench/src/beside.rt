@@ -2,7 +2,7 @@
 ghost use Rattle.std.specs.Prelude.{◌≡◌};
 ghost use Rattle.std.specs.Thread.{IsSend, IsSync};
 
-use crate::desk::{Desk, HELD, HOLD};
+use crate::desk::{Desk, HOLD};
 use dk_disk::Home;
 use dk_game::Game;
 use dk_host::{Hosting, WorldBook};
@@ -43,22 +43,12 @@ fn both<X: Send, P: Pair<X> + Sync, R: Threads + Sync>(
     Some((one?, other?))
 }
 
-/// Looks until no sync is held.
-fn look_until_free(hold: &AtomicU64) {
-    for _ in 0..u64::MAX {
-        if hold.load(Ordering::SeqCst) != HELD {
-            return;
-        }
-    }
-}
-
-/// A commit whose sync is held, or a thread that does what a held sync does, and so many reads.
+/// A commit whose sync is held, and so many reads.
 #[derive(Drop)]
 struct HoldAndReads<'a, G: Game, W: Hosting, J: Naming, M: Home, R: Clock + Wait> {
     desk: &'a Desk<'a, G, W, J, M, R>,
     hold: &'a AtomicU64,
     reads: u32,
-    commits: bool,
 }
 
 impl<G: Game, W: Hosting, J: Naming, M: Home, R: Clock + Wait> Pair<Pass<WorldBook<W>, J>>
@@ -68,11 +58,7 @@ impl<G: Game, W: Hosting, J: Naming, M: Home, R: Clock + Wait> Pair<Pass<WorldBo
     ghost ready = { λ pair. W.opened.rules ≡ G.rules pair.desk.now.game.now };
 
     fn one(&self, pass: &mut Pass<WorldBook<W>, J>) -> Option<u64> {
-        if self.commits {
-            return self.desk.commit_next(pass);
-        }
-        look_until_free(self.hold);
-        Some(0)
+        self.desk.commit_next(pass)
     }
 
     fn other(&self, pass: &mut Pass<WorldBook<W>, J>) -> Option<u64> {
@@ -116,25 +102,22 @@ impl<
     M: Home + Send,
     R: Clock + Threads + Wait + Sync,
 > Desk<'_, G, W, J, M, R> {
-    /// So many reads by the other pass behind the first run, while the sync of a commit is held, or while a thread looks at
-    /// the word as a held sync does, and no sync is held.
+    /// So many reads by the other pass behind the first run, while the sync of a commit is held.
     pub(crate) fn reads_beside_hold(
         &self,
         one: &mut Pass<WorldBook<W>, J>,
         other: &mut Pass<WorldBook<W>, J>,
         hold: &AtomicU64,
         reads: u32,
-        commits: bool,
     ) -> Option<u64>
         requires rules { W.opened.rules ≡ G.rules self.now.game.now }
     {
         self.commit_next(one)?;
-        hold.store(if commits { HOLD } else { HELD }, Ordering::SeqCst);
+        hold.store(HOLD, Ordering::SeqCst);
         let pair = HoldAndReads {
             desk: self,
             hold,
             reads,
-            commits,
         };
         let (_, told) = both(self.rt, &pair, one, other)?;
         Some(told)

@@ -26,7 +26,7 @@ const FREE: u64 = 0;
 pub(crate) const HOLD: u64 = 1;
 
 /// A sync is held.
-pub(crate) const HELD: u64 = 2;
+const HELD: u64 = 2;
 
 /// A host, and the game that is run on it.
 #[derive(Drop)]
@@ -121,6 +121,14 @@ impl<G: Game, W: Hosting, J: Naming, M: Home, R: Clock + Wait> Desk<'_, G, W, J,
             }
         }
         nanoseconds(self.rt, &start)
+    }
+
+    /// So many reads behind the first run.
+    pub(crate) fn reads_alone(&self, pass: &mut Pass<WorldBook<W>, J>, reads: u32) -> Option<u64>
+        requires rules { W.opened.rules ≡ G.rules self.now.game.now }
+    {
+        self.commit_next(pass)?;
+        self.reads(pass, reads)
     }
 
     /// So many reads once a sync is held, if it is held to their end.

@@ -32,7 +32,7 @@ pub enum HostWork {
     FolderTasks,
     /// 20,000 commits over so many objects.
     Commits,
-    /// So many reads beside a thread that does what a held sync does.
+    /// So many reads with nothing else at work.
     Reads,
     /// So many reads while the sync of a commit is held.
     HeldReads,
@@ -209,8 +209,8 @@ fn done<
     let logins = (number / LOGIN_OBJECTS).max(1);
     match order.work {
         HostWork::Tasks | HostWork::FolderTasks => desk.tasks(one),
-        HostWork::Reads => desk.reads_beside_hold(one, other, order.hold, number, false),
-        HostWork::HeldReads => desk.reads_beside_hold(one, other, order.hold, number, true),
+        HostWork::Reads => desk.reads_alone(one, number),
+        HostWork::HeldReads => desk.reads_beside_hold(one, other, order.hold, number),
         HostWork::Commits => desk.commits(one, logins),
         HostWork::CheckpointRead => desk.checkpoint_read(one, other, logins),
     }
