@@ -175,6 +175,24 @@ impl<K: Ord + Drop, V: Drop> OrderedMap<K, V> {
         }
         removed
     }
+
+    /// All entries in the order of their keys, moved out in one walk. Only the list itself takes memory.
+    pub fn into_entries(self, alloc: Global) -> Result<Vec<(K, V)>, AllocError>
+        ensures { IfOk result (λ list. list.items ≡ self.entries) }
+    {
+        let OrderedMap {
+            tree,
+            len,
+            cells: _,
+            alloc: _,
+        } = self;
+        if len == 0 {
+            return Ok(Vec::new(alloc));
+        }
+        let mut list = Vec::with_capacity(alloc, len)?;
+        tree.move_into(&mut list);
+        Ok(list)
+    }
 }
 
 /// Adds empty cells until there are `most`. Where memory is refused the list is as it was.

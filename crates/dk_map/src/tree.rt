@@ -8,6 +8,7 @@ use std::mem;
 mod balance;
 pub(crate) mod change;
 mod search;
+mod taking;
 
 pub(crate) type Cell<K, V> = Box<Option<Node<K, V>>>;
 
