@@ -1,5 +1,6 @@
 -- What is picked from entries in order, found by key.
-use Rattle.std.proofs.Common.{◌≡◌, ℕ, Bool, true, false, cond, map, T, Option, Some, None, List, [], ◌∷◌, ◌++◌, append_assoc, append-nil, length, Bor, refl, sym, ap, ◌∙◌}
+use Rattle.std.proofs.Common.{◌≡◌, ℕ, Bool, true, false, cond, map, T, Option, Some, None, List, [], ◌∷◌, ◌++◌, append_assoc, append-nil, length, refl, sym, ap, ◌∙◌}
+use Rattle.std.proofs.lemmas.List.{map-append}
 use Rattle.std.specs.declared.cmp.Ordering.{Ordering}
 use Rattle.std.specs.declared.cmp.Ordering.TheVariants.{Less, Equal, Greater}
 use Rattle.std.specs.Ordering.{is_eq, eq_by_cmp}
@@ -12,7 +13,7 @@ use Rattle.dk_map.specs.Entries.{IsOrdered}
 use Rattle.dk_map.specs.AsMap.{map_of}
 use Rattle.dk_map.proofs.Maps.{entries-map_of}
 use Rattle.dk_overlay.specs.Picks.{picked, picked_one}
-use Rattle.dk_overlay.proofs.Tests.{both_and, first_of_and, second_of_and, Some_injective}
+use Rattle.dk_overlay.proofs.Tests.{both_and, first_of_and, second_of_and}
 use Rattle.dk_overlay.proofs.Least.{above_none}
 
 -- what f gives of a change, if there is one
@@ -87,68 +88,31 @@ pub keys-valued : {K X Y : Type 0} (g : X → Y) (es : List (K × X)) → keys_o
 keys-valued g [] = refl
 keys-valued g (e ∷ es) = ap (λ ks. e.0 ∷ ks) (keys-valued g es)
 
--- the entry that a pair of references gives
-abbrev pub seen : {K C : Type 0} → Bor K × Bor C → K × C
-seen e = (e.0.now, e.1.now)
-
 nothing : {A : Type 0} (l : List A) → length l ≡ 0 → l ≡ []
 nothing [] e = refl
 nothing (x ∷ l) e = cc
 
--- a loop over the references to the entries of a map that picks entries: at its start, at each turn, and at its end
-module _ {K C X : Type 0} (R : K → K → Ordering) (f : C → Option X) where
-  pub picks_begin : (xs : List (K × X)) (left list : List (Bor K × Bor C)) (es : List (K × C)) (m : FinMap R C) → xs ≡ [] → left ≡ list → map seen list ≡ es → IsOrdered R es → map_of R es ≡ m
-      → xs ++ picked f (map seen left) ≡ picked f (entries m)
-  picks_begin xs left list es m e i s h v =
-      ap (λ l. l ++ picked f (map seen left)) e ∙ ap (λ l. picked f (map seen l)) i ∙ ap (picked f) (s ∙ sym (entries-map_of R es h)) ∙ ap (λ n. picked f (entries n)) v
+-- a loop over the entries of a map in order, of each of which it makes some items: at its start, at each turn, and at its end
+module _ {K C Y : Type 0} (made : List (K × C) → List Y) where
+  pub making_begins : (R : K → K → Ordering) (xs : List Y) (left list es : List (K × C)) (m : FinMap R C) → xs ≡ [] → left ≡ list → list ≡ es → IsOrdered R es → map_of R es ≡ m → xs ++ made left ≡ made (entries m)
+  making_begins R xs left list es m none all is ordered seen = ap (λ l. l ++ made left) none ∙ ap made (all ∙ is ∙ sym (entries-map_of R es ordered)) ∙ ap (λ n. made (entries n)) seen
 
-module _ {K C X : Type 0} (f : C → Option X) (left rest : List (Bor K × Bor C)) (k : Bor K) (c : Bor C) (turn : left ≡ (k, c) ∷ rest) (xs all : List (K × X)) where
-  picks_on : (o : Option X) (r : Option (K × X)) → r ≡ option_map (λ x. (k.now, x)) o → r ≡ None → xs ++ picked_one k.now o (picked f (map seen rest)) ≡ all → xs ++ picked f (map seen rest) ≡ all
-  picks_on None r e n h = h
-  picks_on (Some x) r e n h = absurd cc
+  pub making_goes_on : ((e : K × C) (es : List (K × C)) → made (e ∷ es) ≡ made (e ∷ []) ++ made es) → (left rest : List (K × C)) (e : K × C) (xs ys all : List Y)
+      → left ≡ e ∷ rest → ys ≡ xs ++ made (e ∷ []) → xs ++ made left ≡ all → ys ++ made rest ≡ all
+  making_goes_on splits left rest e xs ys all turn is so_far =
+      ap (λ l. l ++ made rest) is ∙ append_assoc xs (made (e ∷ [])) (made rest) ∙ ap (λ l. xs ++ l) (sym (splits e rest)) ∙ ap (λ l. xs ++ made l) (sym turn) ∙ so_far
 
-  pub picks_none : (r : Option (K × X)) → r ≡ option_map (λ x. (k.now, x)) (f c.now) → r ≡ None → xs ++ picked f (map seen left) ≡ all → xs ++ picked f (map seen rest) ≡ all
-  picks_none r e n h = picks_on (f c.now) r e n (ap (λ l. xs ++ picked f (map seen l)) (sym turn) ∙ h)
+  pub making_ends : made [] ≡ [] → (left : List (K × C)) (len : ℕ) (xs all : List Y) → len ≡ length left → len ≡ 0 → xs ++ made left ≡ all → xs ≡ all
+  making_ends none left len xs all same over so_far = sym (append-nil xs) ∙ ap (λ l. xs ++ l) (sym none) ∙ ap (λ l. xs ++ made l) (sym (nothing left (sym same ∙ over))) ∙ so_far
 
-  picks_in : (o : Option X) (r : Option (K × X)) (y : K × X) (ys : List (K × X)) → r ≡ option_map (λ x. (k.now, x)) o → r ≡ Some y → ys ≡ xs ++ y ∷ []
-      → xs ++ picked_one k.now o (picked f (map seen rest)) ≡ all → ys ++ picked f (map seen rest) ≡ all
-  picks_in None r y ys e n is h = absurd cc
-  picks_in (Some x) r y ys e n is h =
-      ap (λ l. l ++ picked f (map seen rest)) (is ∙ ap (λ z. xs ++ z ∷ []) (Some_injective _ _ (sym n ∙ e))) ∙ append_assoc xs ((k.now, x) ∷ []) (picked f (map seen rest)) ∙ h
+-- what is picked is picked of the first entry and of the others
+pub picked_splits : {K C X : Type 0} (f : C → Option X) (e : K × C) (es : List (K × C)) → picked f (e ∷ es) ≡ picked f (e ∷ []) ++ picked f es
+picked_splits f e es =
+    elim (f e.1) as (λ o. picked_one e.0 o (picked f es) ≡ picked_one e.0 o [] ++ picked f es) [
+      | None ↦ refl
+      | Some x ↦ refl
+    ]
 
-  pub picks_some : (r : Option (K × X)) (y : K × X) (ys : List (K × X)) → r ≡ option_map (λ x. (k.now, x)) (f c.now) → r ≡ Some y → ys ≡ xs ++ y ∷ []
-      → xs ++ picked f (map seen left) ≡ all → ys ++ picked f (map seen rest) ≡ all
-  picks_some r y ys e n is h = picks_in (f c.now) r y ys e n is (ap (λ l. xs ++ picked f (map seen l)) (sym turn) ∙ h)
-
-pub picks_end : {K C X : Type 0} (f : C → Option X) (left : List (Bor K × Bor C)) (len : ℕ) → len ≡ length left → len ≡ 0
-    → (xs all : List (K × X)) → xs ++ picked f (map seen left) ≡ all → xs ≡ all
-picks_end f left len same over xs all h = sym (append-nil xs) ∙ ap (λ l. xs ++ picked f (map seen l)) (sym (nothing left (sym same ∙ over))) ∙ h
-
--- the same where g is made of each entry that is picked
-module _ {K C X Y : Type 0} (R : K → K → Ordering) (f : C → Option X) (g : K × X → Y) where
-  pub maps_begin : (xs : List Y) (left list : List (Bor K × Bor C)) (es : List (K × C)) (m : FinMap R C) → xs ≡ [] → left ≡ list → map seen list ≡ es → IsOrdered R es → map_of R es ≡ m
-      → xs ++ map g (picked f (map seen left)) ≡ map g (picked f (entries m))
-  maps_begin xs left list es m e i s h v =
-      ap (λ l. l ++ map g (picked f (map seen left))) e ∙ ap (λ l. map g (picked f (map seen l))) i ∙ ap (λ l. map g (picked f l)) (s ∙ sym (entries-map_of R es h)) ∙ ap (λ n. map g (picked f (entries n))) v
-
-module _ {K C X Y : Type 0} (f : C → Option X) (g : K × X → Y) (left rest : List (Bor K × Bor C)) (k : Bor K) (c : Bor C) (turn : left ≡ (k, c) ∷ rest) (xs all : List Y) where
-  maps_on : (o : Option X) (r : Option Y) → r ≡ option_map (λ x. g (k.now, x)) o → r ≡ None → xs ++ map g (picked_one k.now o (picked f (map seen rest))) ≡ all → xs ++ map g (picked f (map seen rest)) ≡ all
-  maps_on None r e n h = h
-  maps_on (Some x) r e n h = absurd cc
-
-  pub maps_none : (r : Option Y) → r ≡ option_map (λ x. g (k.now, x)) (f c.now) → r ≡ None → xs ++ map g (picked f (map seen left)) ≡ all → xs ++ map g (picked f (map seen rest)) ≡ all
-  maps_none r e n h = maps_on (f c.now) r e n (ap (λ l. xs ++ map g (picked f (map seen l))) (sym turn) ∙ h)
-
-  maps_in : (o : Option X) (r : Option Y) (y : Y) (ys : List Y) → r ≡ option_map (λ x. g (k.now, x)) o → r ≡ Some y → ys ≡ xs ++ y ∷ []
-      → xs ++ map g (picked_one k.now o (picked f (map seen rest))) ≡ all → ys ++ map g (picked f (map seen rest)) ≡ all
-  maps_in None r y ys e n is h = absurd cc
-  maps_in (Some x) r y ys e n is h =
-      ap (λ l. l ++ map g (picked f (map seen rest))) (is ∙ ap (λ z. xs ++ z ∷ []) (Some_injective _ _ (sym n ∙ e))) ∙ append_assoc xs (g (k.now, x) ∷ []) (map g (picked f (map seen rest))) ∙ h
-
-  pub maps_some : (r : Option Y) (y : Y) (ys : List Y) → r ≡ option_map (λ x. g (k.now, x)) (f c.now) → r ≡ Some y → ys ≡ xs ++ y ∷ []
-      → xs ++ map g (picked f (map seen left)) ≡ all → ys ++ map g (picked f (map seen rest)) ≡ all
-  maps_some r y ys e n is h = maps_in (f c.now) r y ys e n is (ap (λ l. xs ++ map g (picked f (map seen l))) (sym turn) ∙ h)
-
-pub maps_end : {K C X Y : Type 0} (f : C → Option X) (g : K × X → Y) (left : List (Bor K × Bor C)) (len : ℕ) → len ≡ length left → len ≡ 0
-    → (xs all : List Y) → xs ++ map g (picked f (map seen left)) ≡ all → xs ≡ all
-maps_end f g left len same over xs all h = sym (append-nil xs) ∙ ap (λ l. xs ++ map g (picked f (map seen l))) (sym (nothing left (sym same ∙ over))) ∙ h
+-- so is what is made of each
+pub mapped_splits : {K C X Y : Type 0} (f : C → Option X) (g : K × X → Y) (e : K × C) (es : List (K × C)) → map g (picked f (e ∷ es)) ≡ map g (picked f (e ∷ [])) ++ map g (picked f es)
+mapped_splits f g e es = ap (map g) (picked_splits f e es) ∙ map-append g (picked f (e ∷ [])) (picked f es)

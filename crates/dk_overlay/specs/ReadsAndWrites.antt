@@ -99,3 +99,7 @@ moving_task t key from to = record t { tasks = map.insert t.tasks key (moving (m
 -- one more message
 abbrev pub sending : ReadsAndWrites → ConnNo → Out → ReadsAndWrites
 sending t to out = record t { outs = t.outs ++ (to, out) ∷ [] }
+
+-- the same with no changes of objects, names and tasks
+abbrev pub without_changes : ReadsAndWrites → ReadsAndWrites
+without_changes t = record t { objects = map.empty; names = map.empty; tasks = map.empty }

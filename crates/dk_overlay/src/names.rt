@@ -1,8 +1,8 @@
 //! The names that a run has bound and unbound.
-ghost use Rattle.std.specs.Prelude.{◌≡◌, ◌<◌, None, IfOk, OnOk, OnErr};
+ghost use Rattle.std.specs.Prelude.{◌≡◌, ◌<◌, None, [], ◌∷◌, ◌++◌, IfOk, OnOk, OnErr};
 ghost use Rattle.std.specs.FinMap as map;
 ghost use Rattle.std.specs.Map.{keys_of};
-ghost use Rattle.std.specs.Option.{option_copied, option_map};
+ghost use Rattle.std.specs.Option.{option_copied};
 ghost use Rattle.dk_types.specs.Names.{bytes_cmp};
 ghost use Rattle.dk_types.specs.Values.{same_id};
 ghost use Rattle.dk_overlay.specs.Least.{Least};
@@ -63,30 +63,32 @@ fn copy_change(change: &Change<ObjectId>) -> Change<ObjectId>
     }
 }
 
-/// The name and the object that a change binds it to, where it is another one than before.
-fn newly_bound(name: &Name, change: &Change<ObjectId>) -> Result<Option<(Name, ObjectId)>, NoMemory>
-    ensures { IfOk result (λ r. r ≡ option_map (λ id. (name.now, id)) (newly_set same_id change.now)) }
-{
-    match (change.before, change.after) {
-        (_, None) => Ok(None),
-        (None, Some(id)) => Ok(Some((name.clone()?, id))),
-        (Some(before), Some(id)) => {
-            if before == id {
-                Ok(None)
-            } else {
-                Ok(Some((name.clone()?, id)))
-            }
-        }
-    }
+/// What the changes of names come to, each list in the order of the names.
+#[derive(Drop)]
+pub struct NameEffects {
+    /// The names that are bound to another object than before.
+    pub bound: Vec<(Name, ObjectId)>,
+    /// Those that were bound and no longer are.
+    pub unbound: Vec<Name>,
 }
 
-/// The name, where a change took its binding away.
-fn unbound_name(name: &Name, change: &Change<ObjectId>) -> Result<Option<Name>, NoMemory>
-    ensures { IfOk result (λ r. r ≡ option_map (λ _. name.now) (taken_away change.now)) }
-{
-    match (change.before, change.after) {
-        (Some(_), None) => Ok(Some(name.clone()?)),
-        (_, Some(_)) | (None, None) => Ok(None),
+impl NameEffects {
+    /// Puts last what one more change comes to.
+    fn add(&mut self, name: Name, change: Change<ObjectId>) -> Result<(), NoMemory>
+        ensures bound { OnOk result (self.new.bound.items ≡ self.old.bound.items ++ picked (newly_set same_id) ((name, change) ∷ [])) }
+        ensures unbound { OnOk result (self.new.unbound.items ≡ self.old.unbound.items ++ keys_of (picked taken_away ((name, change) ∷ []))) }
+    {
+        match (change.before, change.after) {
+            (None, None) => {}
+            (Some(_), None) => self.unbound.push(name)?,
+            (None, Some(id)) => self.bound.push((name, id))?,
+            (Some(before), Some(id)) => {
+                if before != id {
+                    self.bound.push((name, id))?;
+                }
+            }
+        }
+        Ok(())
     }
 }
 
@@ -149,31 +151,20 @@ impl NameChanges {
         Ok(())
     }
 
-    /// The names that are bound to another object than before, in order.
-    pub fn bound(&self, alloc: Global) -> Result<Vec<(Name, ObjectId)>, NoMemory>
-        ensures { IfOk result (λ list. list.items ≡ picked (newly_set same_id) (map.entries self.now)) }
+    /// What the changes come to, in the order of the names. The names are moved, not copied; without a change it takes
+    /// no memory.
+    pub fn into_effects(self, alloc: Global) -> Result<NameEffects, NoMemory>
+        ensures bound { IfOk result (λ effects. effects.bound.items ≡ picked (newly_set same_id) (map.entries self)) }
+        ensures unbound { IfOk result (λ effects. effects.unbound.items ≡ keys_of (picked taken_away (map.entries self))) }
     {
-        let mut bound = Vec::new(alloc);
-        for (name, change) in self.changes.entries(alloc)? {
-            match newly_bound(name, change)? {
-                None => {}
-                Some(entry) => bound.push(entry)?,
-            }
+        let NameChanges { changes, bound: _ } = self;
+        let mut effects = NameEffects {
+            bound: Vec::new(alloc),
+            unbound: Vec::new(alloc),
+        };
+        for (name, change) in changes.into_entries(alloc)? {
+            effects.add(name, change)?;
         }
-        Ok(bound)
-    }
-
-    /// The names that were bound and no longer are, in order.
-    pub fn unbound(&self, alloc: Global) -> Result<Vec<Name>, NoMemory>
-        ensures { IfOk result (λ list. list.items ≡ keys_of (picked taken_away (map.entries self.now))) }
-    {
-        let mut unbound = Vec::new(alloc);
-        for (name, change) in self.changes.entries(alloc)? {
-            match unbound_name(name, change)? {
-                None => {}
-                Some(name) => unbound.push(name)?,
-            }
-        }
-        Ok(unbound)
+        Ok(effects)
     }
 }

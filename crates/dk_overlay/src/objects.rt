@@ -1,16 +1,16 @@
 //! The objects that a run has changed.
-ghost use Rattle.std.specs.Prelude.{◌≡◌, ◌≤◌, true, is_some, vec_len, IfOk, OnOk, OnErr};
+ghost use Rattle.std.specs.Prelude.{◌≡◌, ◌≤◌, true, is_some, [], ◌∷◌, ◌++◌, vec_len, IfOk, OnOk, OnErr};
 ghost use Rattle.std.specs.FinMap as map;
 ghost use Rattle.std.specs.Map.{keys_of};
-ghost use Rattle.std.specs.Option.{option_copied, option_map};
+ghost use Rattle.std.specs.Option.{option_copied};
 ghost use Rattle.dk_types.specs.Keys.{id_cmp};
-ghost use Rattle.dk_types.specs.Values.{same_object, same_value};
+ghost use Rattle.dk_types.specs.Values.{same_object};
 ghost use Rattle.dk_map.specs.AsMap.{map_of};
 ghost use Rattle.dk_map.specs.Entries.{IsOrdered};
 ghost use Rattle.dk_overlay.specs.Changes.{put_back, put_each};
 ghost use Rattle.dk_overlay.specs.Picks.{picked, newly_set, taken_away};
 
-use crate::change::{Change, copy_change, copy_object};
+use crate::change::Change;
 use dk_map::OrderedMap;
 use dk_types::{NoMemory, Object, ObjectId};
 use std::alloc::Global;
@@ -45,40 +45,32 @@ impl Model for ObjectChanges {
     ghost invariant = { λ a. IsOrdered id_cmp a.changes.entries };
 }
 
-/// Whether an object is the same as before.
-fn is_same_object(before: &Option<Object>, now: &Option<Object>) -> bool
-    ensures { result ≡ same_value same_object before.now now.now }
-{
-    match (before, now) {
-        (None, None) => true,
-        (Some(a), Some(b)) => a == b,
-        (None, Some(_)) | (Some(_), None) => false,
-    }
+/// What the changes of objects come to, each list in the order of the ids.
+#[derive(Drop)]
+pub struct ObjectEffects {
+    /// The objects that are other than before.
+    pub written: Vec<(ObjectId, Object)>,
+    /// Those that were there and no longer are.
+    pub removed: Vec<ObjectId>,
 }
 
-/// The object that a change leaves, copied, where it is another one than before.
-fn newly_written(
-    id: ObjectId,
-    change: &Change<Object>,
-) -> Result<Option<(ObjectId, Object)>, NoMemory>
-    ensures { IfOk result (λ r. r ≡ option_map (λ object. (id, object)) (newly_set same_object change.now)) }
-{
-    if is_same_object(&change.before, &change.after) {
-        return Ok(None);
-    }
-    match &change.after {
-        None => Ok(None),
-        Some(object) => Ok(Some((id, copy_object(object)?))),
-    }
-}
-
-/// The object, where a change took it away.
-fn removed_id(id: ObjectId, change: &Change<Object>) -> Option<ObjectId>
-    ensures { result ≡ option_map (λ _. id) (taken_away change.now) }
-{
-    match (&change.before, &change.after) {
-        (Some(_), None) => Some(id),
-        (_, Some(_)) | (None, None) => None,
+impl ObjectEffects {
+    /// Puts last what one more change comes to.
+    fn add(&mut self, id: ObjectId, change: Change<Object>) -> Result<(), NoMemory>
+        ensures written { OnOk result (self.new.written.items ≡ self.old.written.items ++ picked (newly_set same_object) ((id, change) ∷ [])) }
+        ensures removed { OnOk result (self.new.removed.items ≡ self.old.removed.items ++ keys_of (picked taken_away ((id, change) ∷ []))) }
+    {
+        match (change.before, change.after) {
+            (None, None) => {}
+            (Some(_), None) => self.removed.push(id)?,
+            (None, Some(object)) => self.written.push((id, object))?,
+            (Some(before), Some(object)) => {
+                if before != object {
+                    self.written.push((id, object))?;
+                }
+            }
+        }
+        Ok(())
     }
 }
 
@@ -112,16 +104,6 @@ impl ObjectChanges {
         ensures { option_copied result ≡ map.get self.now id }
     {
         self.changes.get(&id)
-    }
-
-    /// A copy of the change at an object, if there is one.
-    pub fn copied(&self, id: ObjectId) -> Result<Option<Change<Object>>, NoMemory>
-        ensures { IfOk result (λ change. change ≡ map.get self.now id) }
-    {
-        match self.get(id) {
-            None => Ok(None),
-            Some(change) => Ok(Some(copy_change(change)?)),
-        }
     }
 
     /// Puts a change at an object. Refused, it changes nothing.
@@ -172,31 +154,20 @@ impl ObjectChanges {
         }
     }
 
-    /// Copies of the objects that are other than before, in the order of their ids.
-    pub fn written(&self, alloc: Global) -> Result<Vec<(ObjectId, Object)>, NoMemory>
-        ensures { IfOk result (λ list. list.items ≡ picked (newly_set same_object) (map.entries self.now)) }
+    /// What the changes come to, in the order of the ids. The objects are moved, not copied; without a change it takes
+    /// no memory.
+    pub fn into_effects(self, alloc: Global) -> Result<ObjectEffects, NoMemory>
+        ensures written { IfOk result (λ effects. effects.written.items ≡ picked (newly_set same_object) (map.entries self)) }
+        ensures removed { IfOk result (λ effects. effects.removed.items ≡ keys_of (picked taken_away (map.entries self))) }
     {
-        let mut written = Vec::new(alloc);
-        for (id, change) in self.changes.entries(alloc)? {
-            match newly_written(*id, change)? {
-                None => {}
-                Some(entry) => written.push(entry)?,
-            }
+        let ObjectChanges { changes } = self;
+        let mut effects = ObjectEffects {
+            written: Vec::new(alloc),
+            removed: Vec::new(alloc),
+        };
+        for (id, change) in changes.into_entries(alloc)? {
+            effects.add(id, change)?;
         }
-        Ok(written)
-    }
-
-    /// The objects that were there and no longer are, in order.
-    pub fn removed(&self, alloc: Global) -> Result<Vec<ObjectId>, NoMemory>
-        ensures { IfOk result (λ list. list.items ≡ keys_of (picked taken_away (map.entries self.now))) }
-    {
-        let mut removed = Vec::new(alloc);
-        for (id, change) in self.changes.entries(alloc)? {
-            match removed_id(*id, change) {
-                None => {}
-                Some(id) => removed.push(id)?,
-            }
-        }
-        Ok(removed)
+        Ok(effects)
     }
 }

@@ -8,9 +8,9 @@ ghost use Rattle.dk_types.specs.declared.limits.TheConstants.{MOMENT_MOST_MS};
 ghost use Rattle.dk_overlay.specs.Asked.{WasRead, WasNotRead, WasAnswered, IsOnce};
 ghost use Rattle.dk_overlay.specs.Binding.{is_bound_after};
 ghost use Rattle.dk_overlay.specs.Changes.{settled};
-ghost use Rattle.dk_overlay.specs.NetChanges.{net_changes};
+ghost use Rattle.dk_overlay.specs.NetChanges.{net_of, net_changes};
 ghost use Rattle.dk_overlay.specs.Least.{Least};
-ghost use Rattle.dk_overlay.specs.ReadsAndWrites.{nothing_done, reading, new_id, creating, changing_object, changing_objects, changing_name, new_key, scheduling, removing_task, moving_task, sending};
+ghost use Rattle.dk_overlay.specs.ReadsAndWrites.{nothing_done, reading, new_id, creating, changing_object, changing_objects, changing_name, new_key, scheduling, removing_task, moving_task, sending, without_changes};
 
 use crate::change::{Change, Scheduled};
 use crate::names::NameChanges;
@@ -94,6 +94,29 @@ fn items_of(alloc: Global, changes: &[(ObjectId, Change<Object>)]) -> Result<Vec
         items.push(Item::Object(*id))?;
     }
     Ok(items)
+}
+
+/// What changes of objects, names and tasks come to.
+fn net_effects(
+    alloc: Global,
+    objects: ObjectChanges,
+    names: NameChanges,
+    tasks: TaskChanges,
+) -> Result<Effects, NoMemory>
+    ensures { IfOk result (λ effects. effects ≡ net_of objects names tasks) }
+{
+    let objects = objects.into_effects(alloc)?;
+    let names = names.into_effects(alloc)?;
+    let tasks = tasks.into_effects(alloc)?;
+    Ok(Effects {
+        written: Listed::from_vec(objects.written),
+        removed: Listed::from_vec(objects.removed),
+        bound: Listed::from_vec(names.bound),
+        unbound: Listed::from_vec(names.unbound),
+        added: Listed::from_vec(tasks.added),
+        dropped: Listed::from_vec(tasks.dropped),
+        requeued: Listed::from_vec(tasks.requeued),
+    })
 }
 
 impl ReadWriteSet {
@@ -198,11 +221,11 @@ impl ReadWriteSet {
         self.reads.push(item, read)
     }
 
-    /// A copy of the change of an object, if the run changed it.
-    pub fn object(&self, id: ObjectId) -> Result<Option<Change<Object>>, NoMemory>
-        ensures { IfOk result (λ change. change ≡ map.get self.now.objects id) }
+    /// The change of an object, if the run changed it.
+    pub fn object(&self, id: ObjectId) -> Option<&Change<Object>>
+        ensures { option_copied result ≡ map.get self.now.objects id }
     {
-        self.objects.copied(id)
+        self.objects.get(id)
     }
 
     /// The change of a name, if the run changed it.
@@ -447,20 +470,42 @@ impl ReadWriteSet {
         Ok(())
     }
 
-    /// The net effects of the changes.
-    pub fn effects(&self) -> Result<Effects, NoMemory>
-        ensures { IfOk result (λ e. e ≡ net_changes self.now) }
+    /// The net effects of the changes, and the set without these changes. Refused, the set is let go.
+    pub fn into_effects(self) -> Result<(Effects, ReadWriteSet), NoMemory>
+        ensures effects { IfOk result (λ r. r.0 ≡ net_changes self) }
+        ensures rest { IfOk result (λ r. r.1 ≡ without_changes self) }
     {
         let alloc = self.alloc;
-        Ok(Effects {
-            written: Listed::from_vec(self.objects.written(alloc)?),
-            removed: Listed::from_vec(self.objects.removed(alloc)?),
-            bound: Listed::from_vec(self.names.bound(alloc)?),
-            unbound: Listed::from_vec(self.names.unbound(alloc)?),
-            added: Listed::from_vec(self.tasks.added(alloc)?),
-            dropped: Listed::from_vec(self.tasks.dropped(alloc)?),
-            requeued: Listed::from_vec(self.tasks.requeued(alloc)?),
-        })
+        let ReadWriteSet {
+            reads,
+            objects,
+            names,
+            tasks,
+            touched,
+            outs,
+            run,
+            at,
+            objects_made,
+            tasks_made,
+            mode,
+            alloc: _,
+        } = self;
+        let effects = net_effects(alloc, objects, names, tasks)?;
+        let rest = ReadWriteSet {
+            reads,
+            objects: ObjectChanges::new(alloc),
+            names: NameChanges::new(alloc),
+            tasks: TaskChanges::new(alloc),
+            touched,
+            outs,
+            run,
+            at,
+            objects_made,
+            tasks_made,
+            mode,
+            alloc,
+        };
+        Ok((effects, rest))
     }
 
     /// Hands over what does not depend on how the run ended.

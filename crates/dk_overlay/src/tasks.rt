@@ -1,8 +1,7 @@
 //! The tasks that a run has scheduled, taken away or moved.
-ghost use Rattle.std.specs.Prelude.{◌≡◌, IfOk, OnOk, OnErr, map as list_map};
+ghost use Rattle.std.specs.Prelude.{◌≡◌, [], ◌∷◌, ◌++◌, IfOk, OnOk, OnErr, map as list_map};
 ghost use Rattle.std.specs.FinMap as map;
 ghost use Rattle.std.specs.Map.{keys_of};
-ghost use Rattle.std.specs.Option.{option_map};
 ghost use Rattle.dk_types.specs.Values.{pending_of};
 ghost use Rattle.dk_overlay.specs.declared.change.TaskChange.TheVariants.{Added};
 ghost use Rattle.dk_overlay.specs.Changes.{removing, moving, settled};
@@ -42,39 +41,41 @@ impl Model for TaskChanges {
     ghost invariant = { λ a. IsOrdered key_cmp a.changes.entries };
 }
 
-/// A copy of the task that a change added.
-fn added_task(key: TaskKey, change: &TaskChange) -> Result<Option<Pending>, NoMemory>
-    ensures { IfOk result (λ r. r ≡ option_map (λ task. pending_of (key, task)) (task_added change.now)) }
-{
-    match change {
-        TaskChange::Added(task) => Ok(Some(Pending {
-            key,
-            due: task.due,
-            period: task.period,
-            kind: task.kind,
-            arg: task.arg.clone()?,
-        })),
-        TaskChange::Withdrawn | TaskChange::Dropped | TaskChange::Moved { .. } => Ok(None),
-    }
+/// What the changes of tasks come to, each list in the order of the keys.
+#[derive(Drop)]
+pub struct TaskEffects {
+    /// The tasks that were added.
+    pub added: Vec<Pending>,
+    /// Those that were pending before the run and no longer are.
+    pub dropped: Vec<TaskKey>,
+    /// Those that have another due moment than before, with it, in ms.
+    pub requeued: Vec<(TaskKey, u64)>,
 }
 
-/// The task's key, where a change dropped it.
-fn dropped_key(key: TaskKey, change: &TaskChange) -> Option<TaskKey>
-    ensures { result ≡ option_map (λ _. key) (task_dropped change.now) }
-{
-    match change {
-        TaskChange::Dropped => Some(key),
-        TaskChange::Added(_) | TaskChange::Withdrawn | TaskChange::Moved { .. } => None,
-    }
-}
-
-/// The task's key and its due moment in ms, where a change gave it another one.
-fn moved_task(key: TaskKey, change: &TaskChange) -> Option<(TaskKey, u64)>
-    ensures { result ≡ option_map (λ due. (key, due)) (task_moved change.now) }
-{
-    match change {
-        TaskChange::Moved { from, to } => { if *from == *to { None } else { Some((key, *to)) } }
-        TaskChange::Added(_) | TaskChange::Withdrawn | TaskChange::Dropped => None,
+impl TaskEffects {
+    /// Puts last what one more change comes to.
+    fn add(&mut self, key: TaskKey, change: TaskChange) -> Result<(), NoMemory>
+        ensures added { OnOk result (self.new.added.items ≡ self.old.added.items ++ list_map pending_of (picked task_added ((key, change) ∷ []))) }
+        ensures dropped { OnOk result (self.new.dropped.items ≡ self.old.dropped.items ++ keys_of (picked task_dropped ((key, change) ∷ []))) }
+        ensures requeued { OnOk result (self.new.requeued.items ≡ self.old.requeued.items ++ picked task_moved ((key, change) ∷ [])) }
+    {
+        match change {
+            TaskChange::Added(task) => self.added.push(Pending {
+                key,
+                due: task.due,
+                period: task.period,
+                kind: task.kind,
+                arg: task.arg,
+            })?,
+            TaskChange::Withdrawn => {}
+            TaskChange::Dropped => self.dropped.push(key)?,
+            TaskChange::Moved { from, to } => {
+                if from != to {
+                    self.requeued.push((key, to))?;
+                }
+            }
+        }
+        Ok(())
     }
 }
 
@@ -128,45 +129,22 @@ impl TaskChanges {
         Ok(())
     }
 
-    /// Copies of the tasks that were added, in the order of their keys.
-    pub fn added(&self, alloc: Global) -> Result<Vec<Pending>, NoMemory>
-        ensures { IfOk result (λ list. list.items ≡ list_map pending_of (picked task_added (map.entries self.now))) }
+    /// What the changes come to, in the order of the keys. The arguments are moved, not copied; without a change it
+    /// takes no memory.
+    pub fn into_effects(self, alloc: Global) -> Result<TaskEffects, NoMemory>
+        ensures added { IfOk result (λ effects. effects.added.items ≡ list_map pending_of (picked task_added (map.entries self))) }
+        ensures dropped { IfOk result (λ effects. effects.dropped.items ≡ keys_of (picked task_dropped (map.entries self))) }
+        ensures requeued { IfOk result (λ effects. effects.requeued.items ≡ picked task_moved (map.entries self)) }
     {
-        let mut added = Vec::new(alloc);
-        for (key, change) in self.changes.entries(alloc)? {
-            match added_task(*key, change)? {
-                None => {}
-                Some(task) => added.push(task)?,
-            }
+        let TaskChanges { changes } = self;
+        let mut effects = TaskEffects {
+            added: Vec::new(alloc),
+            dropped: Vec::new(alloc),
+            requeued: Vec::new(alloc),
+        };
+        for (key, change) in changes.into_entries(alloc)? {
+            effects.add(key, change)?;
         }
-        Ok(added)
-    }
-
-    /// The tasks that were pending before the run and no longer are, in order.
-    pub fn dropped(&self, alloc: Global) -> Result<Vec<TaskKey>, NoMemory>
-        ensures { IfOk result (λ list. list.items ≡ keys_of (picked task_dropped (map.entries self.now))) }
-    {
-        let mut dropped = Vec::new(alloc);
-        for (key, change) in self.changes.entries(alloc)? {
-            match dropped_key(*key, change) {
-                None => {}
-                Some(key) => dropped.push(key)?,
-            }
-        }
-        Ok(dropped)
-    }
-
-    /// The tasks that have another due moment than before, with it, in order.
-    pub fn requeued(&self, alloc: Global) -> Result<Vec<(TaskKey, u64)>, NoMemory>
-        ensures { IfOk result (λ list. list.items ≡ picked task_moved (map.entries self.now)) }
-    {
-        let mut requeued = Vec::new(alloc);
-        for (key, change) in self.changes.entries(alloc)? {
-            match moved_task(*key, change) {
-                None => {}
-                Some(entry) => requeued.push(entry)?,
-            }
-        }
-        Ok(requeued)
+        Ok(effects)
     }
 }
