@@ -1,5 +1,5 @@
 -- What each call on objects does.
-use Rattle.std.proofs.Common.{◌≡◌, ℕ, ◌+◌, ◌<◌, ◌≤◌, nat_le, arith, true, false, Option, Some, None, List, Result, Ok, Err, refl, sym, ap, subst, ◌∙◌}
+use Rattle.std.proofs.Common.{◌≡◌, ℕ, ◌+◌, ◌<◌, ◌≤◌, nat_le, arith, true, false, Option, Some, None, List, Result, Ok, Err, IfOk, refl, sym, ap, subst, ◌∙◌}
 use Rattle.std.proofs.lemmas.Bool.Decides.{nat_tests}
 use Rattle.std.specs.Option.{ok_or}
 use Rattle.std.specs.Result.{IsErrAnd, IfErr}
@@ -69,6 +69,11 @@ module _ {P : TaskKey → ℕ → Type 0} {S : Type 0} {sights : Sights S} where
   -- want of memory tells nothing
   pub forgotten : {a b : Txn S ReadsAndWrites} {A : Type 0} {f : Act A} → KeepsFor P sights a b → DoesFor P sights refusal_fault a b f (Err refusal.NoMemory)
   forgotten k = record { keeps = k; does = λ s t. cc }
+
+-- what holds of a value holds of a copy of it
+pub if_copied : {E A : Type 0} (P : A → Type 0) (r : Result A E) (x : A) → IfOk r (λ y. y ≡ x) → P x → IfOk r P
+if_copied P (Ok y) x is p = subst P (sym is) p
+if_copied P (Err e) x is p = tt
 
 -- what is known of an object by a change of it, and by what the view said
 pub known_changed : (t : ReadsAndWrites) (id : ObjectId) (c : Change Object) → map.get t.objects id ≡ Some c → KnownObject t id c

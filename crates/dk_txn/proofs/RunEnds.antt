@@ -19,9 +19,9 @@ use Rattle.dk_txn.specs.declared.finished.Finished.{Finished}
 use Rattle.dk_overlay.specs.Asked.{IsAsked}
 use Rattle.dk_overlay.specs.Changes.{task_now}
 use Rattle.dk_txn.specs.Layers.{layered}
-use Rattle.dk_overlay.specs.ReadsAndWrites.{ReadsAndWrites, nothing_done}
+use Rattle.dk_overlay.specs.ReadsAndWrites.{ReadsAndWrites, nothing_done, without_changes}
 use Rattle.dk_txn.specs.Current.{current, passing_own}
-use Rattle.dk_txn.specs.Knowing.{MovesStand, Fits}
+use Rattle.dk_txn.specs.Knowing.{MovesStand, MovesOwn, OwnIsAsked, Fits}
 use Rattle.dk_model.specs.Finishes.{step_report}
 use Rattle.dk_txn.specs.Finishes.{MayBeIn, IsLogOf, IsKeptIn, IsKept, TellsFailed, TellsEnd}
 use Rattle.dk_overlay.specs.NetChanges.{net_changes}
@@ -94,6 +94,40 @@ tells_done t j f small end written touched outs = λ set d may.
     (λ i. record { outcome = end i; effects = (written ∙ net t j set d may) i; touched = touched i; outs = outs i })
     ∙ ap (λ b. step_report d (if b then failed j (begun t.run t.at d) TooLarge else record { outcome = outcome.Ok; world = (current t d).world; touched = t.touched; outs = t.outs }))
     (sym (sym (size t j set d may) ∙ small))
+
+-- whether the run asked for its own task does not depend on its changes
+asked_without : (j : Job) (t : ReadsAndWrites) → OwnIsAsked j t → OwnIsAsked j (without_changes t)
+asked_without job.Initialize t h = h
+asked_without (job.Login conn name) t h = h
+asked_without (job.Message conn name body) t h = h
+asked_without (job.Channel conn name channel body) t h = h
+asked_without (job.Disconnect conn name graceful) t h = h
+asked_without (job.Task key due period kind arg) t h = h
+
+-- without changes no task is moved
+own_without : (j : Job) (t : ReadsAndWrites) → MovesOwn j (without_changes t)
+own_without job.Initialize t = λ k from to h. at_empty key_cmp (λ _ _. ⊥) k (Moved from to) h
+own_without (job.Login conn name) t = λ k from to h. at_empty key_cmp (λ _ _. ⊥) k (Moved from to) h
+own_without (job.Message conn name body) t = λ k from to h. at_empty key_cmp (λ _ _. ⊥) k (Moved from to) h
+own_without (job.Channel conn name channel body) t = λ k from to h. at_empty key_cmp (λ _ _. ⊥) k (Moved from to) h
+own_without (job.Disconnect conn name graceful) t = λ k from to h. at_empty key_cmp (λ _ _. ⊥) k (Moved from to) h
+own_without (job.Task key due period kind arg) t = λ k from to h. at_empty key_cmp (λ _ _. (k ≡ key) × (from ≡ due)) k (Moved from to) h
+
+log_without : (t : ReadsAndWrites) (j : Job) → IsLogOf t j → IsLogOf (without_changes t) j
+log_without t j log = record {
+  sound = record {
+    knows = λ d agrees new. let k = nothing_known t.run t.at d in record { objects = k.objects; names = k.names; tasks = k.tasks };
+  };
+  asked = asked_without j t log.asked;
+  own = own_without j t;
+  fits = log.fits;
+}
+
+-- what a failed run tells depends on its reads, its number and its moment alone
+pub tells_without : (t r : ReadsAndWrites) (j : Job) (fault : AppFault) (f : Finished) → r ≡ without_changes t → TellsFailed r j fault f → TellsFailed t j fault f
+tells_without t r j fault f is tells =
+    let bare : TellsFailed (without_changes t) j fault f = subst (λ r. TellsFailed r j fault f) is tells in
+    λ log d may. bare (log_without t j log) d (record { agrees = may.agrees; new = may.new; stands = may.stands })
 
 -- one whose effects are too large fails
 pub tells_large : (t : ReadsAndWrites) (j : Job) (f : Finished) → nat_lt EFFECTS_MOST_BYTES (effects_length (net_changes t)) ≡ true → TellsFailed t j TooLarge f → TellsEnd t j (Ok tt) f

@@ -95,7 +95,7 @@ fn fail(set: ReadWriteSet, job: &Job, fault: AppFault) -> Result<Finished, NoMem
     ensures told { IfOk result (TellsFailed set job.now fault) }
 {
     let kept = kept(&set, job)?;
-    let effects = kept.effects()?;
+    let (effects, kept) = kept.into_effects()?;
     let outs = failed_outs(set.allocator(), job)?;
     let ReadWriteParts {
         reads,
@@ -122,7 +122,7 @@ fn come_to_end(set: ReadWriteSet, job: &Job) -> Result<Finished, NoMemory>
     ensures once { IfOk result (λ f. IsOnce f.reads.items) }
     ensures told { IfOk result (TellsEnd set job.now (Ok tt)) }
 {
-    let effects = set.effects()?;
+    let (effects, set) = set.into_effects()?;
     if is_too_large(&effects) {
         return fail(set, job, AppFault::TooLarge);
     }

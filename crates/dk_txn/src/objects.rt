@@ -9,7 +9,7 @@ use crate::refusal::Refusal;
 use crate::txn::Txn;
 use crate::view::View;
 use dk_model::limits::OBJECTS_MOST_COUNT;
-use dk_overlay::{Change, copy_value, object_of_answer};
+use dk_overlay::{Change, copy_change, copy_value, object_of_answer};
 use dk_types::{Blob, Item, NoMemory, Object, ObjectId};
 
 impl<'a, V: View> Txn<'a, V> {
@@ -23,8 +23,8 @@ impl<'a, V: View> Txn<'a, V> {
         ensures same_changes { SameChanges self.old.set self.new.set }
         ensures known { IfOk result (KnownObject self.new.set id) }
     {
-        match self.set.object(id)? {
-            Some(change) => Ok(change),
+        match self.set.object(id) {
+            Some(change) => copy_change(change),
             None => {
                 let after = object_of_answer(self.ask(Item::Object(id))?);
                 let before = copy_value(&after)?;
