@@ -6,6 +6,7 @@ pub mod Keys
 pub mod Maps
 pub mod Next
 pub mod PutBack
+pub mod Puts
 pub mod Seen
 pub mod Top
 pub mod Turns

@@ -1,11 +1,13 @@
 -- What the node at the top of a tree says of the tree.
-use Rattle.std.proofs.Common.{◌≡◌, ℕ, ◌+◌, ◌≤◌, max, arith, sym, ap, subst, ◌∙◌, List, [], Option, None, Some, Box}
+use Rattle.std.proofs.Common.{◌≡◌, ℕ, ◌+◌, ◌≤◌, max, arith, refl, sym, ap, subst, ◌∙◌, List, [], ◌∷◌, ◌++◌, length, Option, None, Some, Box}
+use Rattle.std.specs.Option.{IsSomeAnd}
 use Rattle.std.specs.declared.cmp.Ordering.{Ordering}
 use Rattle.std.specs.Cmp.{IsTotalOrder}
 use Rattle.dk_map.specs.declared.tree.Node.{Node}
-use Rattle.dk_map.specs.Balance.{node_entries, node_height, root_entries, cell_entries, IsAvl, IsAvlCell, DifferByAtMost, IsSettledHeight, SettlesTo}
+use Rattle.dk_map.specs.Balance.{node_entries, node_height, root_entries, cell_entries, IsAvl, IsAvlCell, IsLow, DifferByAtMost, IsSettledHeight, SettlesTo}
 use Rattle.dk_map.specs.Entries.{IsOrdered}
 use Rattle.dk_map.proofs.Around.{AtEntry, at_entry}
+use Rattle.dk_map.proofs.Puts.{grows_left, grows_right}
 
 -- d is what a tree is seen as whose top node is n
 pub record HasTop {K V : Type 0} (d : List (K × V) × ℕ) (n : Node K V) : Type 0 where
@@ -29,6 +31,11 @@ has_top {h = h} {b = b} {w = w} {n = n} v a r e i =
       balanced = cell.1;
     }
 
+-- the cell that holds it is balanced
+pub top_cell : {K V Z : Type 0} {root : Option (Box (Option (Node K V)) Z)} {h : ℕ} {b : Box (Option (Node K V)) Z} {w : Option (Node K V)} {n : Node K V}
+    → IsAvl root h → root ≡ Some b → w ≡ b.value → w ≡ Some n → IsAvlCell (Some n) h
+top_cell {h = h} {b = b} {n = n} a r e i = of_cell b.value h n (sym e ∙ i) (subst (λ x. IsAvl x h) r a)
+
 -- what stands around the top entry
 pub at_top : {K V : Type 0} {R : K → K → Ordering} {d : List (K × V) × ℕ} {n : Node K V} → IsTotalOrder R → HasTop d n → IsOrdered R d.0 → AtEntry R d.0 n.left.0 (n.key, n.value) n.right.0
 at_top o t h = at_entry o t.entries h
@@ -44,6 +51,26 @@ left_falls l r k h d p q s = grind (arith, s.2)
 -- a node whose right side fell by one level at most falls by one level at most
 pub right_falls : (l r k h : ℕ) → DifferByAtMost 1 l r → k ≤ r → r ≤ k + 1 → IsSettledHeight l k h → (h ≤ max l r + 1) × (max l r + 1 ≤ h + 1)
 right_falls l r k h d p q s = grind (arith, s.2)
+
+-- a height that is low for some entries is low for more
+low_more : (h n m : ℕ) → n ≤ m → IsLow h n → IsLow h m
+low_more h n m p q = omega (arith, p, q)
+
+-- a node stays balanced where another tree takes the place of a side, as high and no shorter
+pub left_stays : {K V : Type 0} (n : Node K V) (h : ℕ) (t : List (K × V) × ℕ) → IsAvlCell (Some n) h → t.1 ≡ n.left.1 → length n.left.0 ≤ length t.0
+    → IsAvlCell (Some (record { key = n.key; left = t; right = n.right; value = n.value })) h
+left_stays n h t a same grows =
+    (a.0 ∙ ap (λ k. max k n.right.1 + 1) (sym same), subst (λ k. DifferByAtMost 1 k n.right.1) (sym same) a.1, low_more h _ _ (grows_left _ _ _ _ _ refl grows) a.2)
+
+pub right_stays : {K V : Type 0} (n : Node K V) (h : ℕ) (t : List (K × V) × ℕ) → IsAvlCell (Some n) h → t.1 ≡ n.right.1 → length n.right.0 ≤ length t.0
+    → IsAvlCell (Some (record { key = n.key; left = n.left; right = t; value = n.value })) h
+right_stays n h t a same grows =
+    (a.0 ∙ ap (λ k. max n.left.1 k + 1) (sym same), subst (λ k. DifferByAtMost 1 n.left.1 k) (sym same) a.1, low_more h _ _ (grows_right _ _ _ _ _ refl grows) a.2)
+
+-- the first entry of the left side is the first of the whole
+pub first_of_left : {X : Type 0} (d l m r w : List X) (f : Option X) → d ≡ l ++ r → w ≡ m ++ r → IsSomeAnd f (λ e. l ≡ e ∷ m) → IsSomeAnd f (λ e. d ≡ e ∷ w)
+first_of_left d l m r w None is same s = absurd s
+first_of_left d l m r w (Some x) is same s = is ∙ ap (λ t. t ++ r) s ∙ ap (λ t. x ∷ t) (sym same)
 
 -- one link leads to one node
 pub same_node : {K V Z : Type 0} {root : Option (Box (Option (Node K V)) Z)} {b c : Box (Option (Node K V)) Z} {w x : Option (Node K V)} {n m : Node K V}

@@ -2,4 +2,5 @@ pub mod AsMap
 pub mod Balance
 pub mod Entries
 pub mod OrderedMap
+pub mod Puts
 pub mod Values

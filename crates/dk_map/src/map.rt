@@ -140,11 +140,15 @@ impl<K: Ord + Drop, V: Drop> OrderedMap<K, V> {
         ensures ordered { IsOrdered K.cmp self.new.entries }
     {
         prove!(self.tree.height() < 128);
-        let old = self.tree.insert(key, value, &mut self.cells);
-        if old.is_none() {
-            self.len += 1;
+        let mut entry = Some((key, value));
+        self.tree.insert(&mut entry, &mut self.cells);
+        match entry {
+            None => {
+                self.len += 1;
+                None
+            }
+            Some((_key, old)) => Some(old),
         }
-        old
     }
 
     /// Changes the value at a key where it stands, if there is one, and gives what the change answers. Nothing is moved.
@@ -169,7 +173,8 @@ impl<K: Ord + Drop, V: Drop> OrderedMap<K, V> {
             return None;
         }
         prove!(self.tree.height() < 128);
-        let removed = self.tree.remove(key, &mut self.cells);
+        let mut removed = None;
+        self.tree.remove(key, &mut self.cells, &mut removed);
         if removed.is_some() {
             self.len -= 1;
         }

@@ -1,10 +1,11 @@
 // How an entry comes into a tree, and how it leaves.
-ghost use Rattle.std.specs.Prelude.{◌≡◌, ◌∷◌, ◌++◌, ◌+◌, ◌-◌, ◌^◌, ◌<◌, ◌≤◌, max, None, Some, IfSome, IfOk, IfErr, is_some, is_ok, length, if◌then◌else◌, vec_len, vec_capacity};
-ghost use Rattle.std.specs.Option.{option_map};
+ghost use Rattle.std.specs.Prelude.{◌≡◌, [], ◌∷◌, ◌++◌, ◌+◌, ◌-◌, ◌^◌, ◌<◌, ◌≤◌, max, None, Some, IfSome, IsSome, is_some, false, length, if◌then◌else◌, vec_len, vec_capacity};
+ghost use Rattle.std.specs.Option.{option_map, IsSomeAnd};
 ghost use Rattle.std.specs.declared.cmp.Ordering.TheVariants.{Equal};
 ghost use Rattle.dk_map.specs.Balance.{DifferByAtMost};
 ghost use Rattle.std.specs.Fn.{FnOnceReturnsAtMut};
-ghost use Rattle.dk_map.specs.Entries.{find, put, without, IsOrdered, IsChanged};
+ghost use Rattle.dk_map.specs.Entries.{find, without, IsOrdered, IsChanged};
+ghost use Rattle.dk_map.specs.Puts.{HasRoom, IsPut};
 
 use super::balance::settle;
 use super::{Cell, Node, Tree};
@@ -12,46 +13,75 @@ use std::cmp::Ordering;
 use std::mem;
 
 impl<K: Ord + Drop, V: Drop> Tree<K, V> {
-    /// Puts an entry in. At a key that is there the key stays, and its old value comes back.
-    pub(crate) fn insert(&mut self, key: K, value: V, spare: &mut Vec<Cell<K, V>>) -> Option<V>
+    /// Puts an entry in, and tells whether the tree is higher. A new entry is taken. At a key that is there the key
+    /// stays, and its old value is left in `entry`.
+    pub(crate) fn insert(&mut self, entry: &mut Option<(K, V)>, spare: &mut Vec<Cell<K, V>>) -> bool
         requires ordered { IsOrdered K.cmp self.old.0 }
-        requires room { find K.cmp key self.old.0 ≡ None → 0 < vec_len spare.old }
+        requires room { HasRoom K.cmp entry.old self.old.0 (vec_len spare.old) }
         requires fits { self.old.1 < 2 ^ 8 - 2 }
-        ensures old { result ≡ find K.cmp key self.old.0 }
-        ensures entries { self.new.0 ≡ put K.cmp key value self.old.0 }
-        ensures spare { vec_len spare.new + (if is_some result then 0 else 1) ≡ vec_len spare.old }
+        ensures put { IsPut K.cmp entry.old entry.new self.old.0 self.new.0 }
+        ensures spare { vec_len spare.new + (if is_some entry.new then 0 else 1) ≡ vec_len spare.old }
         ensures capacity { vec_capacity spare.new ≡ vec_capacity spare.old }
+        ensures grows { length self.old.0 ≤ length self.new.0 }
+        ensures as_high { result ≡ false → self.new.1 ≡ self.old.1 }
         ensures not_lower { self.old.1 ≤ self.new.1 }
         ensures at_most_one_higher { self.new.1 ≤ self.old.1 + 1 }
     {
         match &mut self.root {
             None => {
-                let Some(mut cell) = spare.pop() else {
-                    unreachable!()
-                };
-                *cell = Some(Node {
-                    left: Tree::leaf(),
-                    key,
-                    value,
-                    right: Tree::leaf(),
-                });
-                self.root = Some(cell);
-                self.height = 1;
-                None
+                self.plant(entry, spare);
+                true
             }
             Some(cell) => match &mut **cell {
                 None => unreachable!(),
                 Some(node) => {
-                    let old = match key.cmp(&node.key) {
-                        Ordering::Less => node.left.insert(key, value, spare),
-                        Ordering::Equal => return Some(mem::replace(&mut node.value, value)),
-                        Ordering::Greater => node.right.insert(key, value, spare),
+                    let Some((key, value)) = entry else {
+                        unreachable!()
                     };
+                    let higher = match (*key).cmp(&node.key) {
+                        Ordering::Less => node.left.insert(entry, spare),
+                        Ordering::Equal => {
+                            mem::swap(&mut node.value, value);
+                            return false;
+                        }
+                        Ordering::Greater => node.right.insert(entry, spare),
+                    };
+                    if !higher {
+                        return false;
+                    }
+                    let before = self.height;
                     self.height = settle(cell);
-                    old
+                    self.height != before
                 }
             },
         }
+    }
+
+    /// Makes a tree of an entry where there is none.
+    fn plant(&mut self, entry: &mut Option<(K, V)>, spare: &mut Vec<Cell<K, V>>)
+        requires nowhere { self.old.0 ≡ [] }
+        requires room { 0 < vec_len spare.old }
+        requires there { IsSome entry.old }
+        ensures put { IsPut K.cmp entry.old entry.new self.old.0 self.new.0 }
+        ensures taken { entry.new ≡ None }
+        ensures spare { vec_len spare.new + 1 ≡ vec_len spare.old }
+        ensures capacity { vec_capacity spare.new ≡ vec_capacity spare.old }
+        ensures height { self.new.1 ≡ 1 }
+    {
+        let Some(mut cell) = spare.pop() else {
+            unreachable!()
+        };
+        let Some((key, value)) = mem::replace(entry, None) else {
+            unreachable!()
+        };
+        *cell = Some(Node {
+            left: Tree::leaf(),
+            key,
+            value,
+            right: Tree::leaf(),
+        });
+        self.root = Some(cell);
+        self.height = 1;
     }
 
     /// Changes the value at a key where it stands, if there is one, and gives what the change answers.
@@ -75,21 +105,27 @@ impl<K: Ord + Drop, V: Drop> Tree<K, V> {
         }
     }
 
-    /// Takes the entry at a key out, if there is one. Its cell is spare from then on.
-    pub(crate) fn remove(&mut self, key: &K, spare: &mut Vec<Cell<K, V>>) -> Option<(K, V)>
+    /// Takes the entry at a key out, if there is one, and puts it into `found`. Its cell is spare from then on.
+    pub(crate) fn remove(
+        &mut self,
+        key: &K,
+        spare: &mut Vec<Cell<K, V>>,
+        found: &mut Option<(K, V)>,
+    )
         requires ordered { IsOrdered K.cmp self.old.0 }
         requires room { vec_len spare.old < vec_capacity spare.old }
         requires fits { self.old.1 < 2 ^ 8 - 2 }
-        ensures value { option_map (λ e. e.1) result ≡ find K.cmp key.now self.old.0 }
-        ensures same_key { IfSome result (λ e. K.cmp key.now e.0 ≡ Equal) }
+        requires nothing { found.old ≡ None }
+        ensures value { option_map (λ e. e.1) found.new ≡ find K.cmp key.now self.old.0 }
+        ensures same_key { IfSome found.new (λ e. K.cmp key.now e.0 ≡ Equal) }
         ensures entries { self.new.0 ≡ without K.cmp key.now self.old.0 }
-        ensures spare { vec_len spare.new ≡ vec_len spare.old + (if is_some result then 1 else 0) }
+        ensures spare { vec_len spare.new ≡ vec_len spare.old + (if is_some found.new then 1 else 0) }
         ensures capacity { vec_capacity spare.new ≡ vec_capacity spare.old }
         ensures not_higher { self.new.1 ≤ self.old.1 }
         ensures at_most_one_lower { self.old.1 ≤ self.new.1 + 1 }
     {
         let Some(cell) = &self.root else {
-            return None;
+            return;
         };
         let Some(node) = &**cell else { unreachable!() };
         let order = key.cmp(&node.key);
@@ -107,19 +143,19 @@ impl<K: Ord + Drop, V: Drop> Tree<K, V> {
                 right,
             } = node;
             *self = join(cell, left, right, spare);
-            return Some((key, value));
+            *found = Some((key, value));
+            return;
         }
         match &mut self.root {
             None => unreachable!(),
             Some(cell) => match &mut **cell {
                 None => unreachable!(),
                 Some(node) => {
-                    let removed = match order {
-                        Ordering::Less => node.left.remove(key, spare),
-                        _ => node.right.remove(key, spare),
-                    };
+                    match order {
+                        Ordering::Less => node.left.remove(key, spare, found),
+                        _ => node.right.remove(key, spare, found),
+                    }
                     self.height = settle(cell);
-                    removed
                 }
             },
         }
@@ -127,12 +163,12 @@ impl<K: Ord + Drop, V: Drop> Tree<K, V> {
 }
 
 impl<K: Drop, V: Drop> Tree<K, V> {
-    /// Takes the first entry out.
-    fn take_first(&mut self, spare: &mut Vec<Cell<K, V>>) -> (K, V)
+    /// Takes the first entry out and puts it into `found`.
+    fn take_first(&mut self, spare: &mut Vec<Cell<K, V>>, found: &mut Option<(K, V)>)
         requires nonempty { 0 < self.old.1 }
         requires room { vec_len spare.old < vec_capacity spare.old }
         requires fits { self.old.1 < 2 ^ 8 - 2 }
-        ensures entries { self.old.0 ≡ result ∷ self.new.0 }
+        ensures entries { IsSomeAnd found.new (λ e. self.old.0 ≡ e ∷ self.new.0) }
         ensures spare { vec_len spare.new ≡ vec_len spare.old + 1 }
         ensures capacity { vec_capacity spare.new ≡ vec_capacity spare.old }
         ensures not_higher { self.new.1 ≤ self.old.1 }
@@ -157,16 +193,16 @@ impl<K: Drop, V: Drop> Tree<K, V> {
                 right,
             } = node;
             *self = right;
-            return (key, value);
+            *found = Some((key, value));
+            return;
         }
         match &mut self.root {
             None => unreachable!(),
             Some(cell) => match &mut **cell {
                 None => unreachable!(),
                 Some(node) => {
-                    let first = node.left.take_first(spare);
+                    node.left.take_first(spare, found);
                     self.height = settle(cell);
-                    first
                 }
             },
         }
@@ -194,7 +230,11 @@ fn join<K: Drop, V: Drop>(
         spare.push_reserved(cell);
         return left;
     }
-    let (key, value) = right.take_first(spare);
+    let mut first = None;
+    right.take_first(spare, &mut first);
+    let Some((key, value)) = first else {
+        unreachable!()
+    };
     match mem::replace(
         &mut *cell,
         Some(Node {

@@ -1,5 +1,5 @@
-use Rattle.std.proofs.Common.{is_some, sym, ap, ◌∙◌, arith}
-use Rattle.dk_map.proofs.Counts.{ordered_put, length_put_new, length_put_same}
+use Rattle.std.proofs.Common.{is_some, ap, arith}
+use Rattle.dk_map.proofs.Counts.{ordered_put, length_put_new, length_put_same, found_of}
 use Rattle.dk_map.proofs.Heights.{low_fits}
 use Rattle.dk_map.proofs.map.OrderedMap.insert.Goals as goal
 
@@ -11,22 +11,22 @@ prove-unreachable-requires g c =
 
 pub invariant_of-self : goal.invariant_of-self
 invariant_of-self g c =
-    let e = c.insert-old.ensures in
-    let none = ap is_some (sym e.old) ∙ c.if-is_none.ensures in
-    let spare = rw c.if-is_none.ensures at e.spare in
+    let e = c.insert.ensures in
+    let none = found_of _ _ e.put.0 (ap is_some c.in-None.is) in
+    let spare = rw c.in-None.is at e.spare in
     let len = length_put_new g.met.K.Ord.total _ _ c.self.invariant.0 c.args.value none in
-    rw e.entries (ordered_put g.met.K.Ord.total _ _ c.self.invariant.0 _, omega arith, omega arith)
+    rw e.put.1 (ordered_put g.met.K.Ord.total _ _ c.self.invariant.0 _, omega arith, omega arith)
 
-pub invariant_of-self-else-is_none : goal.invariant_of-self-else-is_none
-invariant_of-self-else-is_none g c =
-    let e = c.insert-old.ensures in
-    let some = ap is_some (sym e.old) ∙ c.if-is_none.ensures in
-    let spare = rw c.if-is_none.ensures at e.spare in
+pub invariant_of-self-in-Some : goal.invariant_of-self-in-Some
+invariant_of-self-in-Some g c =
+    let e = c.insert.ensures in
+    let some = found_of _ _ e.put.0 (ap is_some c.in-Some.is) in
+    let spare = rw c.in-Some.is at e.spare in
     let len = length_put_same g.met.K.Ord.total _ _ c.self.invariant.0 c.args.value some in
-    rw e.entries (ordered_put g.met.K.Ord.total _ _ c.self.invariant.0 _, omega arith, omega arith)
+    rw e.put.1 (ordered_put g.met.K.Ord.total _ _ c.self.invariant.0 _, omega arith, omega arith)
 
-pub returns-then-is_none-clause-ordered : goal.returns-then-is_none-clause-ordered
-returns-then-is_none-clause-ordered g c = rw c.insert-old.ensures.entries (ordered_put g.met.K.Ord.total _ _ c.self.invariant.0 _)
+pub returns-in-None-clause-ordered : goal.returns-in-None-clause-ordered
+returns-in-None-clause-ordered g c = rw c.insert.ensures.put.1 (ordered_put g.met.K.Ord.total _ _ c.self.invariant.0 _)
 
-pub returns-else-is_none-clause-ordered : goal.returns-else-is_none-clause-ordered
-returns-else-is_none-clause-ordered g c = rw c.insert-old.ensures.entries (ordered_put g.met.K.Ord.total _ _ c.self.invariant.0 _)
+pub returns-in-Some-clause-ordered : goal.returns-in-Some-clause-ordered
+returns-in-Some-clause-ordered g c = rw c.insert.ensures.put.1 (ordered_put g.met.K.Ord.total _ _ c.self.invariant.0 _)

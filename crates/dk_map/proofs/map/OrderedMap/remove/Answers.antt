@@ -10,14 +10,14 @@ prove-unreachable-requires g c =
     absurd (omega arith)
 
 pub returns-then-is_some-clause-ordered : goal.returns-then-is_some-clause-ordered
-returns-then-is_some-clause-ordered g c = rw c.remove-removed.ensures.entries (ordered_without g.met.K.Ord.total _ _ c.self.invariant.0)
+returns-then-is_some-clause-ordered g c = rw c.remove.ensures.entries (ordered_without g.met.K.Ord.total _ _ c.self.invariant.0)
 
 pub returns-else-is_some-clause-ordered : goal.returns-else-is_some-clause-ordered
-returns-else-is_some-clause-ordered g c = rw c.remove-removed.ensures.entries (ordered_without g.met.K.Ord.total _ _ c.self.invariant.0)
+returns-else-is_some-clause-ordered g c = rw c.remove.ensures.entries (ordered_without g.met.K.Ord.total _ _ c.self.invariant.0)
 
 pub invariant_of-self : goal.invariant_of-self
 invariant_of-self g c =
-    let e = c.remove-removed.ensures in
+    let e = c.remove.ensures in
     let some = found_of _ _ e.value (sym c.if-is_some.ensures) in
     let spare = rw (← c.if-is_some.ensures) at e.spare in
     let len = length_without_one g.met.K.Ord.total _ _ c.self.invariant.0 some in
@@ -25,7 +25,7 @@ invariant_of-self g c =
 
 pub invariant_of-self-else-is_some : goal.invariant_of-self-else-is_some
 invariant_of-self-else-is_some g c =
-    let e = c.remove-removed.ensures in
+    let e = c.remove.ensures in
     let none = found_of _ _ e.value (sym c.if-is_some.ensures) in
     let spare = rw (← c.if-is_some.ensures) at e.spare in
     let len = length_without_none g.met.K.Ord.total _ _ c.self.invariant.0 none in

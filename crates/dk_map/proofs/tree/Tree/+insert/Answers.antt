@@ -1,54 +1,81 @@
-use Rattle.std.proofs.Common.{◌∷◌, ◌++◌, refl, sym, ap, ◌∙◌, arith}
-use Rattle.dk_map.proofs.Around.{find_left, find_middle, find_right, put_left, put_middle, put_right}
-use Rattle.dk_map.proofs.Top.{has_top, at_top, settled}
+use Rattle.std.proofs.Common.{refl, sym, ◌∙◌, arith}
+use Rattle.dk_map.proofs.Puts.{room_left, room_right, is_put_left, is_put_middle, is_put_right, grows_left, grows_right}
+use Rattle.dk_map.proofs.Top.{has_top, at_top, top_cell, settled, left_stays, right_stays}
 use Rattle.dk_map.proofs.tree.Tree.+insert.Goals as goal
 use Rattle.dk_map.proofs.tree.Tree.+insert.Goals.{in-Less, in-Greater}
 
-pub insert-old-requires : goal.insert-old-requires
-insert-old-requires g t c κs within =
+pub insert-higher-requires : goal.insert-higher-requires
+insert-higher-requires g t c κs within =
     let o = g.met.K.Ord.total in
-    let top = has_top c.self.view_is c.self.invariant c.in-Some.is c.deref_mut-in-Some.ensures.value c.in-Some-deref_mut.is in
+    let top = has_top c.self.view_is c.self.invariant c.in-Some.is c.deref_mut.ensures.value c.in-Some-deref_mut.is in
     let a = at_top o top c.requires.ordered in
-    (omega (arith, a.shorter), (within.0, (within.1, (a.left, (λ e. c.requires.room (find_left o a _ (sym c.cmp.ensures ∙ c.in-Less.is) ∙ e), omega (arith, top.height, c.requires.fits))))))
+    let room = room_left o a c.in-Some-entry.is _ (sym c.cmp.ensures ∙ c.in-Less.is) c.requires.room in
+    (omega (arith, a.shorter), (within.0, (within.1, (a.left, (room, omega (arith, top.height, c.requires.fits))))))
 
-pub insert-old-requires-in-Greater : goal.insert-old-requires-in-Greater
-insert-old-requires-in-Greater g t c κs within =
+pub insert-higher-requires-in-Greater : goal.insert-higher-requires-in-Greater
+insert-higher-requires-in-Greater g t c κs within =
     let o = g.met.K.Ord.total in
-    let top = has_top c.self.view_is c.self.invariant c.in-Some.is c.deref_mut-in-Some.ensures.value c.in-Some-deref_mut.is in
+    let top = has_top c.self.view_is c.self.invariant c.in-Some.is c.deref_mut.ensures.value c.in-Some-deref_mut.is in
     let a = at_top o top c.requires.ordered in
-    (omega (arith, a.shorter), (within.0, (within.1, (a.right, (λ e. c.requires.room (find_right o a _ (sym c.cmp.ensures ∙ c.in-Greater.is) ∙ e), omega (arith, top.height, c.requires.fits))))))
+    let room = room_right o a c.in-Some-entry.is _ (sym c.cmp.ensures ∙ c.in-Greater.is) c.requires.room in
+    (omega (arith, a.shorter), (within.0, (within.1, (a.right, (room, omega (arith, top.height, c.requires.fits))))))
 
-pub returns-in-Equal-clause-old : goal.returns-in-Equal-clause-old
-returns-in-Equal-clause-old g t c =
+pub returns-in-Equal-clause-put : goal.returns-in-Equal-clause-put
+returns-in-Equal-clause-put g t c =
     let o = g.met.K.Ord.total in
-    let a = at_top o (has_top c.self.view_is c.self.invariant c.in-Some.is c.deref_mut-in-Some.ensures.value c.in-Some-deref_mut.is) c.requires.ordered in
-    rw c.replace.ensures.value (sym (find_middle o a _ (sym c.cmp.ensures ∙ c.in-Equal.is)))
+    let a = at_top o (has_top c.self.view_is c.self.invariant c.in-Some.is c.deref_mut.ensures.value c.in-Some-deref_mut.is) c.requires.ordered in
+    is_put_middle o a c.in-Some-entry.is _ _ _ c.swap.ensures.x_after c.swap.ensures.y_after (sym c.cmp.ensures ∙ c.in-Equal.is)
 
-pub returns-in-Equal-clause-entries : goal.returns-in-Equal-clause-entries
-returns-in-Equal-clause-entries g t c =
-    let o = g.met.K.Ord.total in
-    let a = at_top o (has_top c.self.view_is c.self.invariant c.in-Some.is c.deref_mut-in-Some.ensures.value c.in-Some-deref_mut.is) c.requires.ordered in
-    rw c.replace.ensures.after (sym (put_middle o a _ _ (sym c.cmp.ensures ∙ c.in-Equal.is)))
-
-pub returns-after-cmp-clause-old : goal.returns-after-cmp-clause-old
-returns-after-cmp-clause-old g t c =
-    let o = g.met.K.Ord.total in
-    let a = at_top o (has_top c.self.view_is c.self.invariant c.in-Some.is c.deref_mut-in-Some.ensures.value c.in-Some-deref_mut.is) c.requires.ordered in
-    elim c.match-cmp.branch [
-      | in-Less w ↦ w.old-is ∙ w.insert-old.ensures.old ∙ sym (find_left o a _ (sym c.cmp.ensures ∙ w.in-Less.is))
-      | in-Greater w ↦ w.old-is ∙ w.insert-old-in-Greater.ensures.old ∙ sym (find_right o a _ (sym c.cmp.ensures ∙ w.in-Greater.is))
-    ]
-
-pub returns-after-cmp-clause-entries : goal.returns-after-cmp-clause-entries
-returns-after-cmp-clause-entries g t c =
-    let o = g.met.K.Ord.total in
-    let n = c.in-Some-deref_mut.node in
-    let a = at_top o (has_top c.self.view_is c.self.invariant c.in-Some.is c.deref_mut-in-Some.ensures.value c.in-Some-deref_mut.is) c.requires.ordered in
+pub invariant_of-self-then-not-higher : goal.invariant_of-self-then-not-higher
+invariant_of-self-then-not-higher g t c =
+    let cell = top_cell c.self.invariant c.in-Some.is c.deref_mut.ensures.value c.in-Some-deref_mut.is in
     elim c.match-cmp.branch [
       | in-Less w ↦
-          (settled _ _ _ c.settle-self-inside.ensures c.deref_mut-in-Some-deref_mut.ensures.value w.cell-is refl).1
-          ∙ ap (λ l. l ++ (n.key, n.value) ∷ n.right.0) w.insert-old.ensures.entries ∙ sym (put_left o a _ _ (sym c.cmp.ensures ∙ w.in-Less.is))
+          let e = w.insert-higher.ensures in
+          rw w.cell-is (left_stays _ _ _ cell (e.as_high (sym w.higher-is ∙ c.if-not-higher.true)) e.grows)
       | in-Greater w ↦
-          (settled _ _ _ c.settle-self-inside.ensures c.deref_mut-in-Some-deref_mut.ensures.value w.cell-is refl).1
-          ∙ ap (λ r. n.left.0 ++ (n.key, n.value) ∷ r) w.insert-old-in-Greater.ensures.entries ∙ sym (put_right o a _ _ (sym c.cmp.ensures ∙ w.in-Greater.is))
+          let e = w.insert-higher-in-Greater.ensures in
+          rw w.cell-is (right_stays _ _ _ cell (e.as_high (sym w.higher-is ∙ c.if-not-higher.true)) e.grows)
+    ]
+
+pub returns-then-not-higher-clause-put : goal.returns-then-not-higher-clause-put
+returns-then-not-higher-clause-put g t c =
+    let o = g.met.K.Ord.total in
+    let a = at_top o (has_top c.self.view_is c.self.invariant c.in-Some.is c.deref_mut.ensures.value c.in-Some-deref_mut.is) c.requires.ordered in
+    elim c.match-cmp.branch [
+      | in-Less w ↦ rw (w.entry-is, w.cell-is) (is_put_left o a c.in-Some-entry.is _ _ (sym c.cmp.ensures ∙ w.in-Less.is) w.insert-higher.ensures.put)
+      | in-Greater w ↦ rw (w.entry-is, w.cell-is) (is_put_right o a c.in-Some-entry.is _ _ (sym c.cmp.ensures ∙ w.in-Greater.is) w.insert-higher-in-Greater.ensures.put)
+    ]
+
+pub returns-then-not-higher-clause-grows : goal.returns-then-not-higher-clause-grows
+returns-then-not-higher-clause-grows g t c =
+    let top = has_top c.self.view_is c.self.invariant c.in-Some.is c.deref_mut.ensures.value c.in-Some-deref_mut.is in
+    elim c.match-cmp.branch [
+      | in-Less w ↦ rw w.cell-is (grows_left _ _ _ _ _ top.entries w.insert-higher.ensures.grows)
+      | in-Greater w ↦ rw w.cell-is (grows_right _ _ _ _ _ top.entries w.insert-higher-in-Greater.ensures.grows)
+    ]
+
+pub returns-else-not-higher-clause-put : goal.returns-else-not-higher-clause-put
+returns-else-not-higher-clause-put g t c =
+    let o = g.met.K.Ord.total in
+    let a = at_top o (has_top c.self.view_is c.self.invariant c.in-Some.is c.deref_mut.ensures.value c.in-Some-deref_mut.is) c.requires.ordered in
+    elim c.match-cmp.branch [
+      | in-Less w ↦
+          let s = settled _ _ _ c.settle-self-inside.ensures c.deref_mut-in-Some-deref_mut.ensures.value w.cell-is refl in
+          rw (w.entry-is, s.1) (is_put_left o a c.in-Some-entry.is _ _ (sym c.cmp.ensures ∙ w.in-Less.is) w.insert-higher.ensures.put)
+      | in-Greater w ↦
+          let s = settled _ _ _ c.settle-self-inside.ensures c.deref_mut-in-Some-deref_mut.ensures.value w.cell-is refl in
+          rw (w.entry-is, s.1) (is_put_right o a c.in-Some-entry.is _ _ (sym c.cmp.ensures ∙ w.in-Greater.is) w.insert-higher-in-Greater.ensures.put)
+    ]
+
+pub returns-else-not-higher-clause-grows : goal.returns-else-not-higher-clause-grows
+returns-else-not-higher-clause-grows g t c =
+    let top = has_top c.self.view_is c.self.invariant c.in-Some.is c.deref_mut.ensures.value c.in-Some-deref_mut.is in
+    elim c.match-cmp.branch [
+      | in-Less w ↦
+          let s = settled _ _ _ c.settle-self-inside.ensures c.deref_mut-in-Some-deref_mut.ensures.value w.cell-is refl in
+          rw s.1 (grows_left _ _ _ _ _ top.entries w.insert-higher.ensures.grows)
+      | in-Greater w ↦
+          let s = settled _ _ _ c.settle-self-inside.ensures c.deref_mut-in-Some-deref_mut.ensures.value w.cell-is refl in
+          rw s.1 (grows_right _ _ _ _ _ top.entries w.insert-higher-in-Greater.ensures.grows)
     ]

@@ -4,17 +4,17 @@ use Rattle.dk_map.proofs.Top.{has_top, at_top, settled, left_falls, right_falls,
 use Rattle.dk_map.proofs.tree.Tree.+remove.Goals as goal
 use Rattle.dk_map.proofs.tree.Tree.+remove.Goals.{in-Less, in_default-order-2}
 
-pub remove-removed-requires : goal.remove-removed-requires
-remove-removed-requires g t c κs within =
+pub remove-requires : goal.remove-requires
+remove-requires g t c κs within =
     let top = has_top c.self.view_is c.self.invariant c.in-Some-root.is c.deref_mut-in-Some-root.ensures.value c.in-Some-deref_mut.is in
     let a = at_top g.met.K.Ord.total top c.requires.ordered in
-    (omega (arith, a.shorter), (within.0, (within.1, (a.left, (c.requires.room, omega (arith, top.height, c.requires.fits))))))
+    (omega (arith, a.shorter), (within.0, (within.1, (a.left, (c.requires.room, (omega (arith, top.height, c.requires.fits), c.requires.nothing))))))
 
-pub remove-removed-requires-in_default-order-2 : goal.remove-removed-requires-in_default-order-2
-remove-removed-requires-in_default-order-2 g t c κs within =
+pub remove-requires-in_default-order-2 : goal.remove-requires-in_default-order-2
+remove-requires-in_default-order-2 g t c κs within =
     let top = has_top c.self.view_is c.self.invariant c.in-Some-root.is c.deref_mut-in-Some-root.ensures.value c.in-Some-deref_mut.is in
     let a = at_top g.met.K.Ord.total top c.requires.ordered in
-    (omega (arith, a.shorter), (within.0, (within.1, (a.right, (c.requires.room, omega (arith, top.height, c.requires.fits))))))
+    (omega (arith, a.shorter), (within.0, (within.1, (a.right, (c.requires.room, (omega (arith, top.height, c.requires.fits), c.requires.nothing))))))
 
 pub returns-in-Equal-clause-value : goal.returns-in-Equal-clause-value
 returns-in-Equal-clause-value g t c =
@@ -44,29 +44,29 @@ returns g t c =
     let cmp = c.cmp-order.ensures ∙ ap (λ m. g.K.Ord.cmp c.args.key.now m.key) same in
     elim c.match-order-2.branch [
       | in-Less w ↦
-          let e = w.remove-removed.ensures in
+          let e = w.remove.ensures in
           let p = sym cmp ∙ w.in-Less.is in
           let s = settled _ _ _ c.settle-self-inside.ensures c.deref_mut-in-Some-deref_mut.ensures.value w.cell-is refl in
           let falls = left_falls n.left.1 n.right.1 _ _ top.balanced e.not_higher e.at_most_one_lower s.2 in
           record {
-            value = rw w.removed-is (e.value ∙ sym (find_left o a _ p));
-            same_key = rw w.removed-is e.same_key;
+            value = rw w.found-is (e.value ∙ sym (find_left o a _ p));
+            same_key = rw w.found-is e.same_key;
             entries = s.1 ∙ ap (λ l. l ++ (n.key, n.value) ∷ n.right.0) e.entries ∙ sym (without_left o a _ p);
-            spare = rw (w.removed-is, w.spare-is) e.spare;
+            spare = rw (w.found-is, w.spare-is) e.spare;
             capacity = rw w.spare-is e.capacity;
             not_higher = rw top.height falls.0;
             at_most_one_lower = rw top.height falls.1;
           }
       | in_default-order-2 w ↦
-          let e = w.remove-removed-in_default-order-2.ensures in
+          let e = w.remove-in_default-order-2.ensures in
           let p = otherwise o a _ (λ q. w.in_default-order-2.not-Less (cmp ∙ q)) (λ q. c.in_default-order.not-Equal (cmp ∙ q)) in
           let s = settled _ _ _ c.settle-self-inside.ensures c.deref_mut-in-Some-deref_mut.ensures.value w.cell-is refl in
           let falls = right_falls n.left.1 n.right.1 _ _ top.balanced e.not_higher e.at_most_one_lower s.2 in
           record {
-            value = rw w.removed-is (e.value ∙ sym (find_right o a _ p));
-            same_key = rw w.removed-is e.same_key;
+            value = rw w.found-is (e.value ∙ sym (find_right o a _ p));
+            same_key = rw w.found-is e.same_key;
             entries = s.1 ∙ ap (λ r. n.left.0 ++ (n.key, n.value) ∷ r) e.entries ∙ sym (without_right o a _ p);
-            spare = rw (w.removed-is, w.spare-is) e.spare;
+            spare = rw (w.found-is, w.spare-is) e.spare;
             capacity = rw w.spare-is e.capacity;
             not_higher = rw top.height falls.0;
             at_most_one_lower = rw top.height falls.1;
