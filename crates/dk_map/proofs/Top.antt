@@ -4,7 +4,7 @@ use Rattle.std.specs.Option.{IsSomeAnd}
 use Rattle.std.specs.declared.cmp.Ordering.{Ordering}
 use Rattle.std.specs.Cmp.{IsTotalOrder}
 use Rattle.dk_map.specs.declared.tree.Node.{Node}
-use Rattle.dk_map.specs.Balance.{node_entries, node_height, root_entries, cell_entries, IsAvl, IsAvlCell, IsLow, DifferByAtMost, IsSettledHeight, SettlesTo}
+use Rattle.dk_map.specs.Balance.{node_entries, node_height, root_entries, cell_entries, IsAvl, IsAvlCell, IsLow, DifferByAtMost, IsSettledHeight, SettlesTo, IsApart}
 use Rattle.dk_map.specs.Entries.{IsOrdered}
 use Rattle.dk_map.proofs.Around.{AtEntry, at_entry}
 use Rattle.dk_map.proofs.Puts.{grows_left, grows_right}
@@ -76,6 +76,13 @@ first_of_left d l m r w (Some x) is same s = is ∙ ap (λ t. t ++ r) s ∙ ap (
 pub same_node : {K V Z : Type 0} {root : Option (Box (Option (Node K V)) Z)} {b c : Box (Option (Node K V)) Z} {w x : Option (Node K V)} {n m : Node K V}
     → root ≡ Some b → w ≡ b.value → w ≡ Some n → root ≡ Some c → x ≡ c.value → x ≡ Some m → n ≡ m
 same_node r e i s f j = cc
+
+-- what taking a cell apart ensures, by the node that was in it
+pub apart : {K V Z : Type 0} {root r : Option (Box (Option (Node K V)) Z)} {b c : Box (Option (Node K V)) Z} {w : Option (Node K V)} {n : Node K V} {e : Option (K × V)} {d : List (K × V) × ℕ}
+    → root ≡ Some b → w ≡ b.value → w ≡ Some n → r ≡ Some c → r ≡ root → IsApart c.value e d → IsApart (Some n) e d
+apart {c = c} {n = n} {e = e} {d = d} i v f j same s =
+    let full : c.value ≡ Some n = cc in
+    subst (λ x. IsApart x e d) full s
 
 -- a tree with no top node has no entries
 pub no_top : {K V Z : Type 0} {root : Option (Box (Option (Node K V)) Z)} {h : ℕ} {d : List (K × V) × ℕ} → (root_entries root, h) ≡ d → root ≡ None → d.0 ≡ []

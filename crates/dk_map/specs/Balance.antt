@@ -75,3 +75,13 @@ module _ {K V : Type 0} where
   abbrev pub SettlesTo : Option (Node K V) → Option (Node K V) → ℕ → Type 0
   SettlesTo None m h = ⊥
   SettlesTo (Some n) m h = IsAvlCell m h × (cell_entries m ≡ node_entries n) × IsSettledHeight n.left.1 n.right.1 h
+
+  -- the cell has a balanced node, and there is room for two levels more
+  abbrev pub IsLowerAvl : Option (Node K V) → Type 0
+  IsLowerAvl None = ⊥
+  IsLowerAvl (Some n) = (node_height n < 2 ^ 8 - 1) × DifferByAtMost 1 n.left.1 n.right.1
+
+  -- the entry that was at the top of the cell, and a tree of the two sides
+  abbrev pub IsApart : Option (Node K V) → Option (K × V) → List (K × V) × ℕ → Type 0
+  IsApart None e d = ⊥
+  IsApart (Some n) e d = (e ≡ Some (n.key, n.value)) × (d.0 ≡ n.left.0 ++ n.right.0) × (max n.left.1 n.right.1 ≤ d.1) × (d.1 ≤ max n.left.1 n.right.1 + 1)

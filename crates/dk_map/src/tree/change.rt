@@ -2,7 +2,7 @@
 ghost use Rattle.std.specs.Prelude.{◌≡◌, [], ◌∷◌, ◌++◌, ◌+◌, ◌-◌, ◌^◌, ◌<◌, ◌≤◌, max, None, Some, IfSome, IsSome, is_some, false, length, if◌then◌else◌, vec_len, vec_capacity};
 ghost use Rattle.std.specs.Option.{option_map, IsSomeAnd};
 ghost use Rattle.std.specs.declared.cmp.Ordering.TheVariants.{Equal};
-ghost use Rattle.dk_map.specs.Balance.{DifferByAtMost};
+ghost use Rattle.dk_map.specs.Balance.{DifferByAtMost, IsLowerAvl, IsApart};
 ghost use Rattle.std.specs.Fn.{FnOnceReturnsAtMut};
 ghost use Rattle.dk_map.specs.Entries.{find, without, IsOrdered, IsChanged};
 ghost use Rattle.dk_map.specs.Puts.{HasRoom, IsPut};
@@ -58,6 +58,7 @@ impl<K: Ord + Drop, V: Drop> Tree<K, V> {
     }
 
     /// Makes a tree of an entry where there is none.
+    #[inline(never)]
     fn plant(&mut self, entry: &mut Option<(K, V)>, spare: &mut Vec<Cell<K, V>>)
         requires nowhere { self.old.0 ≡ [] }
         requires room { 0 < vec_len spare.old }
@@ -130,20 +131,10 @@ impl<K: Ord + Drop, V: Drop> Tree<K, V> {
         let Some(node) = &**cell else { unreachable!() };
         let order = key.cmp(&node.key);
         if let Ordering::Equal = order {
-            let Some(mut cell) = mem::replace(&mut self.root, None) else {
+            let Some(cell) = mem::replace(&mut self.root, None) else {
                 unreachable!()
             };
-            let Some(node) = mem::replace(&mut *cell, None) else {
-                unreachable!()
-            };
-            let Node {
-                left,
-                key,
-                value,
-                right,
-            } = node;
-            *self = join(cell, left, right, spare);
-            *found = Some((key, value));
+            *self = take_top(cell, spare, found);
             return;
         }
         match &mut self.root {
@@ -207,6 +198,33 @@ impl<K: Drop, V: Drop> Tree<K, V> {
             },
         }
     }
+}
+
+/// The tree of the two sides of a full cell, whose entry goes into `found`. A call of its own, so that a level of a
+/// removal has no room for a node to make.
+#[inline(never)]
+fn take_top<K: Drop, V: Drop>(
+    mut cell: Cell<K, V>,
+    spare: &mut Vec<Cell<K, V>>,
+    found: &mut Option<(K, V)>,
+) -> Tree<K, V>
+    requires full { IsLowerAvl cell.value }
+    requires room { vec_len spare.old < vec_capacity spare.old }
+    ensures parts { IsApart cell.value found.new result }
+    ensures spare { vec_len spare.new ≡ vec_len spare.old + 1 }
+    ensures capacity { vec_capacity spare.new ≡ vec_capacity spare.old }
+{
+    let Some(node) = mem::replace(&mut *cell, None) else {
+        unreachable!()
+    };
+    let Node {
+        left,
+        key,
+        value,
+        right,
+    } = node;
+    *found = Some((key, value));
+    join(cell, left, right, spare)
 }
 
 /// One tree of two, the second of which stands after the first. The cell between them is used again or is spare.
