@@ -200,8 +200,8 @@ impl<K: Drop, V: Drop> Tree<K, V> {
     }
 }
 
-/// The tree of the two sides of a full cell, whose entry goes into `found`. A call of its own, so that a level of a
-/// removal has no room for a node to make.
+/// The tree of the two sides of a full cell, whose entry goes into `found`. It is a call of its own so that a level of
+/// a removal needs no room for a node.
 #[inline(never)]
 fn take_top<K: Drop, V: Drop>(
     mut cell: Cell<K, V>,
