@@ -1,7 +1,7 @@
 -- What each call on objects does.
 use Rattle.std.proofs.Common.{◌≡◌, ℕ, ◌+◌, ◌<◌, ◌≤◌, nat_le, arith, true, false, Option, Some, None, List, Result, Ok, Err, IfOk, refl, sym, ap, subst, ◌∙◌}
 use Rattle.std.proofs.lemmas.Bool.Decides.{nat_tests}
-use Rattle.std.specs.Option.{ok_or}
+use Rattle.std.specs.Option.{ok_or, option_map}
 use Rattle.std.specs.Result.{IsErrAnd, IfErr}
 use Rattle.std.specs.FinMap as map
 use Rattle.dk_types.specs.declared.number.ObjectId.{ObjectId}
@@ -29,7 +29,7 @@ use Rattle.dk_txn.specs.declared.refusal.Refusal.{Refusal}
 use Rattle.dk_txn.specs.declared.refusal.Refusal.TheVariants as refusal
 use Rattle.dk_txn.specs.declared.txn.Txn.{Txn}
 use Rattle.dk_txn.specs.Refusals.{refusal_fault, TellsLength}
-use Rattle.dk_txn.specs.Does.{KeepsFor, DoesFor, Keeps, Does, SameChanges, KnownObject, CanChange, RefusesChange, failure, outcome_of_result}
+use Rattle.dk_txn.specs.Does.{KeepsFor, DoesFor, Keeps, Does, SameChanges, IsNow, KnownObject, KnownKind, CanChange, MayTouch, RefusesChange, failure, outcome_of_result}
 use Rattle.dk_txn.proofs.Kit.{keeps_all}
 use Rattle.dk_txn.proofs.Reading.{same_current, keeps_changed, told_found}
 use Rattle.dk_txn.specs.Sights.{Sights}
@@ -91,16 +91,25 @@ known_asked t id said o b none e f h =
       before = λ s d agrees new. f ∙ sym (was d agrees);
     }
 
+-- what is known of its kind
+pub kind_changed : (t : ReadsAndWrites) (id : ObjectId) (c : Change Object) (before : Option Object) (kind : Option ℕ) → map.get t.objects id ≡ Some c
+    → before ≡ c.before → kind ≡ option_map (λ (object : Object). object.kind) c.after → KnownKind t id before kind
+kind_changed t id c before kind h was is = record { change = c; known = known_changed t id c h; same_before = was; same_kind = is }
+
+pub kind_asked : (t : ReadsAndWrites) (id : ObjectId) (said : Answer) (o : Option Object) (kind : Option ℕ) → map.get t.objects id ≡ None → o ≡ object_in said
+    → ((d : DurableWorld) → Agrees d t.reads → answer d (item.Object id) ≡ said) → kind ≡ option_map (λ (object : Object). object.kind) o → KnownKind t id o kind
+kind_asked t id said o kind none e h is = record { change = record { before = o; after = o }; known = known_asked t id said o o none e refl h; same_before = refl; same_kind = is }
+
 module _ {S : Type 0} {sights : Sights S} where
-  pub get_does : {a b : Txn S ReadsAndWrites} {id : ObjectId} {c : Change Object} → Keeps sights a b → SameChanges a.set b.set → KnownObject b.set id c → (r : Result Object Refusal) → r ≡ ok_or c.after refusal.ObjectNotFound
+  pub get_does : {a b : Txn S ReadsAndWrites} {o : Option Object} (id : ObjectId) → Keeps sights a b → SameChanges a.set b.set → IsNow b.set id o → (r : Result Object Refusal) → r ≡ ok_or o refusal.ObjectNotFound
       → Does sights refusal_fault a b (act.get id) r
   unfolding act.get
-  get_does {a = a} {b = b} {id = id} {c = c} k same known r e = record {
+  get_does {a = a} {b = b} {o = o} id k same now r e = record {
     keeps = k;
     does = λ s told d agrees.
         ap (act.get id) (same_current a.set b.set d same)
-        ∙ ap (λ o. (found 2 o, current b.set d)) (known.after d agrees)
-        ∙ ap (λ x. (x, current b.set d)) (told_found 2 refusal.ObjectNotFound refl c.after s (ap (outcome_of_result refusal_fault) (sym e) ∙ told));
+        ∙ ap (λ o. (found 2 o, current b.set d)) (now d agrees)
+        ∙ ap (λ x. (x, current b.set d)) (told_found 2 refusal.ObjectNotFound refl o s (ap (outcome_of_result refusal_fault) (sym e) ∙ told));
   }
 
 -- the run after one change of an object
@@ -115,6 +124,33 @@ absent_unchanged t id c known none = λ fault is change d agrees.
 pub reserved_unchanged : (t : ReadsAndWrites) (id : ObjectId) (c : Change Object) (o : Object) → KnownObject t id c → c.after ≡ Some o → act.is_reserved_kind t.mode o.kind ≡ true → RefusesChange t id refusal.Reserved
 reserved_unchanged t id c o known there h = λ fault is change d agrees.
     ap (λ o. change_found o id change (current t d)) (known.after d agrees ∙ there) ∙ rw h (ap (λ f. (Err f, current t d)) (Some_injective _ _ is))
+
+-- the same by the kind alone
+no_kind : (o : Option Object) → None ≡ option_map (λ (object : Object). object.kind) o → o ≡ None
+no_kind None e = refl
+no_kind (Some object) e = absurd cc
+
+of_kind : (o : Option Object) (kind : ℕ) → Some kind ≡ option_map (λ (object : Object). object.kind) o → (object : Object) × (o ≡ Some object) × (kind ≡ object.kind)
+of_kind None kind e = absurd cc
+of_kind (Some object) kind e = (object, refl, Some_injective _ _ e)
+
+pub absent_untouched : (t : ReadsAndWrites) (id : ObjectId) (before : Option Object) (kind : Option ℕ) → KnownKind t id before kind → kind ≡ None → RefusesChange t id refusal.ObjectNotFound
+absent_untouched t id before kind k none = absent_unchanged t id k.change k.known (no_kind k.change.after (sym none ∙ k.same_kind))
+
+pub reserved_untouched : (t : ReadsAndWrites) (id : ObjectId) (before : Option Object) (o : Option ℕ) (kind : ℕ) → KnownKind t id before o → o ≡ Some kind → act.is_reserved_kind t.mode kind ≡ true → RefusesChange t id refusal.Reserved
+reserved_untouched t id before o kind k is h =
+    let of = of_kind k.change.after kind (sym is ∙ k.same_kind) in
+    reserved_unchanged t id k.change of.0 k.known of.1 (ap (act.is_reserved_kind t.mode) (sym of.2) ∙ h)
+
+pub may_touch : (t : ReadsAndWrites) (id : ObjectId) (before : Option Object) (o : Option ℕ) (kind : ℕ) → KnownKind t id before o → o ≡ Some kind → act.is_reserved_kind t.mode kind ≡ false → MayTouch t id before kind
+may_touch t id before o kind k is h =
+    let of = of_kind k.change.after kind (sym is ∙ k.same_kind) in
+    record {
+      change = k.change;
+      can = record { known = k.known; there = (of.0, of.1, ap (act.is_reserved_kind t.mode) (sym of.2) ∙ h) };
+      same_before = k.same_before;
+      same_kind = of.2;
+    }
 
 pub changed_by : (t : ReadsAndWrites) (id : ObjectId) (c : Change Object) (can : CanChange t id c) (change : Object → Option Object) (d : DurableWorld) → Agrees d t.reads
     → change_object id change (current t d) ≡ (Ok tt, current (changing_object t id (record { before = c.before; after = change can.there.0 })) d)
@@ -132,6 +168,13 @@ module _ {S : Type 0} {sights : Sights S} where
       let t : ReadsAndWrites = changing_object b.set id done in
       done_at t _ (keeps_changed k t refl refl refl (λ s. sound_object b.set id done s (can.known.before s)) (λ key due p m. m)) same refl e
       (λ d agrees. means (current b.set d) ∙ changed_by b.set id c can change d agrees ∙ ap (λ o. (Ok tt, current (changing_object b.set id (record { before = c.before; after = o })) d)) (sym is))
+
+  -- the same by what the object was and its kind
+  pub touch_does : {a b : Txn S ReadsAndWrites} {id : ObjectId} {before : Option Object} {kind : ℕ} {u : ReadsAndWrites} (f : Act (Unit {0})) (change : Object → Option Object) (new : Option Object)
+      → Keeps sights a b → SameChanges a.set b.set → MayTouch b.set id before kind → ((o : Object) → o.kind ≡ kind → new ≡ change o) → u ≡ changing_object b.set id (record { before = before; after = new })
+      → ((s : Run) → f s ≡ change_object id change s) → Does sights refusal_fault a (record { view = b.view; set = u }) f (Ok tt)
+  touch_does {b = b} {id = id} f change new k same may is e means =
+      change_does f change new k same may.can (is may.can.there.0 (sym may.same_kind)) (e ∙ ap (λ o. changing_object b.set id (record { before = o; after = new })) may.same_before) means
 
   -- and refused
   pub change_refused : {a b : Txn S ReadsAndWrites} {e : Refusal} (id : ObjectId) (f : Act (Unit {0})) (change : Object → Option Object)

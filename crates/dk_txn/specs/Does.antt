@@ -2,6 +2,7 @@
 use Rattle.std.specs.Prelude.{◌≡◌, ℕ, Bool, true, false, not, ◌&&◌, Option, Some, None, is_some, List, ◌++◌, Result, Ok, Err}
 use Rattle.std.specs.List.{AllByRecursion}
 use Rattle.std.specs.FinMap as map
+use Rattle.std.specs.Option.{option_map}
 use Rattle.dk_types.specs.declared.number.ObjectId.{ObjectId}
 use Rattle.dk_types.specs.declared.number.TaskKey.{TaskKey}
 use Rattle.dk_types.specs.declared.object.Object.{Object}
@@ -86,6 +87,10 @@ Does = DoesFor Every
 abbrev pub Resumes : {S C : Type 0} → Sights S → Txn S ReadsAndWrites → Txn S ReadsAndWrites → Act C → Act C → Type 0
 Resumes = ResumesFor Every
 
+-- o is what an object is
+abbrev pub IsNow : ReadsAndWrites → ObjectId → Option Object → Type 0
+IsNow t id o = (d : DurableWorld) → Agrees d t.reads → map.get (layered value_now t.objects d.objects) id ≡ o
+
 -- c is what an object was and is
 pub record KnownObject (t : ReadsAndWrites) (id : ObjectId) (c : Change Object) : Type 0 where
   pub after : (d : DurableWorld) → Agrees d t.reads → map.get (layered value_now t.objects d.objects) id ≡ c.after
@@ -99,6 +104,20 @@ Stands t id = (d : DurableWorld) → Agrees d t.reads → is_some (map.get (curr
 pub record CanChange (t : ReadsAndWrites) (id : ObjectId) (c : Change Object) : Type 0 where
   pub known : KnownObject t id c
   pub there : (object : Object) × (c.after ≡ Some object) × (is_reserved_kind t.mode object.kind ≡ false)
+
+-- before is what an object was, and kind that of what it is
+pub record KnownKind (t : ReadsAndWrites) (id : ObjectId) (before : Option Object) (kind : Option ℕ) : Type 0 where
+  pub change : Change Object
+  pub known : KnownObject t id change
+  pub same_before : before ≡ change.before
+  pub same_kind : kind ≡ option_map (λ (object : Object). object.kind) change.after
+
+-- the same of an object that stands and may be touched
+pub record MayTouch (t : ReadsAndWrites) (id : ObjectId) (before : Option Object) (kind : ℕ) : Type 0 where
+  pub change : Change Object
+  pub can : CanChange t id change
+  pub same_before : before ≡ change.before
+  pub same_kind : kind ≡ can.there.0.kind
 
 -- any change of the object is refused so
 abbrev pub RefusesChange : ReadsAndWrites → ObjectId → Refusal → Type 0
