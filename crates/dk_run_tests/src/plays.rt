@@ -103,7 +103,7 @@ fn moved(alloc: Global, call: &mut Words<'_>) -> Option<String> {
     for _ in 0..2 {
         set.move_task(key, before, call.number()?).ok()?;
     }
-    let effects = set.effects().ok()?;
+    let (effects, _) = set.into_effects().ok()?;
     match effects.requeued.as_slice() {
         [(_, due)] => format!(in alloc; "{due}").ok(),
         _ => Some(String::new(alloc)),
