@@ -14,11 +14,15 @@ use crate::watcher::Watcher;
 use atomic_table::Table;
 use std::alloc::Global;
 use std::fmt::Debug;
+use std::hint::spin_loop;
 use std::marker::{Model, PhantomData};
 use std::sync::atomic::AtomicU64;
 use std::sync::atomic::Ordering::SeqCst;
-use std::sync::{Mutex, Wait};
+use std::sync::{Mutex, MutexGuard, Wait};
 use thiserror::Error;
+
+/// How often a thread looks whether the lock is free before it sleeps.
+const LOOKS_COUNT: u32 = 200;
 
 /// There was no memory. The book comes back.
 #[derive(Debug, Drop, Error)]
@@ -107,6 +111,17 @@ impl<O: Book, J: Naming> Turn<O, J> {
         Ok((turn, given, watcher))
     }
 
+    // The desk, once no one else is at it. A step takes less time than to sleep and to be woken, so it looks for a while first.
+    fn enter_desk<R: Wait>(&self, rt: &R) -> MutexGuard<'_, Guarded<O, J>> {
+        for _ in 0..LOOKS_COUNT {
+            if let Some(desk) = self.desk.try_lock() {
+                return desk;
+            }
+            spin_loop();
+        }
+        self.desk.lock(rt)
+    }
+
     /// Applies the step at one point of the history. The new front begins with the old one, and ends with what the step added.
     pub fn with<R: Wait, E: Step<O>>(&self, rt: &R, pass: &mut Pass<O, J>, step: E) -> E::Reply
         requires { (book : O)
@@ -118,7 +133,7 @@ impl<O: Book, J: Naming> Turn<O, J> {
             pass.old.front pass.new.front }
         ensures named { All (λ e. O.number e < J.name.passes) pass.new.front }
     {
-        let mut desk = self.desk.lock(rt);
+        let mut desk = self.enter_desk(rt);
         let reply = desk.enter(&self.table.shared, pass, step);
         drop(desk);
         self.wake(E::wakes(&reply));
@@ -133,7 +148,7 @@ impl<O: Book, J: Naming> Turn<O, J> {
         ensures other { Continues O.number other.old.number other.old.front other.new.front }
         ensures named { All (λ e. O.number e < J.name.passes) one.new.front }
     {
-        let mut desk = self.desk.lock(rt);
+        let mut desk = self.enter_desk(rt);
         desk.see(&self.table.shared, one);
         desk.see(&self.table.shared, other);
     }
@@ -158,7 +173,7 @@ impl<O: Book, J: Naming> Turn<O, J> {
             pass.old.front pass.new.front }
         ensures named { All (λ e. O.number e < J.name.passes) pass.new.front }
     {
-        let mut desk = self.desk.lock(rt);
+        let mut desk = self.enter_desk(rt);
         let reply = desk.enter_both(&self.table.shared, pass, other, step);
         drop(desk);
         self.wake(E::wakes(&reply));
@@ -185,7 +200,7 @@ impl<O: Book, J: Naming> Turn<O, J> {
             pass.old.front pass.new.front }
         ensures named { All (λ e. O.number e < J.name.passes) pass.new.front }
     {
-        let mut desk = self.desk.lock(rt);
+        let mut desk = self.enter_desk(rt);
         let reply = desk.enter_watched(&self.table.shared, pass, watcher, step);
         drop(desk);
         self.wake(E::wakes(&reply));
