@@ -50,6 +50,8 @@ pub struct Bells {
     bells: Vec<Bell>,
     // How many of them links have.
     hung: AtomicU64,
+    // So many of the first of them links have or had.
+    used: AtomicU64,
 }
 
 impl Bells {
@@ -65,24 +67,36 @@ impl Bells {
         Ok(Bells {
             bells,
             hung: AtomicU64::new(0),
+            used: AtomicU64::new(0),
         })
+    }
+
+    // The bells that links have or had, which are the first ones.
+    fn used(&self) -> &[Bell] {
+        let count = self.used.load(Ordering::SeqCst) as usize;
+        match self.bells.get(..count) {
+            Some(bells) => bells,
+            None => self.bells.as_slice(),
+        }
     }
 
     /// Wakes who waits for the links of these connections.
     pub fn ring<R: Wait>(&self, rt: &R, conns: &[ConnNo]) {
-        if conns.is_empty() {
-            return;
-        }
-        for bell in &self.bells {
+        let mut left = conns.len();
+        for bell in self.used() {
+            if left == 0 {
+                return;
+            }
             if conns.contains(&ConnNo(bell.conn.load(Ordering::SeqCst))) {
                 bell.ring(rt);
+                left = left.saturating_sub(1);
             }
         }
     }
 
     /// Wakes who waits for any link.
     pub fn ring_all<R: Wait>(&self, rt: &R) {
-        for bell in &self.bells {
+        for bell in self.used() {
             if bell.conn.load(Ordering::SeqCst) < UNNAMED {
                 bell.ring(rt);
             }
@@ -102,6 +116,9 @@ impl HungBell {
         let at = bells.bells.iter().position(Bell::take)?;
         *bells.bells.get(at)?.waker.lock(rt) = Some(waker);
         bells.hung.fetch_add(1, Ordering::SeqCst);
+        bells
+            .used
+            .fetch_max((at as u64).saturating_add(1), Ordering::SeqCst);
         Some(HungBell { bells, at })
     }
 
