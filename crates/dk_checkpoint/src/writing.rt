@@ -19,6 +19,7 @@ ghost use Rattle.dk_checkpoint.specs.Refusals.{IsEarly, HasBegun};
 ghost use Rattle.dk_checkpoint.specs.declared.refused.CheckpointRefused.TheVariants.{DiskFault, TooLarge, EpochEnd, NoMemory as WantOfMemory};
 
 use crate::refused::CheckpointRefused;
+use byteorder::{BigEndian, ByteOrder};
 use dk_disk::Home;
 use dk_image::encode_image;
 use dk_journal::{FORMAT, Header, Journal, close, header_fields_of, write_anew};
@@ -44,7 +45,9 @@ fn file_of(alloc: Global, header: &Header, image: &Blob) -> Result<Blob, NoMemor
     let image = image.as_slice();
     let mut bytes = header_fields_of(alloc, header)?.into_vec();
     bytes.push(1)?;
-    bytes.extend_from_slice(&(image.len() as u32).to_be_bytes())?;
+    let mut length = [0; 4];
+    BigEndian::write_u32(&mut length, image.len() as u32);
+    bytes.extend_from_slice(&length)?;
     bytes.extend_from_slice(image)?;
     bytes.push(0)?;
     Ok(Blob::from_vec(bytes))

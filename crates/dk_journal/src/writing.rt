@@ -9,6 +9,7 @@ ghost use Rattle.dk_model.specs.Stores.{is_blank};
 ghost use Rattle.dk_journal.specs.Standing.{Stands, IsAtRest, IsReady, behind_gate};
 
 use crate::scan::byte_at;
+use byteorder::{BigEndian, ByteOrder};
 use dk_disk::Home;
 use dk_types::{Failed, Side};
 
@@ -38,7 +39,8 @@ fn put_behind<M: Home>(home: &mut M, side: Side, at: u64, payload: &[u8]) -> Res
     ensures cause { OnErr result (HasRisen (M.counted home.old) (M.counted home.new)) }
 {
     let size = payload.len() as u64;
-    let field = (size as u32).to_be_bytes();
+    let mut field = [0; 4];
+    BigEndian::write_u32(&mut field, size as u32);
     write(home, side, at, &field)?;
     write(home, side, at + 4, payload)?;
     write(home, side, at + 4 + size, &[0])?;
