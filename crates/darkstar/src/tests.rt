@@ -6,12 +6,13 @@ ghost use Rattle.dk_edge.specs.Listening.{IsUncalled};
 mod rows;
 mod serving;
 
-use crate::program::{Ran, run};
-use dk_disk::{Home, MemoryHome};
+use crate::program::run;
+use dk_disk::MemoryHome;
 use dk_edge::{
     Clock, FixedClock, Link, Listener, MemoryListener, MemorySink, MemorySource, Sink, Source,
     ThreadSpawner,
 };
+use dk_status::Status;
 use dk_types::{NoMemory, Side, Words};
 use dk_workers::{Gate, OpenGate};
 use rows::ROWS;
@@ -29,16 +30,50 @@ fn words_of(alloc: Global, text: &str) -> Result<Words, NoMemory> {
     Ok(words)
 }
 
-// A home with these files.
-fn home_of(alloc: Global, zero: &[u8], one: &[u8]) -> Result<MemoryHome, AllocError>
-    ensures { IfOk result (λ home. home.opening ≡ NotCalled) }
-{
-    let zero = zero.to_vec(alloc)?;
-    let one = one.to_vec(alloc)?;
-    Ok(MemoryHome::new(alloc, zero, one, Vec::new(alloc), false))
+/// What the two files of a home hold.
+#[derive(Drop)]
+struct Files {
+    zero: Vec<u8>,
+    one: Vec<u8>,
 }
 
-// The command of these words and this script, which comes in pieces of ten, over any listener, clock and gate.
+impl Files {
+    // Those of a folder without a store.
+    fn none(alloc: Global) -> Files {
+        Files {
+            zero: Vec::new(alloc),
+            one: Vec::new(alloc),
+        }
+    }
+
+    fn of(alloc: Global, home: &MemoryHome) -> Result<Files, AllocError> {
+        Ok(Files {
+            zero: home.contents(Side::Zero).to_vec(alloc)?,
+            one: home.contents(Side::One).to_vec(alloc)?,
+        })
+    }
+
+    // A home with these files.
+    fn home(&self, alloc: Global) -> Result<MemoryHome, AllocError>
+        ensures { IfOk result (λ home. home.opening ≡ NotCalled) }
+    {
+        let zero = self.zero.to_vec(alloc)?;
+        let one = self.one.to_vec(alloc)?;
+        Ok(MemoryHome::new(alloc, zero, one, Vec::new(alloc), false))
+    }
+}
+
+/// How a command ended, how many sessions it served, what it wrote, and what it left in the files.
+#[derive(Drop)]
+struct Told {
+    status: Status,
+    served: u64,
+    written: Vec<u8>,
+    files: Files,
+}
+
+// The command of these words and this script, which comes in pieces of ten, on these files, over any listener, clock and gate. A
+// test sees what is told alone: it has no home and no contract of the program to carry along.
 fn command<
     T: Threads + Wait + RandomSource + AllocGlobal + Sync,
     E: Link + Send + Drop,
@@ -49,32 +84,39 @@ fn command<
     G: Gate + Sync,
 >(
     rt: &T,
-    words: &Words,
+    words: &str,
     script: &[u8],
-    out: &mut MemorySink,
-    home: MemoryHome,
+    files: &Files,
     net: &mut L,
     clock: &C,
     gate: &G,
-) -> Result<Ran<MemoryHome, L>, AllocError>
-    requires unopened { home.opening ≡ NotCalled }
+) -> Result<Told, AllocError>
     requires unbound { IsUncalled (L.listening net.old) }
 {
     let alloc = rt.alloc();
+    let words = words_of(alloc, words).map_err(|_| AllocError)?;
+    let home = files.home(alloc)?;
     let mut input = MemorySource::in_pieces(script.to_vec(alloc)?, Vec::new(alloc), 10);
+    let mut out = MemorySink::new(alloc, Vec::new(alloc));
     let mut spawner = ThreadSpawner::new(rt);
-    Ok(run(
+    let ran = run(
         rt,
         alloc,
-        words,
+        &words,
         &mut input,
-        out,
+        &mut out,
         home,
         net,
         clock,
         &mut spawner,
         gate,
-    ))
+    );
+    Ok(Told {
+        status: ran.status,
+        served: ran.served.number(),
+        written: out.contents().to_vec(alloc)?,
+        files: Files::of(alloc, &ran.home)?,
+    })
 }
 
 /// A row: whether its home is a new one, the words and the script of its command, its status, and what it writes.
@@ -104,17 +146,13 @@ impl<'a> Row<'a> {
     }
 }
 
-// What the command of a row comes to on a home with these files: its status, what it wrote, and its home.
+// What the command of a row comes to on these files.
 fn answered<T: Threads + Wait + RandomSource + AllocGlobal + Sync>(
     rt: &T,
     row: Row<'_>,
-    home: MemoryHome,
-    out: &mut MemorySink,
-) -> Result<Ran<MemoryHome, MemoryListener>, AllocError>
-    requires { home.opening ≡ NotCalled }
-{
+    files: &Files,
+) -> Result<Told, AllocError> {
     let alloc = rt.alloc();
-    let words = words_of(alloc, row.words).map_err(|_| AllocError)?;
     let mut script = row.script.as_bytes().to_vec(alloc)?;
     if !script.is_empty() {
         script.push(b'\n')?;
@@ -123,10 +161,9 @@ fn answered<T: Threads + Wait + RandomSource + AllocGlobal + Sync>(
     let clock = FixedClock::new(0);
     command(
         rt,
-        &words,
+        row.words,
         script.as_slice(),
-        out,
-        home,
+        files,
         &mut net,
         &clock,
         &OpenGate,
@@ -135,20 +172,16 @@ fn answered<T: Threads + Wait + RandomSource + AllocGlobal + Sync>(
 
 #[test]
 fn commands_are_answered_as_worked(rt: HostRuntime) -> Result<(), Fail> {
-    let alloc = rt.alloc();
-    let mut kept = home_of(alloc, b"", b"")?;
+    let mut kept = Files::none(rt.alloc());
     for text in ROWS.split("--\n") {
         let row = Row::of(text).ok_or("a row")?;
-        let home = if row.is_new {
-            home_of(alloc, b"", b"")?
-        } else {
-            home_of(alloc, kept.contents(Side::Zero), kept.contents(Side::One))?
-        };
-        let mut out = MemorySink::new(alloc, Vec::new(alloc));
-        let done = answered(&rt, row, home, &mut out)?;
+        if row.is_new {
+            kept = Files::none(rt.alloc());
+        }
+        let done = answered(&rt, row, &kept)?;
         assert_eq!(rt; done.status.code(), row.code, "{text}");
-        assert_eq!(rt; out.contents(), row.text.as_bytes(), "{text}");
-        kept = done.home;
+        assert_eq!(rt; done.written.as_slice(), row.text.as_bytes(), "{text}");
+        kept = done.files;
     }
     Ok(())
 }

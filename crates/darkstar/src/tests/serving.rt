@@ -2,12 +2,12 @@
 ghost use Rattle.std.specs.Prelude.{◌≡◌, false};
 ghost use Rattle.dk_edge.specs.Listening.{listening_at};
 
-use super::{command, home_of, words_of};
+use super::{Files, command};
 use dk_edge::{
     Bells, Binding, Clock, FixedClock, Listener, MemoryLink, MemorySink, MemorySource, TcpListen,
 };
 use dk_status::Status;
-use dk_types::{Failed, RunNo, Side};
+use dk_types::{Failed, RunNo};
 use dk_workers::{Gate, OpenGate, Recipients};
 use std::alloc::AllocGlobal;
 use std::io::{self, ErrorKind, Read, Write};
@@ -50,18 +50,15 @@ fn answer<R: Net + time::Clock + AllocGlobal>(rt: &R) -> io::Result<Vec<u8>> {
 #[test]
 fn a_client_is_served_over_the_loopback(rt: HostRuntime) -> Result<(), Fail> {
     let alloc = rt.alloc();
-    let words = words_of(alloc, "serve D --port 47813 --sessions 1")?;
-    let home = home_of(alloc, b"", b"")?;
-    let mut out = MemorySink::new(alloc, Vec::new(alloc));
+    let none = Files::none(alloc);
     let mut net = TcpListen::new(&rt, alloc, Arc::new(alloc, Bells::new(alloc)?)?);
     let client = thread::spawn(&rt, move || answer(&rt))?;
+    let words = "serve D --port 47813 --sessions 1";
     let clock = FixedClock::new(0);
-    let ran = command(
-        &rt, &words, b"", &mut out, home, &mut net, &clock, &OpenGate,
-    )?;
+    let done = command(&rt, words, b"", &none, &mut net, &clock, &OpenGate)?;
     assert_eq!(rt; client.join(&rt)?.as_slice(), ANSWERED);
-    assert_eq!(rt; ran.status, Status::Ok);
-    assert_eq!(rt; ran.served.number(), 1);
+    assert_eq!(rt; done.status, Status::Ok);
+    assert_eq!(rt; done.served, 1);
     Ok(())
 }
 
@@ -152,26 +149,23 @@ impl Listener for LateListener<'_> {
 
 #[test]
 fn tasks_come_due_while_nobody_plays(rt: HostRuntime) -> Result<(), Fail> {
-    let alloc = rt.alloc();
+    let none = Files::none(rt.alloc());
     let gate = CommitCount {
         commits: AtomicU64::new(0),
     };
-    let mut net = LateListener::new(&gate);
     let clock = GainingClock {
         moment: AtomicU64::new(0),
     };
-    let mut out = MemorySink::new(alloc, Vec::new(alloc));
-    let words = words_of(alloc, "serve D --port 1 --game timer")?;
-    let home = home_of(alloc, b"", b"")?;
-    let ran = command(&rt, &words, b"", &mut out, home, &mut net, &clock, &gate)?;
-    assert_eq!(rt; ran.status, Status::Ok);
-    assert_eq!(rt; ran.served.number(), 0);
-    let words = words_of(alloc, "check D --game timer")?;
-    let home = home_of(alloc, ran.home.contents(Side::Zero), b"")?;
     let mut net = LateListener::new(&gate);
-    let ran = command(&rt, &words, b"", &mut out, home, &mut net, &clock, &gate)?;
-    assert_eq!(rt; ran.status, Status::Ok);
-    assert!(rt; out.contents().starts_with(b"ok "));
-    assert!(rt; !out.contents().starts_with(b"ok 1 "));
+    let words = "serve D --port 1 --game timer";
+    let served = command(&rt, words, b"", &none, &mut net, &clock, &gate)?;
+    assert_eq!(rt; served.status, Status::Ok);
+    assert_eq!(rt; served.served, 0);
+    let mut net = LateListener::new(&gate);
+    let words = "check D --game timer";
+    let told = command(&rt, words, b"", &served.files, &mut net, &clock, &gate)?;
+    assert_eq!(rt; told.status, Status::Ok);
+    assert!(rt; told.written.starts_with(b"ok "));
+    assert!(rt; !told.written.starts_with(b"ok 1 "));
     Ok(())
 }
