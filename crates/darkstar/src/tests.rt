@@ -1,8 +1,9 @@
-//! The program by its top call, over streams and homes in memory: rows of commands, and a server.
+//! The program by its top call, over streams and homes in memory: rows of commands, a server, and workers that meet.
 ghost use Rattle.std.specs.Prelude.{◌≡◌, IfOk};
 ghost use Rattle.dk_disk.specs.Opening.{NotCalled};
 ghost use Rattle.dk_edge.specs.Listening.{IsUncalled};
 
+mod meeting;
 mod rows;
 mod serving;
 
