@@ -162,7 +162,8 @@ impl Ord for Name {
 
     ghost matches_eq = { texts_ties };
 
+    // Byte by byte: a name is short, and a comparison of slices begins with strides that are longer than most names.
     fn cmp(&self, other: &Name) -> Ordering {
-        self.bytes.as_slice().cmp(other.bytes.as_slice())
+        self.bytes.iter().cmp(other.bytes.iter())
     }
 }
