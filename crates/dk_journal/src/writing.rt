@@ -1,17 +1,23 @@
 //! The calls that change a file, each run of them ended by a sync.
-ghost use Rattle.std.specs.Prelude.{◌≡◌, ◌+◌, ◌<◌, ◌≤◌, ◌^◌, ℕ, List, [], ◌∷◌, ◌++◌, true, false, length, take, slice_index, IfOk, OnOk, OnErr, IsTrue};
+ghost use Rattle.std.specs.Prelude.{◌≡◌, ◌+◌, ◌<◌, ◌≤◌, ◌^◌, ◌↔◌, ℕ, List, [], ◌∷◌, ◌++◌, true, false, length, take, slice_index, IsOk, IfOk, OnOk, OnErr, IsTrue};
 ghost use Rattle.dk_types.specs.Faults.{HasRisen};
+ghost use Rattle.dk_types.specs.Fields.{u32_spelling};
 ghost use Rattle.dk_disk.specs.Disk.{settled, overwritten, after_write};
 ghost use Rattle.dk_disk.specs.Opening.{IsOpen};
 ghost use Rattle.dk_disk.specs.DiskHistories.{now};
 ghost use Rattle.dk_journal.specs.Moments.{Runs, Looks, IsFrontSafe, HasOrNot, NeverFalls, IsWriting, IsClearing, AreBlankOr, AreSameOrBlank};
 ghost use Rattle.dk_model.specs.Stores.{is_blank};
 ghost use Rattle.dk_journal.specs.Standing.{Stands, IsAtRest, IsReady, behind_gate};
+ghost use Rattle.dk_journal.specs.declared.writing.TheConstants.{SHORT_RECORD_BYTES};
 
 use crate::scan::byte_at;
+use arrayvec::{ArrayVec, CapacityError};
 use byteorder::{BigEndian, ByteOrder};
 use dk_disk::Home;
 use dk_types::{Failed, Side};
+
+// The bytes of a record that is put together on the stack, at most: its length, its payload and the closed gate behind it.
+const SHORT_RECORD_BYTES: usize = 512;
 
 // A write behind bytes that are safe leaves them safe.
 fn write<M: Home>(home: &mut M, side: Side, at: u64, bytes: &[u8]) -> Result<(), Failed>
@@ -26,6 +32,67 @@ fn write<M: Home>(home: &mut M, side: Side, at: u64, bytes: &[u8]) -> Result<(),
     home.write_at(side, at, bytes)
 }
 
+// The length of a payload, as it stands before it.
+fn length_field(payload: &[u8]) -> [u8; 4]
+    requires { length payload.now < 2 ^ 32 }
+    ensures { result ≡ u32_spelling (length payload.now) }
+{
+    let mut field = [0; 4];
+    BigEndian::write_u32(&mut field, payload.len() as u32);
+    field
+}
+
+// What is put behind the closed gate, where it is short: a length, a payload and a closed gate, on the stack.
+fn short_record(payload: &[u8]) -> Result<ArrayVec<u8, SHORT_RECORD_BYTES>, CapacityError>
+    requires { length payload.now < 2 ^ 32 }
+    ensures variant { IsOk result ↔ (length payload.now + 5 ≤ SHORT_RECORD_BYTES) }
+    ensures bytes { IfOk result (λ bytes. bytes.items ≡ behind_gate payload.now) }
+{
+    let mut record = ArrayVec::new();
+    record.try_extend_from_slice(&length_field(payload))?;
+    record.try_extend_from_slice(payload)?;
+    record.try_extend_from_slice(&[0])?;
+    Ok(record)
+}
+
+// Writes a length, a payload and a closed gate from this place on, each by itself.
+fn write_parts<M: Home>(home: &mut M, side: Side, at: u64, payload: &[u8]) -> Result<(), Failed>
+    requires is_open { IsOpen (M.opening home.old) }
+    requires size { length payload.now < 2 ^ 32 }
+    requires range { at ≤ 2 ^ 40 }
+    requires no_gap { IsTrue M.tells → at ≤ length (now (M.past home.old) side).reads }
+    ensures run { IsTrue M.tells → (front : List ℕ) → length front ≤ at → IsFrontSafe front (now (M.past home.old) side) → Runs side (IsFrontSafe front) (M.past home.old) (M.past home.new) }
+    ensures written { IsTrue M.tells → OnOk result ((now (M.past home.new) side).reads ≡ overwritten at (behind_gate payload.now) (now (M.past home.old) side).reads) }
+    ensures opening { M.opening home.new ≡ M.opening home.old }
+    ensures steady { OnOk result (M.counted home.new ≡ M.counted home.old) }
+    ensures cause { OnErr result (HasRisen (M.counted home.old) (M.counted home.new)) }
+{
+    let size = payload.len() as u64;
+    write(home, side, at, &length_field(payload))?;
+    write(home, side, at + 4, payload)?;
+    write(home, side, at + 4 + size, &[0])?;
+    Ok(())
+}
+
+// Writes a length, a payload and a closed gate from this place on: by one write where they are short, since a write
+// costs more than the copying of so few bytes.
+fn write_behind<M: Home>(home: &mut M, side: Side, at: u64, payload: &[u8]) -> Result<(), Failed>
+    requires is_open { IsOpen (M.opening home.old) }
+    requires size { length payload.now < 2 ^ 32 }
+    requires range { at ≤ 2 ^ 40 }
+    requires no_gap { IsTrue M.tells → at ≤ length (now (M.past home.old) side).reads }
+    ensures run { IsTrue M.tells → (front : List ℕ) → length front ≤ at → IsFrontSafe front (now (M.past home.old) side) → Runs side (IsFrontSafe front) (M.past home.old) (M.past home.new) }
+    ensures written { IsTrue M.tells → OnOk result ((now (M.past home.new) side).reads ≡ overwritten at (behind_gate payload.now) (now (M.past home.old) side).reads) }
+    ensures opening { M.opening home.new ≡ M.opening home.old }
+    ensures steady { OnOk result (M.counted home.new ≡ M.counted home.old) }
+    ensures cause { OnErr result (HasRisen (M.counted home.old) (M.counted home.new)) }
+{
+    match short_record(payload) {
+        Ok(record) => write(home, side, at, &record),
+        Err(_) => write_parts(home, side, at, payload),
+    }
+}
+
 // Writes a length, a payload and a closed gate from this place on, and syncs.
 fn put_behind<M: Home>(home: &mut M, side: Side, at: u64, payload: &[u8]) -> Result<(), Failed>
     requires is_open { IsOpen (M.opening home.old) }
@@ -38,12 +105,7 @@ fn put_behind<M: Home>(home: &mut M, side: Side, at: u64, payload: &[u8]) -> Res
     ensures steady { OnOk result (M.counted home.new ≡ M.counted home.old) }
     ensures cause { OnErr result (HasRisen (M.counted home.old) (M.counted home.new)) }
 {
-    let size = payload.len() as u64;
-    let mut field = [0; 4];
-    BigEndian::write_u32(&mut field, size as u32);
-    write(home, side, at, &field)?;
-    write(home, side, at + 4, payload)?;
-    write(home, side, at + 4 + size, &[0])?;
+    write_behind(home, side, at, payload)?;
     home.sync(side)?;
     Ok(())
 }
