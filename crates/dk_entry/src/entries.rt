@@ -1,8 +1,8 @@
 //! Commit entries, and the payloads that hold them.
-ghost use Rattle.std.specs.Prelude.{◌≡◌, ◌⊎◌, ℕ, List, IfOk};
+ghost use Rattle.std.specs.Prelude.{◌≡◌, ◌⊎◌, ℕ, List, [], ◌∷◌, ◌++◌, IfOk, OnOk};
 ghost use Rattle.dk_wire.specs.Payload.{Gives, Decodes};
 ghost use Rattle.dk_types.specs.Payload.{next_u64, checked};
-ghost use Rattle.dk_model.specs.Entries.{IsFormat, AreEntries, entries_spelling, entries_at, is_seq, is_run, is_some_entry};
+ghost use Rattle.dk_model.specs.Entries.{IsFormat, AreEntries, entries_spelling, entries_at, entry_spelling, is_seq, is_run, is_some_entry};
 
 use crate::effects::EffectsForm;
 use crate::formats::{FirstFormat, SecondFormat, StoreFormat};
@@ -30,10 +30,7 @@ impl<F: StoreFormat> Form<Entry> for EntryForm<F> {
     ghost exact = { each_entry_exact F.number };
 
     fn put(writer: &mut Writer, entry: &Entry) -> Result<(), NoMemory> {
-        writer.put_u64(entry.seq)?;
-        writer.put_u64(entry.run.0)?;
-        EffectsForm::<F>::put(writer, &entry.effects)?;
-        Ok(())
+        put_commit::<F>(writer, entry.seq, entry.run, &entry.effects)
     }
 
     #[tactic(auto, unfolding(dk_model::specs::Entries::entry_at))]
@@ -53,6 +50,21 @@ impl<F: StoreFormat> Form<Entry> for EntryForm<F> {
         };
         Ok((entry, behind))
     }
+}
+
+/// Puts the fields of an entry.
+fn put_commit<F: StoreFormat>(
+    writer: &mut Writer,
+    seq: u64,
+    run: RunNo,
+    effects: &Effects,
+) -> Result<(), NoMemory>
+    ensures { OnOk result (writer.new ≡ writer.old ++ entry_spelling (record { seq = seq; run = run; effects = effects.now })) }
+{
+    writer.put_u64(seq)?;
+    writer.put_u64(run.0)?;
+    EffectsForm::<F>::put(writer, effects)?;
+    Ok(())
 }
 
 /// A commit's number; the fault of 0 is at its own place.
@@ -130,6 +142,22 @@ pub fn encode_entries(alloc: Global, entries: &[Entry]) -> Result<Blob, NoMemory
 {
     let mut writer = Writer::with_capacity(alloc, ROOM_BYTES)?;
     put_list::<Entry, EntryForm<SecondFormat>>(&mut writer, entries)?;
+    Ok(writer.finish())
+}
+
+/// The payload of the one entry that has these fields, as `encode_entries` writes it.
+#[tactic(auto, using(crate::proofs::OneEntry::spelled_alone))]
+pub fn encode_commit(
+    alloc: Global,
+    seq: u64,
+    run: RunNo,
+    effects: &Effects,
+) -> Result<Blob, NoMemory>
+    ensures { IfOk result (λ payload. payload ≡ entries_spelling (record { seq = seq; run = run; effects = effects.now } ∷ [])) }
+{
+    let mut writer = Writer::with_capacity(alloc, ROOM_BYTES)?;
+    writer.put_u32(1)?;
+    put_commit::<SecondFormat>(&mut writer, seq, run, effects)?;
     Ok(writer.finish())
 }
 
