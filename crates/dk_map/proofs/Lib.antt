@@ -5,7 +5,6 @@ pub mod Heights
 pub mod Keys
 pub mod Maps
 pub mod Next
-pub mod PutBack
 pub mod Puts
 pub mod Seen
 pub mod Top

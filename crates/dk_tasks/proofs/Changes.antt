@@ -1,9 +1,8 @@
 -- A task changed in its place: what is kept, and what callers see.
-use Rattle.std.proofs.Common.{◌≡◌, refl, sym, ap, subst, ◌∙◌, Bool, true, false, cond, not, List, Option, None, Some, is_some}
+use Rattle.std.proofs.Common.{◌≡◌, refl, sym, ap, subst, ◌∙◌, Bool, true, false, not, List, Option, None, Some, is_some}
 use Rattle.std.proofs.Math.Bool.{beq}
 use Rattle.std.specs.Option.{option_map}
-use Rattle.std.specs.FinMap.{FinMap, contains_key, get, insert, get-insert, same_map}
-use Rattle.std.specs.Ordering.{eq_by_cmp}
+use Rattle.std.specs.FinMap.{FinMap, contains_key, insert}
 use Rattle.dk_types.specs.declared.number.TaskKey.{TaskKey}
 use Rattle.dk_map.specs.Entries.{find, put, IsChanged, IsOrdered}
 use Rattle.dk_map.proofs.Seen.{without_absent}
@@ -12,8 +11,6 @@ use Rattle.dk_model.specs.DurableWorlds.{with_value}
 use Rattle.dk_tasks.specs.Tasks.{Kept, changed_at}
 use Rattle.dk_tasks.specs.Places.{kept_of, kept_tasks}
 use Rattle.dk_tasks.specs.declared.stored.Stored.{Stored}
-use Rattle.dk_tasks.proofs.Found.{tied}
-use Rattle.dk_tasks.proofs.Orders.{key_total, key_same}
 use Rattle.dk_tasks.proofs.Kept.{kept_get, kept_some, kept_put, kept_without}
 
 -- where a task is found, it is changed
@@ -41,19 +38,6 @@ module _ {m : FinMap key_cmp Kept} (es : List (TaskKey × Stored)) (v : kept_tas
   kept_absent change f es' e =
       kept_without es v h k es' (e ∙ sym (without_absent key_cmp k es f))
       ∙ ap (λ r. with_value m k (option_map change r)) (sym (ap (option_map kept_of) f) ∙ kept_get es v h k)
-
-  -- what is changed into itself stays
-  pub kept_itself : (change : Kept → Kept) (s : Stored) → find key_cmp k es ≡ Some s → change (kept_of s) ≡ kept_of s → m ≡ changed_at change k m
-  kept_itself change s f is =
-      let there : get m k ≡ Some (kept_of s) = sym (kept_get es v h k) ∙ ap (option_map kept_of) f in
-      let same : insert m k (kept_of s) ≡ m =
-      same_map key_total key_same _ _ (λ q.
-      get-insert key_total m k (kept_of s) q
-      ∙ elim (eq_by_cmp key_cmp q k) as (λ b. eq_by_cmp key_cmp q k ≡ b → cond b (Some (kept_of s)) (get m q) ≡ get m q) [
-        | true ↦ λ t. sym (ap (get m) (key_same q k (tied _ t)) ∙ there)
-        | false ↦ λ _. refl
-      ] refl) in
-      sym same ∙ ap (insert m k) (sym is) ∙ sym (ap (λ r. with_value m k (option_map change r)) there)
 
   -- a task that is pending is found
   pub pending_found : contains_key m k ≡ true → None ≡ find key_cmp k es → ⊥

@@ -5,8 +5,10 @@ pub mod Held
 pub mod Kept
 pub mod Leasts
 pub mod Mapped
+pub mod Marks
 pub mod Moves
 pub mod Orders
+pub mod Replaced
 pub mod Rooms
 pub mod Soonest
 pub mod Spares

@@ -7,7 +7,7 @@ ghost use Rattle.dk_model.specs.Picks.{pick_task};
 ghost use Rattle.dk_model.specs.Worlds.{World};
 ghost use Rattle.dk_tasks.specs.Tasks.{unclaimed, with_due, with_stamp, with_claim, changed_at, stamped, durable_tasks};
 ghost use Rattle.dk_tasks.specs.Due.{least_due as soonest, HasTasks, job_at};
-ghost use Rattle.dk_tasks.specs.Places.{IsMoved, claimed_at};
+ghost use Rattle.dk_tasks.specs.Places.{IsMoved, IsMarked, IsVacated};
 ghost use Rattle.dk_tasks.specs.declared.stored.Stored.{Stored};
 ghost use Rattle.dk_map.specs.Entries.{find, put};
 ghost use Rattle.dk_model.specs.Keys.{key_cmp};
@@ -52,12 +52,33 @@ fn set_due(tasks: &mut OrderedMap<TaskKey, Stored>, key: TaskKey, due: u64) -> O
     })
 }
 
-/// Marks whether a claimed run has a task. Its place is not moved.
-fn set_claim(tasks: &mut OrderedMap<TaskKey, Stored>, key: TaskKey, claimed: bool)
-    ensures entries { (s : Stored) → find key_cmp key tasks.old.entries ≡ Some s → tasks.new.entries ≡ put key_cmp key (claimed_at claimed s) tasks.old.entries }
+/// Marks whether a claimed run has a task, and tells its due moment and how it was marked. Its place is not moved.
+fn set_claim(
+    tasks: &mut OrderedMap<TaskKey, Stored>,
+    key: TaskKey,
+    claimed: bool,
+) -> Option<(u64, bool)>
+    ensures marked { IsMarked key claimed tasks.old.entries tasks.new.entries result }
     ensures spare { tasks.new.spare ≡ tasks.old.spare }
 {
-    tasks.change(&key, |stored| stored.claimed = claimed);
+    tasks.change(&key, |stored| {
+        let was = (stored.task.due, stored.claimed);
+        stored.claimed = claimed;
+        was
+    })
+}
+
+/// Takes out the place of a task that another has replaced, if there was one and no run had it.
+fn vacate(places: &mut OrderedMap<TaskRank, ()>, old: Option<Stored>)
+    ensures { IsVacated old places.old.entries places.new.entries places.old.spare places.new.spare }
+{
+    let Some(old) = old else {
+        return;
+    };
+    if old.claimed {
+        return;
+    }
+    places.remove(&old.place());
 }
 
 impl Tasks {
@@ -172,12 +193,15 @@ impl Tasks {
         ensures tasks { self.new.tasks ≡ map.insert self.old.tasks task.key (unclaimed (task_of task).1 stamp) }
         ensures spare { self.new.spare + (if map.contains_key self.old.tasks task.key then 0 else 1) ≡ self.old.spare }
     {
-        self.take(task.key);
-        self.add(Stored {
+        let stored = Stored {
             task,
             stamp,
             claimed: false,
-        });
+        };
+        let place = stored.place();
+        let old = self.tasks.insert(place.key, stored);
+        vacate(&mut self.places, old);
+        self.places.insert(place, ());
     }
 
     /// Takes a task out. Its room is spare from then on.
@@ -222,20 +246,18 @@ impl Tasks {
         self.tasks.change(&key, |stored| stored.stamp = stamp);
     }
 
-    /// Marks whether a claimed run has a task. It takes no memory.
+    /// Marks whether a claimed run has a task, if it is pending. It takes no memory.
     pub fn set_claimed(&mut self, key: TaskKey, claimed: bool)
-        requires pending { map.contains_key self.old.tasks key ≡ true }
         ensures tasks { self.new.tasks ≡ changed_at (with_claim claimed) key self.old.tasks }
         ensures spare { self.new.spare ≡ self.old.spare }
     {
-        let Some(stored) = self.tasks.get(&key) else {
-            unreachable!()
+        let Some((due, was)) = set_claim(&mut self.tasks, key, claimed) else {
+            return;
         };
-        if stored.claimed == claimed {
+        if was == claimed {
             return;
         }
-        let place = stored.place();
-        set_claim(&mut self.tasks, key, claimed);
+        let place = TaskRank { due, key };
         if claimed {
             self.places.remove(&place);
         } else {
@@ -257,17 +279,5 @@ impl Tasks {
             self.places.remove(&stored.place());
         }
         Some(stored)
-    }
-
-    /// Adds a task that no run has, with its place, at a key that is not there.
-    fn add(&mut self, stored: Stored)
-        requires absent { map.get self.old.tasks stored.task.key ≡ None }
-        requires free { stored.claimed ≡ false }
-        requires room { 0 < self.old.spare }
-        ensures tasks { self.new.tasks ≡ map.insert self.old.tasks stored.task.key (kept_of stored) }
-        ensures spare { self.new.spare + 1 ≡ self.old.spare }
-    {
-        self.places.insert(stored.place(), ());
-        self.tasks.insert(stored.task.key, stored);
     }
 }

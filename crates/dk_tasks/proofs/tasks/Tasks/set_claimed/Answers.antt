@@ -1,92 +1,81 @@
-use Rattle.std.proofs.Common.{◌≡◌, true, false, is_some, refl, sym, ap, ◌∙◌}
-use Rattle.dk_map.specs.Entries.{find, put, without}
-use Rattle.dk_tasks.specs.Places.{place_cmp, kept_of, place_of, claimed_at, IsKeyed}
+use Rattle.std.proofs.Common.{◌≡◌, ◌≤◌, ◌-◌, min, true, false, refl, sym, ap, subst, ◌∙◌}
+use Rattle.dk_tasks.specs.Places.{place_of, claimed_at, held_count, IsInStep}
 use Rattle.dk_tasks.specs.Tasks.{with_claim}
-use Rattle.dk_tasks.proofs.Changes.{kept_changed, alike, kept_itself, opposite, pending_found}
-use Rattle.dk_tasks.proofs.Found.{found_of_all}
-use Rattle.dk_tasks.proofs.Spares.{place_out, place_in, room_kept, spare_claimed, spare_freed}
-use Rattle.dk_tasks.proofs.Orders.{key_same}
-use Rattle.dk_tasks.proofs.Steps.{step_claimed, step_freed, hidden}
+use Rattle.dk_tasks.specs.declared.stored.TaskRank.{TaskRank}
+use Rattle.dk_tasks.proofs.Changes.{kept_changed, kept_absent, alike, opposite}
+use Rattle.dk_tasks.proofs.Marks.{marked_same, marked_claimed, marked_freed}
+use Rattle.dk_tasks.proofs.Rooms.{as_before}
+use Rattle.dk_tasks.proofs.Spares.{room_kept}
 use Rattle.dk_tasks.proofs.tasks.Tasks.set_claimed.Goals as goal
+use Rattle.dk_tasks.proofs.tasks.Tasks.set_claimed.Goals.{Then-was-claimed, Then-claimed, Else-claimed, After-remove, After-insert}
 
-pub unreachable-requires : goal.unreachable-requires
-unreachable-requires c = absurd (pending_found _ (ap (λ s. s.tasks) c.self.view_is) c.self.invariant.0.ordered c.args.key c.requires.pending c.in_default.ensures)
-
-pub returns-then-stored-claimed-clause-tasks : goal.returns-then-stored-claimed-clause-tasks
-returns-then-stored-claimed-clause-tasks c =
-    let s = c.in-Some.stored.now in
-    let i = c.self.invariant.0 in
-    let found = sym c.in-Some.ensures in
-    kept_itself _ (ap (λ s. s.tasks) c.self.view_is) i.ordered c.args.key (with_claim c.args.claimed) s found (ap (λ b. with_claim b (kept_of s)) (sym (alike _ _ c.if-stored-claimed.true)))
-
-pub insert-requires : goal.insert-requires
-insert-requires c =
-    let s = c.in-Some.stored.now in
-    let i = c.self.invariant.0 in
-    let found = sym c.in-Some.ensures in
-    let held : s.claimed ≡ true = opposite _ _ true c.if-stored-claimed.false c.if-claimed.false in
-    record { room = λ _. room_kept _ _ i c.args.key s found _ _ _ (ap (λ s. s.spare) c.self.view_is) c.self.invariant.1 held }
-
+-- where no task is at the key
 pub invariant_of-self : goal.invariant_of-self
 invariant_of-self c =
-    let s = c.in-Some.stored.now in
-    let i = c.self.invariant.0 in
-    let found = sym c.in-Some.ensures in
-    let key = found_of_all key_same IsKeyed _ i.keyed c.args.key s found in
-    let place = c.place-place.ensures ∙ ap (λ k. place_of k s) key in
-    let free : s.claimed ≡ false = opposite _ _ false c.if-stored-claimed.false c.if-claimed.true in
-    let out = place_out _ _ i c.args.key s found _ _ _ (ap (λ s. s.spare) c.self.view_is) c.self.invariant.1 free _ place _ c.remove.ensures.value _ c.remove.ensures.spare in
-    let room = spare_claimed _ _ i c.args.key s found _ _ _ (ap (λ s. s.spare) c.self.view_is) c.self.invariant.1 (claimed_at c.args.claimed s) _ (c.set_claim.ensures.entries s found) _ c.set_claim.ensures.spare free c.if-claimed.true _ out in
-    (step_claimed _ _ i c.args.key s (claimed_at c.args.claimed s) found key _ (c.set_claim.ensures.entries s found) _ c.remove.ensures.ordered free c.if-claimed.true (c.remove.ensures.entries ∙ ap (λ q. without place_cmp q c.self.inside.places.entries) place), room.1)
+    let none = c.in_default.ensures.marked in
+    (subst (λ es. IsInStep es c.self.inside.places.entries) (sym none.1) c.self.invariant.0, rw none.1 c.self.invariant.1)
+
+pub returns-in_default : goal.returns-in_default
+returns-in_default c =
+    let none = c.in_default.ensures.marked in
+    record {
+      tasks = kept_absent _ (ap (λ s. s.tasks) c.self.view_is) c.self.invariant.0.ordered c.args.key (with_claim c.args.claimed) none.0 _ none.1;
+      spare = (as_before _ _ _ _ (ap (λ s. s.spare) c.self.view_is) c.self.invariant.1 _ c.self.inside.places.spare _ c.in_default.ensures.spare refl (ap held_count none.1)).0;
+    }
+
+-- where it is marked so already
+same : (c : Then-was-claimed) → IsInStep c.set_claim.new.tasks.entries c.self.inside.places.entries
+    × (min c.set_claim.new.tasks.spare (c.self.inside.places.spare - held_count c.set_claim.new.tasks.entries) ≡ c.args.self.now.spare) × (held_count c.set_claim.new.tasks.entries ≤ c.self.inside.places.spare)
+same c =
+    let m = c.in-Some.ensures.marked in
+    marked_same _ _ c.self.invariant.0 c.args.key m.0 m.1 c.args.claimed _ m.3 _ _ _ (ap (λ s. s.spare) c.self.view_is) c.self.invariant.1 _ c.in-Some.ensures.spare (sym (ap (λ w. w.1) m.2) ∙ alike _ _ c.if-was-claimed.true)
+
+pub invariant_of-self-then-was-claimed : goal.invariant_of-self-then-was-claimed
+invariant_of-self-then-was-claimed c = let s = same c in (s.0, s.2)
+
+pub returns-then-was-claimed : goal.returns-then-was-claimed
+returns-then-was-claimed c =
+    let m = c.in-Some.ensures.marked in
+    record { tasks = kept_changed _ (ap (λ s. s.tasks) c.self.view_is) c.self.invariant.0.ordered c.args.key (with_claim c.args.claimed) m.0 (claimed_at c.args.claimed m.0) m.1 refl _ m.3; spare = (same c).1 }
+
+-- where a run has the task now
+claimed : (c : After-remove) → IsInStep c.set_claim.new.tasks.entries c.remove.new.self.entries
+    × (min c.set_claim.new.tasks.spare (c.remove.new.self.spare - held_count c.set_claim.new.tasks.entries) ≡ c.args.self.now.spare) × (held_count c.set_claim.new.tasks.entries ≤ c.remove.new.self.spare)
+claimed c =
+    let m = c.in-Some.ensures.marked in
+    let free : m.0.claimed ≡ false = sym (ap (λ w. w.1) m.2) ∙ opposite _ _ false c.if-was-claimed.false c.if-claimed.true in
+    let q : TaskRank = record { due = c.in-Some.due; key = c.args.key } in
+    let at : q ≡ place_of c.args.key m.0 = λ i. record { due = (m.2 i).0; key = c.args.key } in
+    marked_claimed _ _ c.self.invariant.0 c.args.key m.0 m.1 c.args.claimed _ m.3 _ _ _ (ap (λ s. s.spare) c.self.view_is) c.self.invariant.1 _ c.in-Some.ensures.spare q at free c.if-claimed.true _ c.remove.ensures.value _ c.remove.ensures.spare _ c.remove.ensures.entries c.remove.ensures.ordered
+
+pub invariant_of-self-then-claimed : goal.invariant_of-self-then-claimed
+invariant_of-self-then-claimed c = let s = claimed c in (s.0, s.2)
+
+pub returns-then-claimed : goal.returns-then-claimed
+returns-then-claimed c =
+    let m = c.in-Some.ensures.marked in
+    record { tasks = kept_changed _ (ap (λ s. s.tasks) c.self.view_is) c.self.invariant.0.ordered c.args.key (with_claim c.args.claimed) m.0 (claimed_at c.args.claimed m.0) m.1 refl _ m.3; spare = (claimed c).1 }
+
+-- where none has it any more
+pub insert-requires : goal.insert-requires
+insert-requires c =
+    let m = c.in-Some.ensures.marked in
+    let held : m.0.claimed ≡ true = sym (ap (λ w. w.1) m.2) ∙ opposite _ _ true c.if-was-claimed.false c.if-claimed.false in
+    record { room = λ _. room_kept _ _ c.self.invariant.0 c.args.key m.0 m.1 _ _ _ (ap (λ s. s.spare) c.self.view_is) c.self.invariant.1 held }
+
+freed : (c : After-insert) → IsInStep c.set_claim.new.tasks.entries c.insert.new.self.entries
+    × (min c.set_claim.new.tasks.spare (c.insert.new.self.spare - held_count c.set_claim.new.tasks.entries) ≡ c.args.self.now.spare) × (held_count c.set_claim.new.tasks.entries ≤ c.insert.new.self.spare)
+freed c =
+    let m = c.in-Some.ensures.marked in
+    let held : m.0.claimed ≡ true = sym (ap (λ w. w.1) m.2) ∙ opposite _ _ true c.if-was-claimed.false c.if-claimed.false in
+    let q : TaskRank = record { due = c.in-Some.due; key = c.args.key } in
+    let at : q ≡ place_of c.args.key m.0 = λ i. record { due = (m.2 i).0; key = c.args.key } in
+    marked_freed _ _ c.self.invariant.0 c.args.key m.0 m.1 c.args.claimed _ m.3 _ _ _ (ap (λ s. s.spare) c.self.view_is) c.self.invariant.1 _ c.in-Some.ensures.spare q at held c.if-claimed.false _ c.insert.ensures.old _ c.insert.ensures.spare _ c.insert.ensures.entries c.insert.ensures.ordered
 
 pub invariant_of-self-else-claimed : goal.invariant_of-self-else-claimed
-invariant_of-self-else-claimed c =
-    let s = c.in-Some.stored.now in
-    let i = c.self.invariant.0 in
-    let found = sym c.in-Some.ensures in
-    let key = found_of_all key_same IsKeyed _ i.keyed c.args.key s found in
-    let place = c.place-place.ensures ∙ ap (λ k. place_of k s) key in
-    let held : s.claimed ≡ true = opposite _ _ true c.if-stored-claimed.false c.if-claimed.false in
-    let none = ap is_some (c.insert.ensures.old ∙ ap (λ q. find place_cmp q c.self.inside.places.entries) place) ∙ hidden _ _ i c.args.key s found held (place_of c.args.key s) refl in
-    let into = place_in _ _ c.insert.result none c.insert.ensures.spare in
-    let room = spare_freed _ _ i c.args.key s found _ _ _ (ap (λ s. s.spare) c.self.view_is) c.self.invariant.1 (claimed_at c.args.claimed s) _ (c.set_claim.ensures.entries s found) _ c.set_claim.ensures.spare held c.if-claimed.false _ into in
-    (step_freed _ _ i c.args.key s (claimed_at c.args.claimed s) found key _ (c.set_claim.ensures.entries s found) _ c.insert.ensures.ordered held c.if-claimed.false (c.insert.ensures.entries ∙ ap (λ q. put place_cmp q tt c.self.inside.places.entries) place), room.1)
+invariant_of-self-else-claimed c = let s = freed c in (s.0, s.2)
 
-pub returns-then-claimed-clause-tasks : goal.returns-then-claimed-clause-tasks
-returns-then-claimed-clause-tasks c =
-    let s = c.in-Some.stored.now in
-    let i = c.self.invariant.0 in
-    let found = sym c.in-Some.ensures in
-    kept_changed _ (ap (λ s. s.tasks) c.self.view_is) i.ordered c.args.key (with_claim c.args.claimed) s (claimed_at c.args.claimed s) found refl _ (c.set_claim.ensures.entries s found)
-
-pub returns-then-claimed-clause-spare : goal.returns-then-claimed-clause-spare
-returns-then-claimed-clause-spare c =
-    let s = c.in-Some.stored.now in
-    let i = c.self.invariant.0 in
-    let found = sym c.in-Some.ensures in
-    let key = found_of_all key_same IsKeyed _ i.keyed c.args.key s found in
-    let place = c.place-place.ensures ∙ ap (λ k. place_of k s) key in
-    let free : s.claimed ≡ false = opposite _ _ false c.if-stored-claimed.false c.if-claimed.true in
-    let out = place_out _ _ i c.args.key s found _ _ _ (ap (λ s. s.spare) c.self.view_is) c.self.invariant.1 free _ place _ c.remove.ensures.value _ c.remove.ensures.spare in
-    let room = spare_claimed _ _ i c.args.key s found _ _ _ (ap (λ s. s.spare) c.self.view_is) c.self.invariant.1 (claimed_at c.args.claimed s) _ (c.set_claim.ensures.entries s found) _ c.set_claim.ensures.spare free c.if-claimed.true _ out in
-    room.0
-
-pub returns-else-claimed-clause-tasks : goal.returns-else-claimed-clause-tasks
-returns-else-claimed-clause-tasks c =
-    let s = c.in-Some.stored.now in
-    let i = c.self.invariant.0 in
-    let found = sym c.in-Some.ensures in
-    kept_changed _ (ap (λ s. s.tasks) c.self.view_is) i.ordered c.args.key (with_claim c.args.claimed) s (claimed_at c.args.claimed s) found refl _ (c.set_claim.ensures.entries s found)
-
-pub returns-else-claimed-clause-spare : goal.returns-else-claimed-clause-spare
-returns-else-claimed-clause-spare c =
-    let s = c.in-Some.stored.now in
-    let i = c.self.invariant.0 in
-    let found = sym c.in-Some.ensures in
-    let key = found_of_all key_same IsKeyed _ i.keyed c.args.key s found in
-    let place = c.place-place.ensures ∙ ap (λ k. place_of k s) key in
-    let held : s.claimed ≡ true = opposite _ _ true c.if-stored-claimed.false c.if-claimed.false in
-    let none = ap is_some (c.insert.ensures.old ∙ ap (λ q. find place_cmp q c.self.inside.places.entries) place) ∙ hidden _ _ i c.args.key s found held (place_of c.args.key s) refl in
-    let into = place_in _ _ c.insert.result none c.insert.ensures.spare in
-    let room = spare_freed _ _ i c.args.key s found _ _ _ (ap (λ s. s.spare) c.self.view_is) c.self.invariant.1 (claimed_at c.args.claimed s) _ (c.set_claim.ensures.entries s found) _ c.set_claim.ensures.spare held c.if-claimed.false _ into in
-    room.0
+pub returns-else-claimed : goal.returns-else-claimed
+returns-else-claimed c =
+    let m = c.in-Some.ensures.marked in
+    record { tasks = kept_changed _ (ap (λ s. s.tasks) c.self.view_is) c.self.invariant.0.ordered c.args.key (with_claim c.args.claimed) m.0 (claimed_at c.args.claimed m.0) m.1 refl _ m.3; spare = (freed c).1 }
