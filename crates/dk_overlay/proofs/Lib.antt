@@ -9,3 +9,4 @@ pub mod Picking
 pub mod SameItems
 pub mod PutBack
 pub mod PutAll
+pub mod Places

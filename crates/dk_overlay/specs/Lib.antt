@@ -8,3 +8,4 @@ pub mod ReadsAndWrites
 pub mod Codes
 pub mod NetChanges
 pub mod Items
+pub mod SmallMaps

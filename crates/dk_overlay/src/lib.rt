@@ -23,4 +23,5 @@ pub mod names;
 pub mod objects;
 pub mod read_write_set;
 pub mod reads;
+mod small_map;
 pub mod tasks;

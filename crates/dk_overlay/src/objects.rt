@@ -11,14 +11,14 @@ ghost use Rattle.dk_overlay.specs.Changes.{put_back, put_each};
 ghost use Rattle.dk_overlay.specs.Picks.{picked, newly_set, taken_away};
 
 use crate::change::Change;
-use dk_map::OrderedMap;
+use crate::small_map::SmallMap;
 use dk_types::{NoMemory, Object, ObjectId};
 use std::alloc::Global;
 use std::marker::Model;
 
 /// A change at each object that the run has touched.
 pub struct ObjectChanges {
-    changes: OrderedMap<ObjectId, Change<Object>>,
+    changes: SmallMap<ObjectId, Change<Object>>,
 }
 
 impl Drop for ObjectChanges {
@@ -75,10 +75,7 @@ impl ObjectEffects {
 }
 
 /// Puts each of these changes at its object, one after another. There is room for them.
-fn put_all(
-    changes: &mut OrderedMap<ObjectId, Change<Object>>,
-    more: Vec<(ObjectId, Change<Object>)>,
-)
+fn put_all(changes: &mut SmallMap<ObjectId, Change<Object>>, more: Vec<(ObjectId, Change<Object>)>)
     requires room { vec_len more ≤ changes.old.spare }
     requires ordered { IsOrdered id_cmp changes.old.entries }
     ensures ordered { IsOrdered id_cmp changes.new.entries }
@@ -95,7 +92,7 @@ impl ObjectChanges {
         ensures { result ≡ map.empty }
     {
         ObjectChanges {
-            changes: OrderedMap::new(alloc),
+            changes: SmallMap::new(alloc),
         }
     }
 
@@ -165,7 +162,7 @@ impl ObjectChanges {
             written: Vec::new(alloc),
             removed: Vec::new(alloc),
         };
-        for (id, change) in changes.into_entries(alloc)? {
+        for (id, change) in changes.into_entries()? {
             effects.add(id, change)?;
         }
         Ok(effects)

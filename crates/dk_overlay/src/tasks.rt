@@ -8,14 +8,14 @@ ghost use Rattle.dk_overlay.specs.Changes.{removing, moving, settled};
 ghost use Rattle.dk_overlay.specs.Picks.{picked, task_added, task_dropped, task_moved};
 
 use crate::change::{Scheduled, TaskChange};
-use dk_map::OrderedMap;
+use crate::small_map::SmallMap;
 use dk_types::{NoMemory, Pending, TaskKey};
 use std::alloc::Global;
 use std::marker::Model;
 
 /// A change at each task that the run has touched.
 pub struct TaskChanges {
-    changes: OrderedMap<TaskKey, TaskChange>,
+    changes: SmallMap<TaskKey, TaskChange>,
 }
 
 impl Drop for TaskChanges {
@@ -85,7 +85,7 @@ impl TaskChanges {
         ensures { result ≡ map.empty }
     {
         TaskChanges {
-            changes: OrderedMap::new(alloc),
+            changes: SmallMap::new(alloc),
         }
     }
 
@@ -142,7 +142,7 @@ impl TaskChanges {
             dropped: Vec::new(alloc),
             requeued: Vec::new(alloc),
         };
-        for (key, change) in changes.into_entries(alloc)? {
+        for (key, change) in changes.into_entries()? {
             effects.add(key, change)?;
         }
         Ok(effects)

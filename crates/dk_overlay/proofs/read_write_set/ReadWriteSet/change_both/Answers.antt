@@ -1,4 +1,4 @@
-use Rattle.std.proofs.Common.{◌≡◌, true, is_some, ap, ◌∙◌}
+use Rattle.std.proofs.Common.{◌≡◌, is_some, ap, ◌∙◌}
 use Rattle.std.specs.FinMap as map
 use Rattle.dk_overlay.specs.Changes.{put_back}
 use Rattle.dk_overlay.proofs.Keys.{ids_total, ids_same}

@@ -1,8 +1,6 @@
-use Rattle.std.proofs.Common.{◌≡◌, ℕ, List, [], ◌∷◌, ◌++◌, refl, sym, ap, subst, ◌∙◌}
+use Rattle.std.proofs.Common.{◌≡◌, [], ◌∷◌, ◌++◌, sym, subst}
 use Rattle.std.specs.Vec.Iter.{into_iter_items}
 use Rattle.std.specs.List.{AllByRecursion}
-use Rattle.dk_types.specs.declared.number.ObjectId.{ObjectId}
-use Rattle.dk_overlay.specs.ReadsAndWrites.{ReadsAndWrites}
 use Rattle.dk_txn.specs.Asks.{AsksOf}
 use Rattle.dk_txn.specs.Does.{Stands}
 use Rattle.dk_txn.specs.Rewritten.{IsObjectOf}
