@@ -20,6 +20,7 @@ pub mod Counted
 pub mod Drawn
 pub mod Entering
 pub mod Choosing
+pub mod Soonest
 pub mod Granted
 pub mod Committed
 pub mod Opened

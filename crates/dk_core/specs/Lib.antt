@@ -1,5 +1,6 @@
 pub mod StampedWorlds
 pub mod Rooms
+pub mod Preparations
 pub mod Publishing
 pub mod Commits
 pub mod Changes

@@ -1,5 +1,5 @@
 // Commits.
-ghost use Rattle.std.specs.Prelude.{◌≡◌, ◌+◌, IfOk, IfErr};
+ghost use Rattle.std.specs.Prelude.{◌≡◌, ◌+◌, IfErr};
 ghost use Rattle.dk_core.specs.Answers.{Commits, CommitsOrTells, HasRoomFor, IsPrepared, IsReady, Prepares, Readies, TellsStale};
 ghost use Rattle.dk_core.specs.Cores.{HasMoreRoom, IsGranted, AddsNothing};
 
@@ -9,13 +9,6 @@ use crate::prepared::Prepared;
 use crate::world::Core;
 use dk_connections::Deliveries;
 use dk_txn::Finished;
-use dk_types::{Effects, Entry, NoMemory};
-
-fn copy_effects(effects: &Effects) -> Result<Effects, NoMemory>
-    ensures { IfOk result (λ copy. copy ≡ effects.now) }
-{
-    Ok(effects.clone()?)
-}
 
 impl Core {
     /// Looks whether all reads of a finished run stand, and makes what its commit needs. Nothing is entered. The room of its
@@ -34,12 +27,9 @@ impl Core {
         ensures stays { AddsNothing self.old self.new }
     {
         let deliveries = self.make_ready(finished)?;
-        let entry = Entry {
-            seq: self.world.commits() + 1,
-            run: claimed.run,
-            effects: copy_effects(finished.effects())?,
-        };
-        Ok(Prepared { entry, deliveries })
+        let seq = self.world.commits() + 1;
+        let effects = finished.effects();
+        Ok(Prepared::new(seq, claimed.run, effects, deliveries))
     }
 
     /// Looks whether all reads of a finished run stand, and makes the room of its commit: that of its messages is told, and

@@ -149,7 +149,7 @@ impl<W: Hosting, J: Naming, M: Home> CommitStore<W, J, M> {
         ensures named { All (λ e. pass_of e < J.name.passes) pass.new.front }
     {
         let result = self.look(rt, world, pass, claimed, finished);
-        Ok(PreparedCommit::new(self.alloc, result?)?)
+        Ok(PreparedCommit::new(self.alloc, result?, finished)?)
     }
 
     fn look<R: Wait>(
