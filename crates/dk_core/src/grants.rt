@@ -186,8 +186,6 @@ impl Core {
         let Job::Task { key, .. } = job else {
             return;
         };
-        if self.world.task(*key).is_some() {
-            self.world.set_claimed(*key, false);
-        }
+        self.world.set_claimed(*key, false);
     }
 }

@@ -1,5 +1,5 @@
 //! The durable world, kept in the stores.
-ghost use Rattle.std.specs.Prelude.{◌≡◌, true};
+ghost use Rattle.std.specs.Prelude.{◌≡◌};
 ghost use Rattle.std.specs.Option.{option_copied, option_map};
 ghost use Rattle.std.specs.FinMap as map;
 ghost use Rattle.dk_model.specs.DurableWorlds.{empty_world};
@@ -115,9 +115,8 @@ impl StampedWorld {
         self.tasks.least_due(at)
     }
 
-    /// Marks whether a claimed run has a task. It takes no memory, and changes nothing that a read sees.
+    /// Marks whether a claimed run has a task, if it is pending. It takes no memory, and changes nothing that a read sees.
     pub fn set_claimed(&mut self, key: TaskKey, claimed: bool)
-        requires pending { map.contains_key self.old.tasks key ≡ true }
         ensures tasks { self.new ≡ record (self.old) { tasks = changed_at (with_claim claimed) key self.old.tasks } }
         ensures durable { durable_of self.new ≡ durable_of self.old }
         ensures seen { (item : Item) → seen_now self.new item ≡ seen_now self.old item }
