@@ -1,7 +1,7 @@
 -- The due task that comes first is there.
-use Rattle.std.proofs.Common.{◌≡◌, ℕ, Bool, true, false, cond, map, Option, Some, List, [], ◌∷◌, is_some, sym, ap}
+use Rattle.std.proofs.Common.{◌≡◌, ℕ, Bool, true, false, cond, map, Some, List, [], ◌∷◌, is_some, sym, ap}
 use Rattle.std.specs.List.{AllByRecursion, filter}
-use Rattle.std.specs.FinMap.{FinMap, entries, get, contains_key}
+use Rattle.std.specs.FinMap.{FinMap, entries, contains_key}
 use Rattle.dk_types.specs.declared.number.TaskKey.{TaskKey}
 use Rattle.dk_model.specs.Keys.{key_cmp}
 use Rattle.dk_model.specs.Picks.{least, is_sooner}

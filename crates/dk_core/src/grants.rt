@@ -105,9 +105,6 @@ impl Core {
         let Some(key) = self.world.least_due(self.moment) else {
             return None;
         };
-        if self.world.task(key).is_none() {
-            return None;
-        }
         Some(Choice::Task(key))
     }
 
