@@ -1,5 +1,5 @@
 //! Work on a shared host, which is opened for it on a new store.
-ghost use Rattle.std.specs.Prelude.{◌≡◌, false};
+ghost use Rattle.std.specs.Prelude.{◌≡◌, ◌<◌, false};
 ghost use Rattle.dk_disk.specs.Opening.{NotCalled};
 ghost use Rattle.dk_bench.specs.Hosts.{opened_for};
 
@@ -20,6 +20,10 @@ use std::time::Clock;
 /// So many objects stand in the world of a login at most.
 const LOGIN_OBJECTS: u32 = 1_000;
 
+/// So many logins share the objects over which commits are made, so that worlds of more or fewer objects have as many sessions,
+/// names and tasks.
+const COMMIT_LOGINS: u32 = 1_000;
+
 /// A held sync looks so often whether it is let go.
 const HELD_TURNS: u64 = 1 << 34;
 
@@ -30,7 +34,7 @@ pub enum HostWork {
     Tasks,
     /// The same, the store in the folder `host`.
     FolderTasks,
-    /// 20,000 commits over so many objects.
+    /// 20,000 commits over so many objects, which 1,000 logins share, or as many as there are objects.
     Commits,
     /// So many reads with nothing else at work.
     Reads,
@@ -83,7 +87,11 @@ pub fn on_host<M: Home + Send + Drop, R: AllocGlobal + Clock + Threads + Wait + 
         HostWork::Reads | HostWork::HeldReads => {
             in_memory(rt, &Counters::new(7, 1), &hold, &order)
         }
-        HostWork::Commits | HostWork::CheckpointRead => {
+        HostWork::Commits => {
+            let objects = number / commit_logins(number);
+            in_memory(rt, &Filler { objects }, &hold, &order)
+        }
+        HostWork::CheckpointRead => {
             let objects = number.min(LOGIN_OBJECTS);
             in_memory(rt, &Filler { objects }, &hold, &order)
         }
@@ -206,14 +214,23 @@ fn done<
     requires rules { W.opened.rules ≡ G.rules desk.now.game.now }
 {
     let number = order.number;
-    let logins = (number / LOGIN_OBJECTS).max(1);
     match order.work {
         HostWork::Tasks | HostWork::FolderTasks => desk.tasks(one),
         HostWork::Reads => desk.reads_alone(one, number),
         HostWork::HeldReads => desk.reads_beside_hold(one, other, order.hold, number),
-        HostWork::Commits => desk.commits(one, logins),
-        HostWork::CheckpointRead => desk.checkpoint_read(one, other, logins),
+        HostWork::Commits => desk.commits(one, commit_logins(number)),
+        HostWork::CheckpointRead => {
+            let logins = (number / LOGIN_OBJECTS).max(1);
+            desk.checkpoint_read(one, other, logins)
+        }
     }
+}
+
+/// How many logins share so many objects where commits are timed.
+fn commit_logins(objects: u32) -> u32
+    ensures { 0 < result }
+{
+    objects.clamp(1, COMMIT_LOGINS)
 }
 
 /// So many commits are made at least.
