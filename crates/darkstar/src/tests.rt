@@ -1,4 +1,5 @@
-//! The program by its top call, over streams and homes in memory: rows of commands, a server, and workers that meet.
+//! The program by its top call, over streams and homes in memory: rows of commands, a server, workers that meet, and stops at each
+//! call of the disk.
 ghost use Rattle.std.specs.Prelude.{◌≡◌, IfOk};
 ghost use Rattle.dk_disk.specs.Opening.{NotCalled};
 ghost use Rattle.dk_edge.specs.Listening.{IsUncalled};
@@ -6,9 +7,10 @@ ghost use Rattle.dk_edge.specs.Listening.{IsUncalled};
 mod meeting;
 mod rows;
 mod serving;
+mod stopping;
 
 use crate::program::run;
-use dk_disk::MemoryHome;
+use dk_disk::{MemoryHome, Torn};
 use dk_edge::{
     Clock, FixedClock, Link, Listener, MemoryListener, MemorySink, MemorySource, Sink, Source,
     ThreadSpawner,
@@ -54,27 +56,79 @@ impl Files {
         })
     }
 
-    // A home with these files.
-    fn home(&self, alloc: Global) -> Result<MemoryHome, AllocError>
+    // A home with these files and this plan.
+    fn home(&self, alloc: Global, plan: DiskPlan) -> Result<MemoryHome, AllocError>
         ensures { IfOk result (λ home. home.opening ≡ NotCalled) }
     {
         let zero = self.zero.to_vec(alloc)?;
         let one = self.one.to_vec(alloc)?;
-        Ok(MemoryHome::new(alloc, zero, one, Vec::new(alloc), false))
+        let failing = [plan.failing].to_vec(alloc)?;
+        let mut home = MemoryHome::new(alloc, zero, one, failing, false);
+        if plan.is_watched {
+            home.reserve(CALLS_COUNT, CALLS_BYTES)
+                .map_err(|_| AllocError)?;
+        }
+        Ok(home)
     }
 }
 
-/// How a command ended, how many sessions it served, what it wrote, and what it left in the files.
+/// What a disk does: which of its calls fails, 0 for none, since calls have numbers from 1 on; and whether it is asked
+/// afterwards what stops may have left.
+#[derive(Clone, Copy)]
+struct DiskPlan {
+    failing: u64,
+    is_watched: bool,
+}
+
+/// A disk on which nothing fails.
+const SOUND: DiskPlan = DiskPlan {
+    failing: 0,
+    is_watched: false,
+};
+
+/// How many calls, and of how many bytes, a watched disk takes down.
+const CALLS_COUNT: u64 = 256;
+
+const CALLS_BYTES: u64 = 65_536;
+
+/// What a stop may leave of writes that no sync has reached.
+const TORN: [Torn; 4] = [Torn::Old, Torn::New, Torn::Zeros, Torn::Ones];
+
+/// The files that a stop may leave right after a call. 0 is the moment before the first.
+#[derive(Drop)]
+struct Image {
+    calls: u64,
+    torn: Torn,
+    files: Files,
+}
+
+// What stops may leave from the moment before the call of this number on, by kinds.
+fn images_from(alloc: Global, home: &MemoryHome, call: u64) -> Result<Vec<Image>, AllocError> {
+    let mut images = Vec::new(alloc);
+    for torn in TORN {
+        for calls in call.saturating_sub(1)..=home.calls() {
+            let (zero, one) = home.crash_at(calls, torn).map_err(|_| AllocError)?;
+            let files = Files { zero, one };
+            images.push(Image { calls, torn, files })?;
+        }
+    }
+    Ok(images)
+}
+
+/// How a command ended, how many sessions it served, what it wrote, what it left in the files and by how many calls, and, of a
+/// watched disk, what stops may have left from the failing call on.
 #[derive(Drop)]
 struct Told {
     status: Status,
     served: u64,
     written: Vec<u8>,
     files: Files,
+    calls: u64,
+    images: Vec<Image>,
 }
 
-// The command of these words and this script, which comes in pieces of ten, on these files, over any listener, clock and gate. A
-// test sees what is told alone: it has no home and no contract of the program to carry along.
+// The command of these words and this script, which comes in pieces of ten, on these files and a disk of this plan, over any
+// listener, clock and gate. A test sees what is told alone: it has no home and no contract of the program to carry along.
 fn command<
     T: Threads + Wait + RandomSource + AllocGlobal + Sync,
     E: Link + Send + Drop,
@@ -88,6 +142,7 @@ fn command<
     words: &str,
     script: &[u8],
     files: &Files,
+    plan: DiskPlan,
     net: &mut L,
     clock: &C,
     gate: &G,
@@ -96,7 +151,7 @@ fn command<
 {
     let alloc = rt.alloc();
     let words = words_of(alloc, words).map_err(|_| AllocError)?;
-    let home = files.home(alloc)?;
+    let home = files.home(alloc, plan)?;
     let mut input = MemorySource::in_pieces(script.to_vec(alloc)?, Vec::new(alloc), 10);
     let mut out = MemorySink::new(alloc, Vec::new(alloc));
     let mut spawner = ThreadSpawner::new(rt);
@@ -112,11 +167,18 @@ fn command<
         &mut spawner,
         gate,
     );
+    let images = if plan.is_watched {
+        images_from(alloc, &ran.home, plan.failing)?
+    } else {
+        Vec::new(alloc)
+    };
     Ok(Told {
         status: ran.status,
         served: ran.served.number(),
         written: out.contents().to_vec(alloc)?,
         files: Files::of(alloc, &ran.home)?,
+        calls: ran.home.calls(),
+        images,
     })
 }
 
@@ -147,28 +209,31 @@ impl<'a> Row<'a> {
     }
 }
 
+// What a command comes to without a network, a clock that goes on, or a gate that holds.
+fn played<T: Threads + Wait + RandomSource + AllocGlobal + Sync>(
+    rt: &T,
+    words: &str,
+    script: &[u8],
+    files: &Files,
+    plan: DiskPlan,
+) -> Result<Told, AllocError> {
+    let alloc = rt.alloc();
+    let mut net = MemoryListener::new(alloc, Vec::new(alloc), Vec::new(alloc));
+    let clock = FixedClock::new(0);
+    command(rt, words, script, files, plan, &mut net, &clock, &OpenGate)
+}
+
 // What the command of a row comes to on these files.
 fn answered<T: Threads + Wait + RandomSource + AllocGlobal + Sync>(
     rt: &T,
     row: Row<'_>,
     files: &Files,
 ) -> Result<Told, AllocError> {
-    let alloc = rt.alloc();
-    let mut script = row.script.as_bytes().to_vec(alloc)?;
+    let mut script = row.script.as_bytes().to_vec(rt.alloc())?;
     if !script.is_empty() {
         script.push(b'\n')?;
     }
-    let mut net = MemoryListener::new(alloc, Vec::new(alloc), Vec::new(alloc));
-    let clock = FixedClock::new(0);
-    command(
-        rt,
-        row.words,
-        script.as_slice(),
-        files,
-        &mut net,
-        &clock,
-        &OpenGate,
-    )
+    played(rt, row.words, script.as_slice(), files, SOUND)
 }
 
 #[test]

@@ -1,6 +1,6 @@
 //! Two workers that meet: a play by the top call whose gate holds a run before its commit until another run is committed.
 
-use super::{Files, command};
+use super::{Files, SOUND, command};
 use dk_edge::{FixedClock, MemoryListener};
 use dk_status::Status;
 use dk_types::RunNo;
@@ -72,7 +72,7 @@ fn workers_meet(rt: HostRuntime) -> Result<(), Fail> {
     let mut net = MemoryListener::new(alloc, Vec::new(alloc), Vec::new(alloc));
     let words = "play D --workers 2";
     let clock = FixedClock::new(0);
-    let done = command(&rt, words, SCRIPT, &none, &mut net, &clock, &gate)?;
+    let done = command(&rt, words, SCRIPT, &none, SOUND, &mut net, &clock, &gate)?;
     assert_eq!(rt; done.status, Status::Ok);
     assert_eq!(rt; done.written.as_slice(), MET.as_bytes());
     Ok(())

@@ -2,7 +2,7 @@
 ghost use Rattle.std.specs.Prelude.{◌≡◌, false};
 ghost use Rattle.dk_edge.specs.Listening.{listening_at};
 
-use super::{Files, command};
+use super::{Files, SOUND, command};
 use dk_edge::{
     Bells, Binding, Clock, FixedClock, Listener, MemoryLink, MemorySink, MemorySource, TcpListen,
 };
@@ -55,7 +55,7 @@ fn a_client_is_served_over_the_loopback(rt: HostRuntime) -> Result<(), Fail> {
     let client = thread::spawn(&rt, move || answer(&rt))?;
     let words = "serve D --port 47813 --sessions 1";
     let clock = FixedClock::new(0);
-    let done = command(&rt, words, b"", &none, &mut net, &clock, &OpenGate)?;
+    let done = command(&rt, words, b"", &none, SOUND, &mut net, &clock, &OpenGate)?;
     assert_eq!(rt; client.join(&rt)?.as_slice(), ANSWERED);
     assert_eq!(rt; done.status, Status::Ok);
     assert_eq!(rt; done.served, 1);
@@ -158,12 +158,21 @@ fn tasks_come_due_while_nobody_plays(rt: HostRuntime) -> Result<(), Fail> {
     };
     let mut net = LateListener::new(&gate);
     let words = "serve D --port 1 --game timer";
-    let served = command(&rt, words, b"", &none, &mut net, &clock, &gate)?;
+    let served = command(&rt, words, b"", &none, SOUND, &mut net, &clock, &gate)?;
     assert_eq!(rt; served.status, Status::Ok);
     assert_eq!(rt; served.served, 0);
     let mut net = LateListener::new(&gate);
     let words = "check D --game timer";
-    let told = command(&rt, words, b"", &served.files, &mut net, &clock, &gate)?;
+    let told = command(
+        &rt,
+        words,
+        b"",
+        &served.files,
+        SOUND,
+        &mut net,
+        &clock,
+        &gate,
+    )?;
     assert_eq!(rt; told.status, Status::Ok);
     assert!(rt; told.written.starts_with(b"ok "));
     assert!(rt; !told.written.starts_with(b"ok 1 "));
