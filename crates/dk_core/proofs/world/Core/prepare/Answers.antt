@@ -12,8 +12,7 @@ overflow_add-seq c =
 pub returns-clause-prepares : goal.returns-clause-prepares
 returns-clause-prepares c =
     let seq = ap (λ n. n + 1) c.commits-seq.ensures in
-    let ready = c.in_ok-deliveries.ensures.ready.0 in
-    (
+    let ready = c.in_ok-deliveries.ensures.ready.0 in (
       record {
         ready = record { stand = ready.stand; messages = ap (λ (p : Preparation). p.deliveries) c.new.ensures ∙ ready.messages };
         entry = ap (λ (p : Preparation). p.entry) c.new.ensures ∙ (λ i. record { seq = seq i; run = c.args.claimed.now.run; effects = c.effects-effects.ensures i });
