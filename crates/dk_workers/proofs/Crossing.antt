@@ -41,7 +41,8 @@ use Rattle.dk_host.proofs.history.History.TheSendSync as history
 use Rattle.dk_turn.specs.contracts.turn.Turn as turns
 use Rattle.dk_disk.specs.declared.home.Home as home
 use Rattle.dk_journal.proofs.journal.Journal.TheSendSync as journal
-use Rattle.dk_core.proofs.prepared.Prepared.TheSendSync as prepared
+use Rattle.dk_connections.proofs.deliveries.Deliveries.TheSendSync as deliveries
+use Rattle.dk_core.specs.contracts.prepared.Prepared as prepared
 use Rattle.dk_host.proofs.right.CommitRight.TheSendSync as right
 use Rattle.dk_host.specs.contracts.store.CommitStore as store
 use Rattle.dk_host.specs.contracts.store.CommitStore.TheInside as store_inside
@@ -71,6 +72,10 @@ stamped_send = search (sendable, crosses, runs.the_send, objects_send, names_sen
 pub core_send : IsSend core.the_row
 core_send = search (sendable, crosses, stamped_send, connections_send, claims_send) depth 20
 
+-- the effects in it are for contracts alone
+pub prepared_send : IsSend prepared.the_row
+prepared_send = search (sendable, crosses, deliveries.the_send) depth 20
+
 pub inside_send : (W : RattleType) (h : hosting.Ghosts W.Denot) → IsSend W → IsSend (inside.the_row W h)
 inside_send W h s = declared_send (inside.the_type W h) (search (sendable, core_send), (search (sendable, history.the_send), (search (sendable, crosses, ledger.the_send) depth 20, (search (sendable, crosses, ledger.the_send) depth 20, tt))))
 
@@ -94,7 +99,7 @@ module _ (W J : RattleType) (w : hosting.Ghosts W.Denot) (j : naming.Ghosts J.De
 module _ (W J M : RattleType) (w : hosting.Ghosts W.Denot) (j : naming.Ghosts J.Denot) (m : home.Ghosts M.Denot) (a : IsSend W) (b : IsSend J) (c : IsSend M) where
   pub store_send : IsSend (store.the_row W J M w j m)
   store_send = view_send (store_inside.the_row W J M w j m) _ _ _ _ (declared_send (store_inside.the_type W J M w j m)
-      (search (sendable, crosses, as_row_send, c, watcher_send W J w j a b, game_id.the_send, side.the_send, journal.the_send, right.the_send, prepared.the_send) depth 20))
+      (search (sendable, crosses, as_row_send, c, watcher_send W J w j a b, game_id.the_send, side.the_send, journal.the_send, right.the_send, prepared_send) depth 20))
 
   pub free_send : IsSend (free.the_row W J M j m w)
   free_send = declared_send (free.the_type W J M j m w) (search (sendable, store_send))
