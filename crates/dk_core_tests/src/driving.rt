@@ -8,7 +8,7 @@ use dk_core::{Claimed, Conflict, Core, Handed, PostRefused, PrepareRefused};
 use dk_game::Game;
 use dk_txn::Finished;
 use dk_types::{Blob, ConnNo, Durable, Input, Listed, Name, RunNo};
-use dk_workers::{Ran, Step, work_once};
+use dk_workers::{Step, work_once};
 use std::alloc::Global;
 use std::process::Abort;
 use std::test::Fail;
@@ -45,23 +45,23 @@ pub(crate) fn opened<G: Game>(
 }
 
 /// The job that comes next, run and committed.
-pub(crate) fn serve<G: Game>(alloc: Global, game: &G, core: &mut Core) -> Result<Ran, Fail>
+pub(crate) fn serve<G: Game>(alloc: Global, game: &G, core: &mut Core) -> Result<(), Fail>
     requires { RepresentsSome (G.rules game.now) core.old }
     ensures { IfOk result (λ _. RepresentsSome (G.rules game.now) core.new) }
 {
-    let Ok(Step::Ran(ran)) = work_once(alloc, game, core, PASS) else {
+    let Ok(Step::Ran(_)) = work_once(alloc, game, core, PASS) else {
         return Err(Fail::from("a run"));
     };
-    Ok(ran)
+    Ok(())
 }
 
-/// The same beside a claim, which stays.
+/// The same beside a claim, which stays: as which run and which commit.
 pub(crate) fn serve_beside<G: Game>(
     alloc: Global,
     game: &G,
     core: &mut Core,
     held: &Claimed,
-) -> Result<Ran, Fail>
+) -> Result<(RunNo, u64), Fail>
     requires standing { RepresentsSome (G.rules game.now) core.old }
     requires granted { IsGranted core.old held.now }
     ensures standing { IfOk result (λ _. RepresentsSome (G.rules game.now) core.new) }
@@ -70,7 +70,7 @@ pub(crate) fn serve_beside<G: Game>(
     let Ok(Step::Ran(ran)) = work_once(alloc, game, core, PASS) else {
         return Err(Fail::from("a run"));
     };
-    Ok(ran)
+    Ok((ran.run, ran.seq))
 }
 
 /// A claim, which is granted.

@@ -89,6 +89,19 @@ fn run(alloc: Global, world: &StampedWorld, row: &Row, name: &Name) -> Result<Fi
     run_over(alloc, &mut look, row, name)
 }
 
+fn commit_run(
+    rt: &impl Abort,
+    world: &mut StampedWorld,
+    finished: Finished,
+    run: u64,
+) -> Result<u64, Fail> {
+    assert!(rt; world.commits() < 1000);
+    match world.reserve_for(&finished) {
+        Ok(()) => Ok(world.commit(finished, RunNo(run))),
+        Err(_) => Err(Fail::from("room")),
+    }
+}
+
 /// A run of the row, committed.
 fn commit(
     rt: &impl Abort,
@@ -98,11 +111,7 @@ fn commit(
     name: &Name,
 ) -> Result<u64, Fail> {
     let finished = run(alloc, world, row, name)?;
-    assert!(rt; world.commits() < 1000);
-    match world.reserve_for(&finished) {
-        Ok(()) => Ok(world.commit(finished, RunNo(row.run))),
-        Err(_) => Err(Fail::from("room")),
-    }
+    commit_run(rt, world, finished, row.run)
 }
 
 fn at(stamp: Option<u64>) -> Seen {
@@ -116,20 +125,29 @@ fn seen(world: &StampedWorld, item: &Item) -> Result<Seen, Fail> {
     Ok(world.read(item).ok().ok_or("a read")?.seen)
 }
 
+fn next_of(row: &Row, name: &Name) -> Result<Seen, Fail> {
+    match row.name {
+        None => Ok(Seen::Next(None)),
+        Some(_) => Ok(Seen::Next(Some(name.clone()?))),
+    }
+}
+
+/// The item in this place among the four, and what the row says of it.
+fn row_item(row: &Row, name: &Name, place: u32) -> Result<(Item, Seen), Fail> {
+    match place {
+        0 => Ok((Item::Object(BUILT), at(row.object))),
+        1 => Ok((Item::Bound(name.clone()?), at(row.name))),
+        2 => Ok((Item::NextAfter(None), next_of(row, name)?)),
+        _ => Ok((Item::Task(SCHEDULED), at(row.task))),
+    }
+}
+
 /// What is seen of the four items is what the row says.
 fn assert_seen(rt: &impl Abort, world: &StampedWorld, row: &Row, name: &Name) -> Result<(), Fail> {
-    let next = match row.name {
-        None => None,
-        Some(_) => Some(name.clone()?),
-    };
-    let rows = [
-        (Item::Object(BUILT), at(row.object)),
-        (Item::Bound(name.clone()?), at(row.name)),
-        (Item::NextAfter(None), Seen::Next(next)),
-        (Item::Task(SCHEDULED), at(row.task)),
-    ];
-    for (item, wanted) in rows.as_slice() {
-        assert!(rt; seen(world, item)? == *wanted, "{item:?}");
+    for place in 0..4 {
+        let (item, wanted) = row_item(row, name, place)?;
+        let holds = seen(world, &item)? == wanted;
+        assert!(rt; holds, "{item:?}");
     }
     Ok(())
 }
@@ -166,21 +184,50 @@ const ROWS: [Row; 4] = [
     },
 ];
 
-#[test]
-fn each_commit_stamps_what_it_wrote(rt: HostRuntime) -> Result<(), Fail> {
-    let alloc = rt.alloc();
+/// The row's run is committed as this commit, and what is seen then is what the row says.
+fn assert_committed(
+    rt: &impl Abort,
+    alloc: Global,
+    world: &mut StampedWorld,
+    row: &Row,
+    seq: u64,
+) -> Result<(), Fail> {
     let name = hall(alloc)?;
+    let told = commit(rt, alloc, world, row, &name)?;
+    assert_eq!(rt; told, seq);
+    assert_seen(rt, world, row, &name)
+}
+
+/// A world after all rows.
+fn committed(rt: &impl Abort, alloc: Global) -> Result<StampedWorld, Fail> {
     let mut world = StampedWorld::new(alloc);
     let mut seq = 0u64;
     for row in ROWS.as_slice() {
         seq = seq.saturating_add(1);
-        assert_eq!(rt; commit(&rt, alloc, &mut world, row, &name)?, seq);
-        assert_seen(&rt, &world, row, &name)?;
+        assert_committed(rt, alloc, &mut world, row, seq)?;
     }
-    assert_eq!(rt; world.last(), Some(RunNo(4)));
-    assert!(rt; world.least_due(19).is_none());
-    assert_eq!(rt; world.least_due(20), Some(SCHEDULED));
+    Ok(world)
+}
+
+/// Its greatest run, and which tasks are due at 19 and at 20 ms.
+fn last_and_due(world: &StampedWorld) -> (Option<RunNo>, [Option<TaskKey>; 2]) {
+    (world.last(), [world.least_due(19), world.least_due(20)])
+}
+
+#[test]
+fn each_commit_stamps_what_it_wrote(rt: HostRuntime) -> Result<(), Fail> {
+    let world = committed(&rt, rt.alloc())?;
+    let (last, [early, due]) = last_and_due(&world);
+    assert_eq!(rt; last, Some(RunNo(4)));
+    assert!(rt; early.is_none());
+    assert_eq!(rt; due, Some(SCHEDULED));
     Ok(())
+}
+
+/// An item, and what is read of it.
+fn read_pair(world: &StampedWorld, item: Item) -> Result<(Item, Read), Fail> {
+    let read = world.read(&item).ok().ok_or("a read")?;
+    Ok((item, read))
 }
 
 /// The reads of an object and of the name, as the empty world answers them.
@@ -190,11 +237,23 @@ fn first_reads(
     name: &Name,
 ) -> Result<Vec<(Item, Read)>, Fail> {
     let mut reads = Vec::new(alloc);
-    for item in [Item::Object(NEVER), Item::Bound(name.clone()?)] {
-        let read = world.read(&item).ok().ok_or("a read")?;
-        reads.push((item, read))?;
-    }
+    reads.push(read_pair(world, Item::Object(NEVER))?)?;
+    reads.push(read_pair(world, Item::Bound(name.clone()?))?)?;
     Ok(reads)
+}
+
+/// Whether the first of the reads that no longer stands is the one of the name, which is bound by the first commit.
+fn is_told_of_name(world: &StampedWorld, reads: &[(Item, Read)], name: Name) -> bool {
+    let changed = Conflict {
+        item: Item::Bound(name),
+        found: Seen::Absent,
+        now: Seen::At(1),
+    };
+    world.first_conflict(reads) == Ok(Some(changed))
+}
+
+fn is_of_now(world: &StampedWorld, reads: &[(Item, Read)]) -> bool {
+    world.first_conflict(reads) == Ok(None)
 }
 
 #[test]
@@ -203,27 +262,37 @@ fn a_stale_read_is_told(rt: HostRuntime) -> Result<(), Fail> {
     let name = hall(alloc)?;
     let mut world = StampedWorld::new(alloc);
     let reads = first_reads(alloc, &world, &name)?;
-    assert!(rt; world.first_conflict(&reads) == Ok(None));
+    assert!(rt; is_of_now(&world, &reads));
     commit(&rt, alloc, &mut world, &ROWS[0], &name)?;
-    let changed = Conflict {
-        item: Item::Bound(name),
-        found: Seen::Absent,
-        now: Seen::At(1),
-    };
-    assert!(rt; world.first_conflict(&reads) == Ok(Some(changed)));
+    assert!(rt; is_told_of_name(&world, &reads, name));
     Ok(())
+}
+
+/// A world that is opened with what another lists.
+fn opened_again(alloc: Global, world: &StampedWorld) -> Result<StampedWorld, Fail> {
+    let list = world.durable(alloc).ok().ok_or("a list")?;
+    Ok(StampedWorld::open(alloc, list).ok().ok_or("a world")?)
+}
+
+fn is_same(alloc: Global, one: &StampedWorld, other: &StampedWorld) -> bool {
+    one.durable(alloc) == other.durable(alloc)
+}
+
+/// A world after the first two rows.
+fn built(rt: &impl Abort, alloc: Global, name: &Name) -> Result<StampedWorld, Fail> {
+    let mut world = StampedWorld::new(alloc);
+    commit(rt, alloc, &mut world, &ROWS[0], name)?;
+    commit(rt, alloc, &mut world, &ROWS[1], name)?;
+    Ok(world)
 }
 
 #[test]
 fn a_list_is_opened_and_copied(rt: HostRuntime) -> Result<(), Fail> {
     let alloc = rt.alloc();
     let name = hall(alloc)?;
-    let mut world = StampedWorld::new(alloc);
-    commit(&rt, alloc, &mut world, &ROWS[0], &name)?;
-    commit(&rt, alloc, &mut world, &ROWS[1], &name)?;
-    let list = world.durable(alloc).ok().ok_or("a list")?;
-    let again = StampedWorld::open(alloc, list).ok().ok_or("a world")?;
-    assert!(rt; again.durable(alloc) == world.durable(alloc));
+    let world = built(&rt, alloc, &name)?;
+    let again = opened_again(alloc, &world)?;
+    assert!(rt; is_same(alloc, &again, &world));
     assert!(rt; seen(&again, &Item::Bound(name))? == Seen::At(2));
     Ok(())
 }

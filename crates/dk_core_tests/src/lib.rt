@@ -8,6 +8,8 @@
 #[cfg(test)]
 mod between;
 #[cfg(test)]
+mod by_hand;
+#[cfg(test)]
 mod claim_tests;
 #[cfg(test)]
 mod driving;

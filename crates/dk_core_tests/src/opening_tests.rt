@@ -24,13 +24,34 @@ fn record(alloc: Global, k: u32, conn: u8) -> Result<(ObjectId, Object), Fail> {
     Ok((record_id(k), object))
 }
 
+/// Two records, on these connections.
+fn records(alloc: Global, connections: [u8; 2]) -> Result<Vec<(ObjectId, Object)>, Fail> {
+    let mut records = Vec::new(alloc);
+    let mut k = 0u32;
+    for conn in connections {
+        records.push(record(alloc, k, conn)?)?;
+        k = k.saturating_add(1);
+    }
+    Ok(records)
+}
+
+/// The names of the two records.
+fn record_names(alloc: Global) -> Result<Vec<(Name, ObjectId)>, Fail> {
+    let mut names = Vec::new(alloc);
+    for (name, k) in [("$s.alice", 0), ("$s.bob", 1)] {
+        names.push((text(alloc, name)?, record_id(k)))?;
+    }
+    Ok(names)
+}
+
+fn opened(alloc: Global, durable: Durable) -> Result<StampedWorld, Fail> {
+    Ok(StampedWorld::open(alloc, durable).ok().ok_or("a world")?)
+}
+
 /// A world whose largest committed run is 5, in which alice and bob are recorded on these connections.
 fn alice_and_bob(alloc: Global, alice: u8, bob: u8) -> Result<StampedWorld, Fail> {
-    let objects = vec![in alloc; record(alloc, 0, alice)?, record(alloc, 1, bob)?]?;
-    let names = vec![in alloc;
-        (text(alloc, "$s.alice")?, record_id(0)),
-        (text(alloc, "$s.bob")?, record_id(1)),
-    ]?;
+    let objects = records(alloc, [alice, bob])?;
+    let names = record_names(alloc)?;
     let durable = Durable {
         commits: 6,
         last: Some(RunNo(5)),
@@ -38,7 +59,14 @@ fn alice_and_bob(alloc: Global, alice: u8, bob: u8) -> Result<StampedWorld, Fail
         names: Listed::from_vec(names),
         tasks: Listed::from_vec(Vec::new(alloc)),
     };
-    Ok(StampedWorld::open(alloc, durable).ok().ok_or("a world")?)
+    opened(alloc, durable)
+}
+
+/// How many connections an empty world opens with.
+fn opened_of_nothing(alloc: Global) -> Result<u64, Fail> {
+    let world = StampedWorld::new(alloc);
+    let connections = open_connections(alloc, &world)?;
+    Ok(connections.len())
 }
 
 /// The job that waits where one connection is opened.
@@ -53,24 +81,24 @@ fn only_job(alloc: Global, world: &StampedWorld) -> Result<Job, Fail> {
     Ok(connections.job(ready)?)
 }
 
+/// Whether of alice's connection and bob's this one is ended, of this name.
+fn is_ended(alloc: Global, alice: u8, bob: u8, conn: u64, name: &str) -> Result<bool, Fail> {
+    let end = Job::Disconnect {
+        conn: ConnNo(conn),
+        name: text(alloc, name)?,
+        graceful: false,
+    };
+    let world = alice_and_bob(alloc, alice, bob)?;
+    Ok(only_job(alloc, &world)? == end)
+}
+
 #[test]
 fn recorded_sessions_are_ended(rt: HostRuntime) -> Result<(), Fail> {
     let alloc = rt.alloc();
-    assert_eq!(rt;
-        open_connections(alloc, &StampedWorld::new(alloc))?.len(),
-        0
-    );
+    assert_eq!(rt; opened_of_nothing(alloc)?, 0);
     // Of two names with one number the lesser counts. A number beyond the largest run counts for none.
     for (alice, bob, conn, name) in [(3, 3, 3, "alice"), (6, 5, 5, "bob")] {
-        let end = Job::Disconnect {
-            conn: ConnNo(conn),
-            name: text(alloc, name)?,
-            graceful: false,
-        };
-        assert!(rt;
-            only_job(alloc, &alice_and_bob(alloc, alice, bob)?)? == end,
-            "{name}"
-        );
+        assert!(rt; is_ended(alloc, alice, bob, conn, name)?, "{name}");
     }
     Ok(())
 }

@@ -117,40 +117,37 @@ fn handed<G: Game>(
     Ok((outs.len(), kind_of(outs.last()), handed.end))
 }
 
-/// The call of a row answers what the row says.
-fn answer<G: Game>(
+/// A claim, which stays: its job.
+fn claimed<G: Game>(game: &G, core: &mut Core) -> Result<Claimable, Fail>
+    requires { RepresentsSome (G.rules game.now) core.old }
+    ensures { IfOk result (λ _. RepresentsSome (G.rules game.now) core.new) }
+{
+    let claimed = claim(game, core)?;
+    Ok(job_of(claimed.job()))
+}
+
+/// Whether the call of a row answers what the row says.
+fn is_answered<G: Game>(
     rt: &impl Abort,
     alloc: Global,
     game: &G,
     core: &mut Core,
     row: &Row,
-) -> Result<(), Fail>
+) -> Result<bool, Fail>
     requires { RepresentsSome (G.rules game.now) core.old }
     ensures { IfOk result (λ _. RepresentsSome (G.rules game.now) core.new) }
 {
     match *row {
-        Row::Connect(name, number) => {
-            let conn = connect(alloc, game, core, name)?;
-            assert!(rt; conn.0 == number, "{row:?}");
-        }
+        Row::Connect(name, number) => Ok(connect(alloc, game, core, name)?.0 == number),
         Row::Post(conn, len, reply) => {
-            let told = post_bytes(rt, alloc, game, core, ConnNo(conn), len)?;
-            assert!(rt; told == reply, "{row:?}");
+            Ok(post_bytes(rt, alloc, game, core, ConnNo(conn), len)? == reply)
         }
-        Row::Works(wanted) => {
-            let worked = take_step(alloc, game, core)?;
-            assert!(rt; worked == wanted, "{row:?}");
-        }
-        Row::Claims(wanted) => {
-            let claimed = claim(game, core)?;
-            assert!(rt; job_of(claimed.job()) == wanted, "{row:?}");
-        }
+        Row::Works(wanted) => Ok(take_step(alloc, game, core)? == wanted),
+        Row::Claims(wanted) => Ok(claimed(game, core)? == wanted),
         Row::Hands(conn, most, count, last, end) => {
-            let told = handed(game, core, ConnNo(conn), most)?;
-            assert!(rt; told == (count, last, end), "{row:?}");
+            Ok(handed(game, core, ConnNo(conn), most)? == (count, last, end))
         }
     }
-    Ok(())
 }
 
 /// Each row's call, one after another.
@@ -165,7 +162,8 @@ pub(crate) fn play<G: Game>(
     ensures { IfOk result (λ _. RepresentsSome (G.rules game.now) core.new) }
 {
     for row in rows {
-        answer(rt, alloc, game, core, row)?;
+        let holds = is_answered(rt, alloc, game, core, row)?;
+        assert!(rt; holds, "{row:?}");
     }
     Ok(())
 }

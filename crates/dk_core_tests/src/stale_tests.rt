@@ -5,14 +5,13 @@ ghost use Rattle.dk_workers.specs.Working.{RepresentsSome};
 ghost use Rattle.dk_core_tests.specs.Twins.{twins_rules};
 
 use crate::between::commit_after_others;
+use crate::by_hand::Deed::{Compares, ReadsNames};
+use crate::by_hand::{Deed, own_task, run_now, run_over, twin};
 use crate::driving::{PASS, claim, commit, commit_stale, opened, serve, serve_beside, text};
 use crate::twins::Twins;
 use dk_core::{Claimed, Conflict, Core};
-use dk_txn::{Finished, ListView, Txn, View};
-use dk_types::limits::MOMENT_MOST_MS;
-use dk_types::{
-    AppFault, Input, Item, Job, Name, Object, ObjectId, Outcome, Read, RunNo, Seen, TaskKey,
-};
+use dk_txn::{Finished, ListView};
+use dk_types::{AppFault, Input, Item, Outcome, Read, Seen};
 use std::alloc::Global;
 use std::process::Abort;
 use std::test::Fail;
@@ -26,119 +25,46 @@ fn begun(alloc: Global) -> Result<Core, Fail>
     Ok(core)
 }
 
-/// An object that the first run made, which has number 0.
-fn twin(k: u32) -> ObjectId {
-    ObjectId { run: RunNo(0), k }
-}
-
-/// The key of a claimed task, and when it is due, in ms.
-fn own_task(claimed: &Claimed) -> Result<(TaskKey, u64), Fail> {
-    match claimed.job() {
-        Job::Task { key, due, .. } => Ok((*key, *due)),
-        _ => Err(Fail::from("a task")),
-    }
-}
-
-/// The once-task of a claim is taken away.
-fn take_own<V: View>(rt: &impl Abort, txn: &mut Txn<'_, V>, claimed: &Claimed) -> Result<(), Fail> {
-    let (key, due) = own_task(claimed)?;
-    assert!(rt; due <= MOMENT_MOST_MS);
-    let pending = txn.own_task(key, due, 0).ok().ok_or("a read")?;
-    assert!(rt; pending);
-    Ok(())
-}
-
-fn next_name<V: View>(txn: &mut Txn<'_, V>, after: Option<&Name>) -> Result<Name, Fail> {
-    let next = txn.next_bound(after).ok().ok_or("a read")?;
-    Ok(next.ok_or("a name")?)
-}
-
-fn reads_names_over<V: View>(
+/// The run of a claim on the world as it stands, committed: how it ended, and as which commit.
+fn commit_now(
     rt: &impl Abort,
     alloc: Global,
-    view: &mut V,
-    claimed: &Claimed,
-) -> Result<Finished, Fail> {
-    let at = claimed.at();
-    assert!(rt; at <= MOMENT_MOST_MS);
-    let mut txn = Txn::begin(alloc, view, claimed.run(), at);
-    take_own(rt, &mut txn, claimed)?;
-    let first = next_name(&mut txn, None)?;
-    next_name(&mut txn, Some(&first))?;
-    Ok(txn.end(claimed.job(), Ok(()))?)
-}
-
-/// A run that reads the first two names.
-fn reads_names(
-    rt: &impl Abort,
-    alloc: Global,
-    core: &Core,
-    claimed: &Claimed,
-) -> Result<Finished, Fail> {
-    let mut look = core.look();
-    reads_names_over(rt, alloc, &mut look, claimed)
-}
-
-fn get<V: View>(txn: &mut Txn<'_, V>, id: ObjectId) -> Result<Object, Fail> {
-    Ok(txn.get(id).ok().ok_or("an object")?)
-}
-
-fn end_of(first: &Object, second: &Object) -> Result<(), AppFault> {
-    if first == second {
-        Ok(())
-    } else {
-        Err(AppFault::Game(1))
-    }
-}
-
-/// A run that gives up where the two objects are unequal.
-fn compares<V: View>(
-    rt: &impl Abort,
-    alloc: Global,
-    view: &mut V,
-    claimed: &Claimed,
-) -> Result<Finished, Fail> {
-    let at = claimed.at();
-    assert!(rt; at <= MOMENT_MOST_MS);
-    let mut txn = Txn::begin(alloc, view, claimed.run(), at);
-    take_own(rt, &mut txn, claimed)?;
-    let first = get(&mut txn, twin(0))?;
-    let second = get(&mut txn, twin(1))?;
-    Ok(txn.end(claimed.job(), end_of(&first, &second))?)
-}
-
-/// The run of a reader that is given what it read before and after another's commit.
-fn compares_torn(
-    rt: &impl Abort,
-    alloc: Global,
-    reads: Vec<(Item, Read)>,
-    claimed: &Claimed,
-) -> Result<Finished, Fail> {
-    let mut view = ListView::new(reads);
-    compares(rt, alloc, &mut view, claimed)
-}
-
-fn compares_now(
-    rt: &impl Abort,
-    alloc: Global,
-    core: &Core,
-    claimed: &Claimed,
-) -> Result<Finished, Fail> {
-    let mut look = core.look();
-    compares(rt, alloc, &mut look, claimed)
-}
-
-/// A core on which a run that read the names a and c was refused, since another has bound b.
-fn stale_names(rt: &impl Abort, alloc: Global) -> Result<(Core, Claimed, Conflict), Fail>
-    ensures standing { IfOk result (λ made. RepresentsSome twins_rules made.0) }
-    ensures granted { IfOk result (λ made. IsGranted made.0 made.1) }
+    core: &mut Core,
+    claimed: Claimed,
+    deed: Deed,
+) -> Result<(Outcome, u64), Fail>
+    requires { IsGranted core.old claimed }
 {
+    let finished = run_now(rt, alloc, core, &claimed, deed)?;
+    let outcome = *finished.outcome();
+    Ok((outcome, commit(&Twins, core, claimed, finished)?))
+}
+
+/// A run that read the names a and c is refused, since another has bound b.
+fn stale_names(
+    rt: &impl Abort,
+    alloc: Global,
+    core: &mut Core,
+    reader: Claimed,
+) -> Result<(Claimed, Conflict), Fail>
+    requires standing { RepresentsSome twins_rules core.old }
+    requires granted { IsGranted core.old reader }
+    ensures { IfOk result (λ back. IsGranted core.new back.0) }
+{
+    let finished = run_now(rt, alloc, core, &reader, ReadsNames)?;
+    serve_beside(alloc, &Twins, core, &reader)?;
+    commit_stale(&Twins, core, reader, finished)
+}
+
+/// What refuses it, and how it ends and as which commit, run again.
+fn names_again(rt: &impl Abort, alloc: Global) -> Result<(Conflict, (Outcome, u64)), Fail> {
     let mut core = begun(alloc)?;
     let reader = claim(&Twins, &mut core)?;
-    let finished = reads_names(rt, alloc, &core, &reader)?;
-    serve_beside(alloc, &Twins, &mut core, &reader)?;
-    let (back, changed) = commit_stale(&Twins, &mut core, reader, finished)?;
-    Ok((core, back, changed))
+    let (reader, changed) = stale_names(rt, alloc, &mut core, reader)?;
+    Ok((
+        changed,
+        commit_now(rt, alloc, &mut core, reader, ReadsNames)?,
+    ))
 }
 
 fn name_between(alloc: Global) -> Result<Conflict, Fail> {
@@ -151,82 +77,106 @@ fn name_between(alloc: Global) -> Result<Conflict, Fail> {
 
 #[test]
 fn a_name_bound_between_is_told(rt: HostRuntime) -> Result<(), Fail> {
-    let alloc = rt.alloc();
-    let (mut core, reader, changed) = stale_names(&rt, alloc)?;
-    let told = name_between(alloc)?;
+    let (changed, (_, seq)) = names_again(&rt, rt.alloc())?;
+    let told = name_between(rt.alloc())?;
     assert!(rt; changed == told);
-    let again = reads_names(&rt, alloc, &core, &reader)?;
-    let seq = commit(&Twins, &mut core, reader, again)?;
     assert_eq!(rt; seq, 3);
     Ok(())
 }
 
-/// An item, and what is read of it.
-fn read_pair(core: &Core, item: Item) -> Result<(Item, Read), Fail> {
+/// An item, and what is read of it, is put to the reads.
+fn add_read(core: &Core, reads: &mut Vec<(Item, Read)>, item: Item) -> Result<(), Fail> {
     let read = core.read(&item).ok().ok_or("a read")?;
-    Ok((item, read))
+    Ok(reads.push((item, read))?)
 }
 
-/// What a reader sees of its task and the first object, and of the second after another's commit.
+/// What a reader sees of its task and the first object.
+fn first_reads(alloc: Global, core: &Core, reader: &Claimed) -> Result<Vec<(Item, Read)>, Fail> {
+    let (key, _) = own_task(reader)?;
+    let mut reads = Vec::new(alloc);
+    add_read(core, &mut reads, Item::Task(key))?;
+    add_read(core, &mut reads, Item::Object(twin(0)))?;
+    Ok(reads)
+}
+
+/// The same, and of the second object after another's commit.
 fn torn_reads(alloc: Global, core: &mut Core, reader: &Claimed) -> Result<Vec<(Item, Read)>, Fail>
     requires standing { RepresentsSome twins_rules core.old }
     requires granted { IsGranted core.old reader.now }
     ensures standing { IfOk result (λ _. RepresentsSome twins_rules core.new) }
     ensures granted { IfOk result (λ _. IsGranted core.new reader.now) }
 {
-    let (key, _) = own_task(reader)?;
-    let own = read_pair(core, Item::Task(key))?;
-    let first = read_pair(core, Item::Object(twin(0)))?;
+    let mut reads = first_reads(alloc, core, reader)?;
     serve_beside(alloc, &Twins, core, reader)?;
-    let second = read_pair(core, Item::Object(twin(1)))?;
-    let mut reads = Vec::new(alloc);
-    reads.push(own)?;
-    reads.push(first)?;
-    reads.push(second)?;
+    add_read(core, &mut reads, Item::Object(twin(1)))?;
     Ok(reads)
 }
 
-/// A core on which a run that found the two objects unequal was refused.
-fn stale_objects(rt: &impl Abort, alloc: Global) -> Result<(Core, Claimed, Conflict), Fail>
-    ensures standing { IfOk result (λ made. RepresentsSome twins_rules made.0) }
-    ensures granted { IfOk result (λ made. IsGranted made.0 made.1) }
+/// The run of a reader that is given what it read before and after another's commit. It finds the two objects unequal.
+fn compares_torn(
+    rt: &impl Abort,
+    alloc: Global,
+    reads: Vec<(Item, Read)>,
+    claimed: &Claimed,
+) -> Result<Finished, Fail> {
+    let mut view = ListView::new(reads);
+    let finished = run_over(rt, alloc, &mut view, claimed, Compares)?;
+    assert!(rt; *finished.outcome() == Outcome::Fail(AppFault::Game(1)));
+    Ok(finished)
+}
+
+/// Such a run is refused.
+fn stale_objects(
+    rt: &impl Abort,
+    alloc: Global,
+    core: &mut Core,
+    reader: Claimed,
+) -> Result<(Claimed, Conflict), Fail>
+    requires standing { RepresentsSome twins_rules core.old }
+    requires granted { IsGranted core.old reader }
+    ensures { IfOk result (λ back. IsGranted core.new back.0) }
 {
+    let reads = torn_reads(alloc, core, &reader)?;
+    let torn = compares_torn(rt, alloc, reads, &reader)?;
+    commit_stale(&Twins, core, reader, torn)
+}
+
+/// What refuses it, and how it ends and as which commit, run again.
+fn objects_again(rt: &impl Abort, alloc: Global) -> Result<(Conflict, (Outcome, u64)), Fail> {
     let mut core = begun(alloc)?;
     let reader = claim(&Twins, &mut core)?;
-    let reads = torn_reads(alloc, &mut core, &reader)?;
-    let torn = compares_torn(rt, alloc, reads, &reader)?;
-    assert!(rt; *torn.outcome() == Outcome::Fail(AppFault::Game(1)));
-    let (back, changed) = commit_stale(&Twins, &mut core, reader, torn)?;
-    Ok((core, back, changed))
+    let (reader, changed) = stale_objects(rt, alloc, &mut core, reader)?;
+    Ok((changed, commit_now(rt, alloc, &mut core, reader, Compares)?))
 }
 
 #[test]
 fn a_run_that_saw_two_worlds_is_refused(rt: HostRuntime) -> Result<(), Fail> {
-    let alloc = rt.alloc();
-    let (mut core, reader, changed) = stale_objects(&rt, alloc)?;
+    let (changed, (outcome, seq)) = objects_again(&rt, rt.alloc())?;
     let told = Conflict {
         item: Item::Object(twin(0)),
         found: Seen::At(1),
         now: Seen::At(2),
     };
     assert!(rt; changed == told);
-    let again = compares_now(&rt, alloc, &core, &reader)?;
-    assert!(rt; *again.outcome() == Outcome::Ok);
-    let seq = commit(&Twins, &mut core, reader, again)?;
+    assert!(rt; outcome == Outcome::Ok);
     assert_eq!(rt; seq, 3);
     Ok(())
 }
 
-#[test]
-fn a_prepared_run_is_published_after_other_events(rt: HostRuntime) -> Result<(), Fail> {
-    let alloc = rt.alloc();
+/// A run is prepared, a connection is made and cut off meanwhile, and the run is published. The number of its commit.
+fn published(rt: &impl Abort, alloc: Global) -> Result<u64, Fail> {
     let mut core = begun(alloc)?;
     let reader = claim(&Twins, &mut core)?;
-    let finished = compares_now(&rt, alloc, &core, &reader)?;
+    let finished = run_now(rt, alloc, &core, &reader, Compares)?;
     assert!(rt; reader.pass() == PASS);
     let dan = text(alloc, "dan")?;
     let end = Input::Disconnect { graceful: true };
-    let seq = commit_after_others(&mut core, reader, finished, &dan, end)?;
+    commit_after_others(&mut core, reader, finished, &dan, end)
+}
+
+#[test]
+fn a_prepared_run_is_published_after_other_events(rt: HostRuntime) -> Result<(), Fail> {
+    let seq = published(&rt, rt.alloc())?;
     assert_eq!(rt; seq, 2);
     Ok(())
 }
