@@ -1,8 +1,8 @@
 -- A task changed in its place: what is kept, and what callers see.
-use Rattle.std.proofs.Common.{◌≡◌, refl, sym, ap, subst, ◌∙◌, Bool, true, false, not, List, Option, None, Some, is_some}
+use Rattle.std.proofs.Common.{◌≡◌, refl, sym, ap, subst, ◌∙◌, Bool, true, false, not, List, Option, None, Some}
 use Rattle.std.proofs.Math.Bool.{beq}
 use Rattle.std.specs.Option.{option_map}
-use Rattle.std.specs.FinMap.{FinMap, contains_key, insert}
+use Rattle.std.specs.FinMap.{FinMap, insert}
 use Rattle.dk_types.specs.declared.number.TaskKey.{TaskKey}
 use Rattle.dk_map.specs.Entries.{find, put, IsChanged, IsOrdered}
 use Rattle.dk_map.proofs.Seen.{without_absent}
@@ -11,7 +11,7 @@ use Rattle.dk_model.specs.DurableWorlds.{with_value}
 use Rattle.dk_tasks.specs.Tasks.{Kept, changed_at}
 use Rattle.dk_tasks.specs.Places.{kept_of, kept_tasks}
 use Rattle.dk_tasks.specs.declared.stored.Stored.{Stored}
-use Rattle.dk_tasks.proofs.Kept.{kept_get, kept_some, kept_put, kept_without}
+use Rattle.dk_tasks.proofs.Kept.{kept_get, kept_put, kept_without}
 
 -- where a task is found, it is changed
 pub changed_there : {A : Type 0} (P : Stored → Stored → A → Type 0) (k : TaskKey) (es es' : List (TaskKey × Stored)) (s : Stored) → find key_cmp k es ≡ Some s → (r : Option A) → IsChanged key_cmp k P es es' r
@@ -38,10 +38,6 @@ module _ {m : FinMap key_cmp Kept} (es : List (TaskKey × Stored)) (v : kept_tas
   kept_absent change f es' e =
       kept_without es v h k es' (e ∙ sym (without_absent key_cmp k es f))
       ∙ ap (λ r. with_value m k (option_map change r)) (sym (ap (option_map kept_of) f) ∙ kept_get es v h k)
-
-  -- a task that is pending is found
-  pub pending_found : contains_key m k ≡ true → None ≡ find key_cmp k es → ⊥
-  pending_found there none = let both = ap is_some none ∙ kept_some es v h k ∙ there in cc
 
 -- the test of two answers
 pub alike : (a b : Bool) → beq a b ≡ true → a ≡ b

@@ -19,7 +19,7 @@ pub moved : (due : ℕ) (k : TaskKey) (P : Stored → Stored → ℕ × Bool →
 moved due k P es es' (Some a) h f =
     let is = f h.0 h.1 a h.3 in
     (h.0, h.2, is.1, h.4 ∙ ap (λ y. put key_cmp k y es) is.0)
-moved due k P es es' None h f = h.0
+moved due k P es es' None h f = h
 
 module _ (t : List (TaskKey × Stored)) (p : List (TaskRank × Unit {0})) (i : IsInStep t p) (k : TaskKey) (s : Stored) (f : find key_cmp k t ≡ Some s) (due : ℕ) (t' : List (TaskKey × Stored)) (e : t' ≡ put key_cmp k (due_at due s) t) (a b n : ℕ) (v : min a (b - held_count t) ≡ n) (fits : held_count t ≤ b) (a' : ℕ) (d : a' ≡ a) where
   key : s.task.key ≡ k

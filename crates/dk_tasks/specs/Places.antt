@@ -43,10 +43,10 @@ due_at due s = record s { task = record s.task { due = due } }
 abbrev pub claimed_at : Bool → Stored → Stored
 claimed_at claimed s = record s { claimed = claimed }
 
--- e is d with another due moment for the task at a key, of which the old moment is told and whether a run has it; none where no task is there
+-- e is d with another due moment for the task at a key, of which the old moment is told and whether a run has it; none, and e is d, where no task is there
 abbrev pub IsMoved : TaskKey → ℕ → List (TaskKey × Stored) → List (TaskKey × Stored) → Option (ℕ × Bool) → Type 0
 IsMoved key due d e (Some was) = (s : Stored) × (find key_cmp key d ≡ Some s) × (was ≡ (s.task.due, s.claimed)) × (e ≡ put key_cmp key (due_at due s) d)
-IsMoved key due d e None = find key_cmp key d ≡ None
+IsMoved key due d e None = (find key_cmp key d ≡ None) × (e ≡ d)
 
 -- e is d with another mark for the task at a key, of which the due moment is told and how it was marked; none, and e is d, where no task is there
 abbrev pub IsMarked : TaskKey → Bool → List (TaskKey × Stored) → List (TaskKey × Stored) → Option (ℕ × Bool) → Type 0

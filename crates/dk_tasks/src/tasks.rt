@@ -221,15 +221,14 @@ impl Tasks {
         self.take(key);
     }
 
-    /// Moves a task to another due moment, in ms. It takes no memory, and the stamp stays: a task that is due again
-    /// was not written.
+    /// Moves a task to another due moment, in ms, if it is pending. It takes no memory, and the stamp stays: a task
+    /// that is due again was not written.
     pub fn requeue(&mut self, key: TaskKey, due: u64)
-        requires pending { map.contains_key self.old.tasks key ≡ true }
         ensures tasks { self.new.tasks ≡ changed_at (with_due due) key self.old.tasks }
         ensures spare { self.new.spare ≡ self.old.spare }
     {
         let Some((was, held)) = set_due(&mut self.tasks, key, due) else {
-            unreachable!()
+            return;
         };
         if held {
             return;

@@ -1,14 +1,26 @@
-use Rattle.std.proofs.Common.{◌≡◌, ◌≤◌, ◌-◌, min, false, refl, sym, ap, ◌∙◌}
+use Rattle.std.proofs.Common.{◌≡◌, ◌≤◌, ◌-◌, min, false, refl, sym, ap, subst, ◌∙◌}
 use Rattle.dk_tasks.specs.Places.{place_of, due_at, held_count, IsInStep}
 use Rattle.dk_tasks.specs.Tasks.{with_due}
 use Rattle.dk_tasks.specs.declared.stored.TaskRank.{TaskRank}
-use Rattle.dk_tasks.proofs.Changes.{kept_changed, pending_found}
+use Rattle.dk_tasks.proofs.Changes.{kept_changed, kept_absent}
 use Rattle.dk_tasks.proofs.Moves.{moved_held, moved_room, moved_free}
+use Rattle.dk_tasks.proofs.Rooms.{as_before}
 use Rattle.dk_tasks.proofs.tasks.Tasks.requeue.Goals as goal
 use Rattle.dk_tasks.proofs.tasks.Tasks.requeue.Goals.{Then-held, After-insert}
 
-pub unreachable-requires : goal.unreachable-requires
-unreachable-requires c = absurd (pending_found _ (ap (λ s. s.tasks) c.self.view_is) c.self.invariant.0.ordered c.args.key c.requires.pending (sym c.in_default.ensures.moved))
+-- where no task is at the key
+pub invariant_of-self : goal.invariant_of-self
+invariant_of-self c =
+    let none = c.in_default.ensures.moved in
+    (subst (λ es. IsInStep es c.self.inside.places.entries) (sym none.1) c.self.invariant.0, rw none.1 c.self.invariant.1)
+
+pub returns-in_default : goal.returns-in_default
+returns-in_default c =
+    let none = c.in_default.ensures.moved in
+    record {
+      tasks = kept_absent _ (ap (λ s. s.tasks) c.self.view_is) c.self.invariant.0.ordered c.args.key (with_due c.args.due) none.0 _ none.1;
+      spare = (as_before _ _ _ _ (ap (λ s. s.spare) c.self.view_is) c.self.invariant.1 _ c.self.inside.places.spare _ c.in_default.ensures.spare refl (ap held_count none.1)).0;
+    }
 
 -- where a run has the task
 held : (c : Then-held) → IsInStep c.set_due.new.tasks.entries c.self.inside.places.entries
@@ -17,8 +29,8 @@ held c =
     let m = c.in-Some.ensures.moved in
     moved_held _ _ c.self.invariant.0 c.args.key m.0 m.1 c.args.due _ m.3 _ _ _ (ap (λ s. s.spare) c.self.view_is) c.self.invariant.1 _ c.in-Some.ensures.spare (sym (ap (λ w. w.1) m.2) ∙ c.if-held.true)
 
-pub invariant_of-self : goal.invariant_of-self
-invariant_of-self c = let h = held c in (h.0, h.2)
+pub invariant_of-self-then-held : goal.invariant_of-self-then-held
+invariant_of-self-then-held c = let h = held c in (h.0, h.2)
 
 pub returns-then-held : goal.returns-then-held
 returns-then-held c =
