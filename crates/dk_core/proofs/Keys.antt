@@ -12,7 +12,7 @@ use Rattle.dk_model.proofs.Maps.{ids_total, exact_ids, keys_total, exact_keys, n
 use Rattle.dk_laws.proofs.EffectsMade.{Tells, numbers_told, ids_told, names_told, and_left, and_right}
 use Rattle.dk_core.proofs.MapFacts.{tests_alike}
 
-keys_told : Tells same_key
+pub keys_told : Tells same_key
 keys_told = record {
   itself = λ x. rw (numbers_told.itself x.run.0, numbers_told.itself x.k) refl;
   equal = λ x y h.

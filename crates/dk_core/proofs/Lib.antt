@@ -5,6 +5,7 @@ pub mod Reading
 pub mod OpenedWorlds
 pub mod Stamped
 pub mod Forgotten
+pub mod Restamped
 pub mod SetClaimed
 pub mod ReadsStand
 pub mod LawfulSteps

@@ -1,11 +1,11 @@
 -- What maps have at a key once values are changed, entries are set and keys are taken away.
-use Rattle.std.proofs.Common.{◌≡◌, refl, sym, ap, ◌∙◌, Bool, true, false, cond, ◌||◌, List, [], ◌∷◌, map, Option, None, Some, is_some}
+use Rattle.std.proofs.Common.{◌≡◌, ℕ, zero, suc, refl, sym, ap, subst, ◌∙◌, Bool, true, false, cond, ◌||◌, List, [], ◌∷◌, map, length, ◌<◌, arith, Option, None, Some, is_some}
 use Rattle.std.specs.declared.cmp.Ordering.{Ordering}
 use Rattle.std.specs.declared.cmp.Ordering.TheVariants.{Less, Equal, Greater}
 use Rattle.std.specs.Ordering.{is_eq, eq_by_cmp}
 use Rattle.std.specs.Cmp.{IsTotalOrder, tied_itself}
 use Rattle.std.specs.Option.{option_map}
-use Rattle.std.specs.List.{list_any}
+use Rattle.std.specs.List.{list_any, slice_index_or}
 use Rattle.std.specs.FinMap.{FinMap, IsAntisymmetric, get, insert, remove, get-insert, get-remove, same_map}
 use Rattle.dk_map.specs.Values.{values_with}
 use Rattle.dk_map.proofs.Values.{get_values}
@@ -122,3 +122,84 @@ module _ {K X : Type 0} {R : K → K → Ordering} (o : IsTotalOrder R) (same : 
 
     pub part-without_keys : (ks : List K) (m : FinMap R X) (q : K) → option_map p (get (without_keys ks m) q) ≡ cond (list_any (eq_by_cmp R q) ks) None (option_map p (get m q))
     part-without_keys ks m q = ap (option_map p) (get-without_keys R o same ks m q) ∙ mapped-cond p (list_any (eq_by_cmp R q) ks) None (get m q)
+
+  -- ---- changes of values that make no difference to other changes, and to what they leave as it is
+
+  changed-set : (a b : Bool) (f : X → X) (v : X) → f v ≡ v → (r : Option X) → cond a (Some v) (cond b (option_map f r) r) ≡ cond b (option_map f (cond a (Some v) r)) (cond a (Some v) r)
+  changed-set true true f v h r = ap Some (sym h)
+  changed-set true false f v h r = refl
+  changed-set false true f v h r = refl
+  changed-set false false f v h r = refl
+
+  changed-gone : (a b : Bool) (f : X → X) (r : Option X) → cond a None (cond b (option_map f r) r) ≡ cond b (option_map f (cond a None r)) (cond a None r)
+  changed-gone true true f r = refl
+  changed-gone true false f r = refl
+  changed-gone false true f r = refl
+  changed-gone false false f r = refl
+
+  changed-both : (f g : X → X) → ((x : X) → g (f x) ≡ f (g x)) → (r : Option X) → option_map g (option_map f r) ≡ option_map f (option_map g r)
+  changed-both f g h None = refl
+  changed-both f g h (Some x) = ap Some (h x)
+
+  changed-changed : (a b : Bool) (f g : X → X) → ((x : X) → g (f x) ≡ f (g x)) → (r : Option X)
+      → cond a (option_map g (cond b (option_map f r) r)) (cond b (option_map f r) r) ≡ cond b (option_map f (cond a (option_map g r) r)) (cond a (option_map g r) r)
+  changed-changed true true f g h r = changed-both f g h r
+  changed-changed true false f g h r = refl
+  changed-changed false true f g h r = refl
+  changed-changed false false f g h r = refl
+
+  -- two changes, each of which leaves what the other does
+  pub Changed-Changed : (f g : X → X) → ((x : X) → g (f x) ≡ f (g x)) → (m : FinMap R X) (k q : K) → Changed g (Changed f m k) q ≡ Changed f (Changed g m q) k
+  Changed-Changed f g h m k q = same_map o same _ _ (λ p.
+      get-Changed g (Changed f m k) q p ∙ ap (λ r. cond (eq_by_cmp R p q) (option_map g r) r) (get-Changed f m k p)
+      ∙ changed-changed (eq_by_cmp R p q) (eq_by_cmp R p k) f g h (get m p)
+      ∙ sym (get-Changed f (Changed g m q) k p ∙ ap (λ r. cond (eq_by_cmp R p k) (option_map f r) r) (get-Changed g m q p)))
+
+  pub without-Changed : (f : X → X) (ks : List K) (m : FinMap R X) (k : K) → without_keys ks (Changed f m k) ≡ Changed f (without_keys ks m) k
+  without-Changed f [] m k = refl
+  without-Changed f (q ∷ ks) m k =
+      ap (without_keys ks) (same_map o same _ _ (λ p.
+      get-remove o (Changed f m k) q p ∙ ap (cond (eq_by_cmp R p q) None) (get-Changed f m k p)
+      ∙ changed-gone (eq_by_cmp R p q) (eq_by_cmp R p k) f (get m p)
+      ∙ sym (get-Changed f (remove m q) k p ∙ ap (λ r. cond (eq_by_cmp R p k) (option_map f r) r) (get-remove o m q p))))
+      ∙ without-Changed f ks (remove m q) k
+
+  -- a change leaves what stands at a key
+  abbrev Settled : (X → X) → FinMap R X → K → Type 0
+  Settled f m k = option_map f (get m k) ≡ get m k
+
+  Changed-settled : (f : X → X) (m : FinMap R X) (k : K) → Settled f m k → Changed f m k ≡ m
+  Changed-settled f m k s = same_map o same _ _ (λ q.
+      get-Changed f m k q ∙ by_key o same q k (λ b. cond b (option_map f (get m q)) (get m q) ≡ get m q) (λ t. ap (λ p. option_map f (get m p)) t ∙ s ∙ ap (get m) (sym t)) refl)
+
+  -- entries that a change leaves as they are
+  module _ {E : Type 0} (f : X → X) (entry : E → K × X) (h : (e : E) → f (entry e).1 ≡ (entry e).1) where
+    pub set-Changed : (es : List E) (m : FinMap R X) (k : K) → with_set (map entry es) (Changed f m k) ≡ Changed f (with_set (map entry es) m) k
+    set-Changed [] m k = refl
+    set-Changed (e ∷ es) m k =
+        ap (with_set (map entry es)) (same_map o same _ _ (λ p.
+        get-insert o (Changed f m k) (entry e).0 (entry e).1 p ∙ ap (cond (eq_by_cmp R p (entry e).0) (Some (entry e).1)) (get-Changed f m k p)
+        ∙ changed-set (eq_by_cmp R p (entry e).0) (eq_by_cmp R p k) f (entry e).1 (h e) (get m p)
+        ∙ sym (get-Changed f (insert m (entry e).0 (entry e).1) k p ∙ ap (λ r. cond (eq_by_cmp R p k) (option_map f r) r) (get-insert o m (entry e).0 (entry e).1 p))))
+        ∙ set-Changed es (insert m (entry e).0 (entry e).1) k
+
+    settled-set : (es : List E) (m : FinMap R X) (k : K) → Settled f m k → Settled f (with_set (map entry es) m) k
+    settled-set [] m k s = s
+    settled-set (e ∷ es) m k s =
+        let at = get-insert o m (entry e).0 (entry e).1 k in
+        settled-set es (insert m (entry e).0 (entry e).1) k (
+        ap (option_map f) at
+        ∙ elim (eq_by_cmp R k (entry e).0) as (λ b. option_map f (cond b (Some (entry e).1) (get m k)) ≡ cond b (Some (entry e).1) (get m k)) [ true ↦ ap Some (h e) | false ↦ s ]
+        ∙ sym at)
+
+    set_there : (es : List E) (i : ℕ) (e : E) → i < length es → e ≡ slice_index_or es i e → (m : FinMap R X) → Settled f (with_set (map entry es) m) (entry e).0
+    set_there [] i e less is m = absurd (omega (arith, less))
+    set_there (d ∷ es) zero e less is m =
+        let at = get-insert o m (entry d).0 (entry d).1 (entry d).0 ∙ ap (λ c. cond (is_eq c) (Some (entry d).1) (get m (entry d).0)) (tied_itself o (entry d).0) in
+        subst (λ x. Settled f (with_set (map entry (d ∷ es)) m) (entry x).0) (sym is)
+        (settled-set es (insert m (entry d).0 (entry d).1) (entry d).0 (ap (option_map f) at ∙ ap Some (h d) ∙ sym at))
+    set_there (d ∷ es) (suc i) e less is m = set_there es i e (omega (arith, less)) is (insert m (entry d).0 (entry d).1)
+
+    -- what is set is left as it is
+    pub set-settled : (es : List E) (i : ℕ) (e : E) → i < length es → e ≡ slice_index_or es i e → (k : K) → (entry e).0 ≡ k → (m : FinMap R X) → Changed f (with_set (map entry es) m) k ≡ with_set (map entry es) m
+    set-settled es i e less is k at m = Changed-settled f (with_set (map entry es) m) k (subst (Settled f (with_set (map entry es) m)) at (set_there es i e less is m))

@@ -1,5 +1,6 @@
 //! Commits of finished runs.
-ghost use Rattle.std.specs.Prelude.{◌≡◌, ◌+◌, ◌<◌, ◌^◌, OnOk};
+ghost use Rattle.std.specs.Prelude.{◌≡◌, ◌+◌, ◌<◌, ◌^◌, Some, OnOk};
+ghost use Rattle.dk_model.specs.DurableWorlds.{last_with};
 ghost use Rattle.dk_model.specs.Effects.{after};
 ghost use Rattle.dk_txn.specs.Finishes.{report};
 ghost use Rattle.dk_core.specs.StampedWorlds.{durable_of, with_room};
@@ -15,6 +16,16 @@ use crate::durable::world::StampedWorld;
 use crate::rooms::places_of;
 use dk_txn::{Finished, FinishedParts};
 use dk_types::{Effects, Item, NoMemory, RunNo};
+
+/// The largest committed run, once this one is committed.
+fn largest(last: Option<RunNo>, run: RunNo) -> RunNo
+    ensures { Some result ≡ last_with last run }
+{
+    match last {
+        None => run,
+        Some(last) => RunNo(last.0.max(run.0)),
+    }
+}
 
 impl StampedWorld {
     /// Makes the room that the commit of a finished run needs. Where memory is refused the room that was made so far stays,
@@ -57,19 +68,18 @@ impl StampedWorld {
         ensures world { self.new ≡ with_room self.new.room (committed run effects touched.now self.old) }
     {
         let seq = self.commits + 1;
-        self.make(effects, seq);
+        let last = largest(self.last, run);
         restamp(
             &mut self.objects,
             &mut self.names,
             &mut self.tasks,
             touched,
+            &effects,
             seq,
         );
+        self.make(effects, seq);
         self.commits = seq;
-        self.last = Some(match self.last {
-            None => run,
-            Some(last) => RunNo(last.0.max(run.0)),
-        });
+        self.last = Some(last);
         seq
     }
 

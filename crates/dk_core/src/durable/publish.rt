@@ -1,13 +1,14 @@
 // The effects of a finished run, made in the stores with no memory.
 ghost use Rattle.std.specs.Prelude.{◌≡◌, ◌≤◌, length, map as list_map};
 ghost use Rattle.dk_model.specs.Effects.{with_set, without_keys};
-ghost use Rattle.dk_tasks.specs.Tasks.{with_due, changed_at};
+ghost use Rattle.dk_objects.specs.StampedObjects.{restamped};
+ghost use Rattle.dk_tasks.specs.Tasks.{with_stamp, changed_at};
 ghost use Rattle.dk_core.specs.Publishing.{stamped_entry, unclaimed_entry, with_due_at, objects_restamped, names_restamped, tasks_restamped};
 
 use dk_names::Names;
 use dk_objects::Objects;
 use dk_tasks::Tasks;
-use dk_types::{Item, Listed, Name, Object, ObjectId, Pending, TaskKey};
+use dk_types::{Effects, Item, Listed, Name, Object, ObjectId, Pending, TaskKey};
 
 pub(crate) fn set_objects(objects: &mut Objects, written: Listed<(ObjectId, Object)>, stamp: u64)
     requires room { length written ≤ objects.old.spare }
@@ -60,43 +61,71 @@ pub(crate) fn drop_tasks(tasks: &mut Tasks, dropped: &[TaskKey])
     }
 }
 
-/// Gives a task another due moment, in ms, if it is pending. Its stamp stays.
-fn move_task(tasks: &mut Tasks, key: TaskKey, due: u64)
-    ensures { tasks.new.tasks ≡ changed_at (with_due due) key tasks.old.tasks }
-{
-    if !tasks.contains_key(key) {
-        return;
-    }
-    tasks.requeue(key, due);
-}
-
 /// Gives tasks their new due moments, in ms. Their stamps stay.
 pub(crate) fn move_tasks(tasks: &mut Tasks, requeued: &[(TaskKey, u64)])
     ensures { tasks.new.tasks ≡ with_due_at requeued.now tasks.old.tasks }
 {
     for (key, due) in requeued {
-        move_task(tasks, *key, *due);
+        tasks.requeue(*key, *due);
     }
 }
 
-/// Gives this stamp to what stands at each of the items.
+/// Gives an object this stamp, but for the next one that will be written: it gets the stamp then.
+fn restamp_object(
+    objects: &mut Objects,
+    id: ObjectId,
+    written: &[(ObjectId, Object)],
+    next: &mut usize,
+    stamp: u64,
+)
+    ensures stamped { with_set (list_map (stamped_entry stamp) written.now) objects.new.objects ≡ restamped stamp id (with_set (list_map (stamped_entry stamp) written.now) objects.old.objects) }
+    ensures spare { objects.new.spare ≡ objects.old.spare }
+{
+    match written.get(*next) {
+        Some((other, _)) if *other == id => *next += 1,
+        _ => objects.restamp(id, stamp),
+    }
+}
+
+/// Gives a task this stamp, but for the next one that will be added: it gets the stamp then.
+fn restamp_task(tasks: &mut Tasks, key: TaskKey, added: &[Pending], next: &mut usize, stamp: u64)
+    ensures stamped { with_set (list_map (unclaimed_entry stamp) added.now) tasks.new.tasks ≡ changed_at (with_stamp stamp) key (with_set (list_map (unclaimed_entry stamp) added.now) tasks.old.tasks) }
+    ensures spare { tasks.new.spare ≡ tasks.old.spare }
+{
+    match added.get(*next) {
+        Some(task) if task.key == key => *next += 1,
+        _ => tasks.restamp(key, stamp),
+    }
+}
+
+/// Gives this stamp to what stands at each of the items, before the effects are made. Objects that are written and tasks
+/// that are added get it as they are made, so that no tree is gone down for them twice, where items and effects have
+/// them in one order.
 pub(crate) fn restamp(
     objects: &mut Objects,
     names: &mut Names,
     tasks: &mut Tasks,
     items: &[Item],
+    effects: &Effects,
     stamp: u64,
 )
-    ensures objects { objects.new.objects ≡ objects_restamped stamp items.now objects.old.objects }
+    ensures objects { with_set (list_map (stamped_entry stamp) effects.now.written) objects.new.objects ≡ objects_restamped stamp items.now (with_set (list_map (stamped_entry stamp) effects.now.written) objects.old.objects) }
     ensures names { names.new.names ≡ names_restamped stamp items.now names.old.names }
-    ensures tasks { tasks.new.tasks ≡ tasks_restamped stamp items.now tasks.old.tasks }
+    ensures tasks { with_set (list_map (unclaimed_entry stamp) effects.now.added) tasks.new.tasks ≡ tasks_restamped stamp items.now (with_set (list_map (unclaimed_entry stamp) effects.now.added) tasks.old.tasks) }
+    ensures object_room { objects.new.spare ≡ objects.old.spare }
+    ensures name_room { names.new.spare ≡ names.old.spare }
+    ensures task_room { tasks.new.spare ≡ tasks.old.spare }
 {
+    let written = effects.written.as_slice();
+    let added = effects.added.as_slice();
+    let mut next_object = 0;
+    let mut next_task = 0;
     for item in items {
         match item {
-            Item::Object(id) => objects.restamp(*id, stamp),
+            Item::Object(id) => restamp_object(objects, *id, written, &mut next_object, stamp),
             Item::Bound(name) => names.restamp(name, stamp),
             Item::NextAfter(_) => {}
-            Item::Task(key) => tasks.restamp(*key, stamp),
+            Item::Task(key) => restamp_task(tasks, *key, added, &mut next_task, stamp),
         }
     }
 }
