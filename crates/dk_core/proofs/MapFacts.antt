@@ -18,10 +18,6 @@ false_unless : (b : Bool) → (b ≡ true → ⊥) → b ≡ false
 false_unless true h = absurd (h refl)
 false_unless false h = refl
 
-pub none_there : {A : Type 0} (r : Option A) → is_some r ≡ false → r ≡ None
-none_there None h = refl
-none_there (Some x) h = cc
-
 -- tests that agree on each element agree on the list
 pub any-same : {A : Type 0} (f g : A → Bool) → ((x : A) → f x ≡ g x) → (xs : List A) → list_any f xs ≡ list_any g xs
 any-same f g h [] = refl
@@ -77,10 +73,6 @@ module _ {K X : Type 0} {R : K → K → Ordering} (o : IsTotalOrder R) (same : 
   -- the map with what stands at a key changed
   abbrev pub Changed : (X → X) → FinMap R X → K → FinMap R X
   Changed f m k = with_value m k (option_map f (get m k))
-
-  -- a change of what is not there changes nothing
-  pub Changed-absent : (f : X → X) (m : FinMap R X) (k : K) → get m k ≡ None → Changed f m k ≡ m
-  Changed-absent f m k e = ap (λ r. with_value m k (option_map f r)) e ∙ remove-absent m k e
 
   pub get-Changed : (f : X → X) (m : FinMap R X) (k q : K) → get (Changed f m k) q ≡ cond (eq_by_cmp R q k) (option_map f (get m q)) (get m q)
   get-Changed f m k q = elim (get m k) as (λ r. get m k ≡ r → get (with_value m k (option_map f r)) q ≡ cond (eq_by_cmp R q k) (option_map f (get m q)) (get m q)) [
