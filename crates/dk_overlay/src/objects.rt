@@ -108,7 +108,7 @@ impl ObjectChanges {
         ensures ok { OnOk result (self.new ≡ map.insert self.old id change) }
         ensures err { OnErr result (self.new ≡ self.old) }
     {
-        self.changes.reserve(1)?;
+        self.changes.reserve_for(&id)?;
         self.changes.insert(id, change);
         Ok(())
     }
@@ -132,7 +132,7 @@ impl ObjectChanges {
         ensures ok { IfOk result (λ stood. (stood ≡ map.get self.old id) × (self.new ≡ map.insert self.old id change)) }
         ensures err { OnErr result (self.new ≡ self.old) }
     {
-        self.changes.reserve(1)?;
+        self.changes.reserve_for(&id)?;
         Ok(self.changes.insert(id, change))
     }
 

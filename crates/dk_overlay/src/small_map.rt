@@ -16,9 +16,9 @@ const FEW_ENTRIES: usize = 64;
 /// A map whose room is made in advance. Few entries share one block of memory, where an ordered map takes one for each.
 #[derive(Drop)]
 pub(crate) struct SmallMap<K: Ord, V> {
-    /// The entries in the order of their keys, while they are few.
+    /// The entries in the order of their keys, while they are few, or while each came behind all before it.
     few: Vec<(K, V)>,
-    /// All entries, once they are many.
+    /// All entries, where they do not stand in the list.
     many: Option<Box<OrderedMap<K, V>>>,
     alloc: Global,
 }
@@ -170,6 +170,19 @@ impl<K: Ord + Drop, V: Drop> SmallMap<K, V> {
         }
         self.many = Some(into_many(self.alloc, &mut self.few, more)?);
         Ok(())
+    }
+
+    /// Makes room for one entry, which is at this key. Entries that come in the order of their keys stay in a list, however many
+    /// there are. Refused, it changes nothing.
+    pub(crate) fn reserve_for(&mut self, key: &K) -> Result<(), AllocError>
+        ensures entries { self.new.entries ≡ self.old.entries }
+        ensures room { OnOk result (0 < self.new.spare) }
+        ensures refused { OnErr result (self.new ≡ self.old) }
+    {
+        match (&self.many, self.few.last()) {
+            (None, Some((last, _))) if last.cmp(key).is_lt() => self.few.reserve(1),
+            _ => self.reserve(1),
+        }
     }
 
     /// Puts a value at a key, and gives the old value, if there is one. At a new key it uses room, and no memory.

@@ -102,7 +102,7 @@ impl TaskChanges {
         ensures ok { OnOk result (self.new ≡ map.insert self.old key (Added task)) }
         ensures err { OnErr result (self.new ≡ self.old) }
     {
-        self.changes.reserve(1)?;
+        self.changes.reserve_for(&key)?;
         self.changes.insert(key, TaskChange::Added(task));
         Ok(())
     }
@@ -112,7 +112,7 @@ impl TaskChanges {
         ensures ok { OnOk result (self.new ≡ map.insert self.old key (removing (map.get self.old key))) }
         ensures err { OnErr result (self.new ≡ self.old) }
     {
-        self.changes.reserve(1)?;
+        self.changes.reserve_for(&key)?;
         let change = TaskChange::removed(self.changes.get(&key));
         self.changes.insert(key, change);
         Ok(())
@@ -123,7 +123,7 @@ impl TaskChanges {
         ensures ok { OnOk result (self.new ≡ map.insert self.old key (moving (map.get self.old key) from to)) }
         ensures err { OnErr result (self.new ≡ self.old) }
     {
-        self.changes.reserve(1)?;
+        self.changes.reserve_for(&key)?;
         let change = TaskChange::moved(self.changes.get(&key), from, to)?;
         self.changes.insert(key, change);
         Ok(())

@@ -7,6 +7,6 @@ use Rattle.dk_overlay.proofs.objects.ObjectChanges.replace.Goals as goal
 
 pub returns-clause-ok : goal.returns-clause-ok
 returns-clause-ok c = (
-  c.insert.ensures.old ∙ ap (find id_cmp c.args.id) c.reserve.ensures.entries ∙ get_seen _ c.self.view_is c.self.invariant c.args.id,
-  put_seen ids_total _ c.self.view_is c.self.invariant _ _ _ (c.insert.ensures.entries ∙ ap (put id_cmp c.args.id c.args.change) c.reserve.ensures.entries),
+  c.insert.ensures.old ∙ ap (find id_cmp c.args.id) c.reserve_for.ensures.entries ∙ get_seen _ c.self.view_is c.self.invariant c.args.id,
+  put_seen ids_total _ c.self.view_is c.self.invariant _ _ _ (c.insert.ensures.entries ∙ ap (put id_cmp c.args.id c.args.change) c.reserve_for.ensures.entries),
 )

@@ -7,4 +7,4 @@ use Rattle.dk_overlay.proofs.Keys.{keys_total}
 use Rattle.dk_overlay.proofs.tasks.TaskChanges.add.Goals as goal
 
 pub returns-clause-ok : goal.returns-clause-ok
-returns-clause-ok c = put_seen keys_total _ c.self.view_is c.self.invariant _ _ _ (c.insert.ensures.entries ∙ ap (put key_cmp c.args.key (Added c.args.task)) c.reserve.ensures.entries)
+returns-clause-ok c = put_seen keys_total _ c.self.view_is c.self.invariant _ _ _ (c.insert.ensures.entries ∙ ap (put key_cmp c.args.key (Added c.args.task)) c.reserve_for.ensures.entries)
