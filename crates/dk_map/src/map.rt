@@ -139,16 +139,15 @@ impl<K: Ord + Drop, V: Drop> OrderedMap<K, V> {
         ensures spare { self.new.spare + (if is_some result then 0 else 1) ≡ self.old.spare }
         ensures ordered { IsOrdered K.cmp self.new.entries }
     {
+        let mut value = value;
+        if self.tree.swap(&key, &mut value) {
+            return Some(value);
+        }
         prove!(self.tree.height() < 128);
         let mut entry = Some((key, value));
         self.tree.insert(&mut entry, &mut self.cells);
-        match entry {
-            None => {
-                self.len += 1;
-                None
-            }
-            Some((_key, old)) => Some(old),
-        }
+        self.len += 1;
+        None
     }
 
     /// Changes the value at a key where it stands, if there is one, and gives what the change answers. Nothing is moved.

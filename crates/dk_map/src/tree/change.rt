@@ -5,7 +5,7 @@ ghost use Rattle.std.specs.declared.cmp.Ordering.TheVariants.{Equal};
 ghost use Rattle.dk_map.specs.Balance.{DifferByAtMost, IsLowerAvl, IsApart};
 ghost use Rattle.std.specs.Fn.{FnOnceReturnsAtMut};
 ghost use Rattle.dk_map.specs.Entries.{find, without, IsOrdered, IsChanged};
-ghost use Rattle.dk_map.specs.Puts.{HasRoom, IsPut};
+ghost use Rattle.dk_map.specs.Puts.{IsNew, IsPut, IsSwapped};
 
 use super::balance::settle;
 use super::{Cell, Node, Tree};
@@ -13,14 +13,14 @@ use std::cmp::Ordering;
 use std::mem;
 
 impl<K: Ord + Drop, V: Drop> Tree<K, V> {
-    /// Puts an entry in, and tells whether the tree is higher. A new entry is taken. At a key that is there the key
-    /// stays, and its old value is left in `entry`.
+    /// Puts an entry in at a key that is not there, and tells whether the tree is higher.
     pub(crate) fn insert(&mut self, entry: &mut Option<(K, V)>, spare: &mut Vec<Cell<K, V>>) -> bool
         requires ordered { IsOrdered K.cmp self.old.0 }
-        requires room { HasRoom K.cmp entry.old self.old.0 (vec_len spare.old) }
+        requires absent { IsNew K.cmp entry.old self.old.0 }
+        requires room { 0 < vec_len spare.old }
         requires fits { self.old.1 < 2 ^ 8 - 2 }
-        ensures put { IsPut K.cmp entry.old entry.new self.old.0 self.new.0 }
-        ensures spare { vec_len spare.new + (if is_some entry.new then 0 else 1) ≡ vec_len spare.old }
+        ensures put { IsPut K.cmp entry.old self.old.0 self.new.0 }
+        ensures spare { vec_len spare.new + 1 ≡ vec_len spare.old }
         ensures capacity { vec_capacity spare.new ≡ vec_capacity spare.old }
         ensures grows { length self.old.0 ≤ length self.new.0 }
         ensures as_high { result ≡ false → self.new.1 ≡ self.old.1 }
@@ -35,15 +35,12 @@ impl<K: Ord + Drop, V: Drop> Tree<K, V> {
             Some(cell) => match &mut **cell {
                 None => unreachable!(),
                 Some(node) => {
-                    let Some((key, value)) = entry else {
+                    let Some((key, _)) = entry else {
                         unreachable!()
                     };
                     let higher = match (*key).cmp(&node.key) {
                         Ordering::Less => node.left.insert(entry, spare),
-                        Ordering::Equal => {
-                            mem::swap(&mut node.value, value);
-                            return false;
-                        }
+                        Ordering::Equal => unreachable!(),
                         Ordering::Greater => node.right.insert(entry, spare),
                     };
                     if !higher {
@@ -58,13 +55,12 @@ impl<K: Ord + Drop, V: Drop> Tree<K, V> {
     }
 
     /// Makes a tree of an entry where there is none.
-    #[inline(never)]
+    #[cold]
     fn plant(&mut self, entry: &mut Option<(K, V)>, spare: &mut Vec<Cell<K, V>>)
         requires nowhere { self.old.0 ≡ [] }
         requires room { 0 < vec_len spare.old }
         requires there { IsSome entry.old }
-        ensures put { IsPut K.cmp entry.old entry.new self.old.0 self.new.0 }
-        ensures taken { entry.new ≡ None }
+        ensures put { IsPut K.cmp entry.old self.old.0 self.new.0 }
         ensures spare { vec_len spare.new + 1 ≡ vec_len spare.old }
         ensures capacity { vec_capacity spare.new ≡ vec_capacity spare.old }
         ensures height { self.new.1 ≡ 1 }
@@ -115,6 +111,29 @@ impl<K: Ord + Drop, V: Drop> Tree<K, V> {
                         }
                     }
                     Ordering::Greater => node.right.change(key, change, answer),
+                },
+            },
+        }
+    }
+
+    /// Changes places with the value at a key, and tells whether there is one.
+    pub(crate) fn swap(&mut self, key: &K, value: &mut V) -> bool
+        requires { IsOrdered K.cmp self.old.0 }
+        ensures swapped { IsSwapped K.cmp key.now value.old value.new self.old.0 self.new.0 result }
+        ensures len { length self.new.0 ≡ length self.old.0 }
+        ensures height { self.new.1 ≡ self.old.1 }
+    {
+        match &mut self.root {
+            None => false,
+            Some(cell) => match &mut **cell {
+                None => unreachable!(),
+                Some(node) => match key.cmp(&node.key) {
+                    Ordering::Less => node.left.swap(key, value),
+                    Ordering::Equal => {
+                        mem::swap(&mut node.value, value);
+                        true
+                    }
+                    Ordering::Greater => node.right.swap(key, value),
                 },
             },
         }
@@ -214,9 +233,8 @@ impl<K: Drop, V: Drop> Tree<K, V> {
     }
 }
 
-/// The tree of the two sides of a full cell, whose entry goes into `found`. It is a call of its own so that a level of
-/// a removal needs no room for a node.
-#[inline(never)]
+/// The tree of the two sides of a full cell, whose entry goes into `found`.
+#[cold]
 fn take_top<K: Drop, V: Drop>(
     mut cell: Cell<K, V>,
     spare: &mut Vec<Cell<K, V>>,

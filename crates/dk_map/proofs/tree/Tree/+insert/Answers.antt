@@ -1,5 +1,5 @@
 use Rattle.std.proofs.Common.{refl, sym, ◌∙◌, arith}
-use Rattle.dk_map.proofs.Puts.{room_left, room_right, is_put_left, is_put_middle, is_put_right, grows_left, grows_right}
+use Rattle.dk_map.proofs.Puts.{new_left, new_right, not_new, is_put_left, is_put_right, grows_left, grows_right}
 use Rattle.dk_map.proofs.Top.{has_top, at_top, top_cell, settled, left_stays, right_stays}
 use Rattle.dk_map.proofs.tree.Tree.+insert.Goals as goal
 use Rattle.dk_map.proofs.tree.Tree.+insert.Goals.{in-Less, in-Greater}
@@ -9,22 +9,22 @@ insert-higher-requires g t c κs within =
     let o = g.met.K.Ord.total in
     let top = has_top c.self.view_is c.self.invariant c.in-Some.is c.deref_mut.ensures.value c.in-Some-deref_mut.is in
     let a = at_top o top c.requires.ordered in
-    let room = room_left o a c.in-Some-entry.is _ (sym c.cmp.ensures ∙ c.in-Less.is) c.requires.room in
-    (omega (arith, a.shorter), (within.0, (within.1, (a.left, (room, omega (arith, top.height, c.requires.fits))))))
+    let new = new_left o a _ _ c.in-Some-entry.is (sym c.cmp.ensures ∙ c.in-Less.is) c.requires.absent in
+    (omega (arith, a.shorter), (within.0, (within.1, (a.left, (new, (c.requires.room, omega (arith, top.height, c.requires.fits)))))))
 
 pub insert-higher-requires-in-Greater : goal.insert-higher-requires-in-Greater
 insert-higher-requires-in-Greater g t c κs within =
     let o = g.met.K.Ord.total in
     let top = has_top c.self.view_is c.self.invariant c.in-Some.is c.deref_mut.ensures.value c.in-Some-deref_mut.is in
     let a = at_top o top c.requires.ordered in
-    let room = room_right o a c.in-Some-entry.is _ (sym c.cmp.ensures ∙ c.in-Greater.is) c.requires.room in
-    (omega (arith, a.shorter), (within.0, (within.1, (a.right, (room, omega (arith, top.height, c.requires.fits))))))
+    let new = new_right o a _ _ c.in-Some-entry.is (sym c.cmp.ensures ∙ c.in-Greater.is) c.requires.absent in
+    (omega (arith, a.shorter), (within.0, (within.1, (a.right, (new, (c.requires.room, omega (arith, top.height, c.requires.fits)))))))
 
-pub returns-in-Equal-clause-put : goal.returns-in-Equal-clause-put
-returns-in-Equal-clause-put g t c =
+pub unreachable-requires-in-Equal : goal.unreachable-requires-in-Equal
+unreachable-requires-in-Equal g t c =
     let o = g.met.K.Ord.total in
     let a = at_top o (has_top c.self.view_is c.self.invariant c.in-Some.is c.deref_mut.ensures.value c.in-Some-deref_mut.is) c.requires.ordered in
-    is_put_middle o a c.in-Some-entry.is _ _ _ c.swap.ensures.x_after c.swap.ensures.y_after (sym c.cmp.ensures ∙ c.in-Equal.is)
+    not_new o a _ _ c.in-Some-entry.is (sym c.cmp.ensures ∙ c.in-Equal.is) c.requires.absent
 
 pub invariant_of-self-then-not-higher : goal.invariant_of-self-then-not-higher
 invariant_of-self-then-not-higher g t c =
@@ -43,8 +43,8 @@ returns-then-not-higher-clause-put g t c =
     let o = g.met.K.Ord.total in
     let a = at_top o (has_top c.self.view_is c.self.invariant c.in-Some.is c.deref_mut.ensures.value c.in-Some-deref_mut.is) c.requires.ordered in
     elim c.match-cmp.branch [
-      | in-Less w ↦ rw (w.entry-is, w.cell-is) (is_put_left o a c.in-Some-entry.is _ _ (sym c.cmp.ensures ∙ w.in-Less.is) w.insert-higher.ensures.put)
-      | in-Greater w ↦ rw (w.entry-is, w.cell-is) (is_put_right o a c.in-Some-entry.is _ _ (sym c.cmp.ensures ∙ w.in-Greater.is) w.insert-higher-in-Greater.ensures.put)
+      | in-Less w ↦ rw w.cell-is (is_put_left o a _ _ c.in-Some-entry.is _ (sym c.cmp.ensures ∙ w.in-Less.is) w.insert-higher.ensures.put)
+      | in-Greater w ↦ rw w.cell-is (is_put_right o a _ _ c.in-Some-entry.is _ (sym c.cmp.ensures ∙ w.in-Greater.is) w.insert-higher-in-Greater.ensures.put)
     ]
 
 pub returns-then-not-higher-clause-grows : goal.returns-then-not-higher-clause-grows
@@ -62,10 +62,10 @@ returns-else-not-higher-clause-put g t c =
     elim c.match-cmp.branch [
       | in-Less w ↦
           let s = settled _ _ _ c.settle-self-inside.ensures c.deref_mut-in-Some-deref_mut.ensures.value w.cell-is refl in
-          rw (w.entry-is, s.1) (is_put_left o a c.in-Some-entry.is _ _ (sym c.cmp.ensures ∙ w.in-Less.is) w.insert-higher.ensures.put)
+          rw s.1 (is_put_left o a _ _ c.in-Some-entry.is _ (sym c.cmp.ensures ∙ w.in-Less.is) w.insert-higher.ensures.put)
       | in-Greater w ↦
           let s = settled _ _ _ c.settle-self-inside.ensures c.deref_mut-in-Some-deref_mut.ensures.value w.cell-is refl in
-          rw (w.entry-is, s.1) (is_put_right o a c.in-Some-entry.is _ _ (sym c.cmp.ensures ∙ w.in-Greater.is) w.insert-higher-in-Greater.ensures.put)
+          rw s.1 (is_put_right o a _ _ c.in-Some-entry.is _ (sym c.cmp.ensures ∙ w.in-Greater.is) w.insert-higher-in-Greater.ensures.put)
     ]
 
 pub returns-else-not-higher-clause-grows : goal.returns-else-not-higher-clause-grows
