@@ -10,5 +10,3 @@ pub mod Seen
 pub mod Top
 pub mod Turns
 pub mod Values
-mod InOrder
-mod Listed

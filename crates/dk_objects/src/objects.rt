@@ -4,7 +4,7 @@ ghost use Rattle.std.specs.FinMap as map;
 ghost use Rattle.std.specs.Option.{option_map};
 ghost use Rattle.dk_objects.specs.StampedObjects.{restamped};
 
-use dk_map::HashedMap;
+use dk_hashed::HashedMap;
 use dk_types::{NoMemory, Object, ObjectId};
 use std::alloc::Global;
 use std::marker::Model;

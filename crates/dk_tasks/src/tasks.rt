@@ -13,7 +13,8 @@ ghost use Rattle.dk_map.specs.Entries.{find, put};
 ghost use Rattle.dk_model.specs.Keys.{key_cmp};
 
 use crate::stored::{Stored, TaskRank};
-use dk_map::{HashedMap, OrderedMap};
+use dk_hashed::HashedMap;
+use dk_map::OrderedMap;
 use dk_types::{NoMemory, Pending, TaskKey};
 use std::alloc::Global;
 use std::marker::Model;

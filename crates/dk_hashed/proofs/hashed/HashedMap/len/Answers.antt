@@ -1,8 +1,8 @@
 use Rattle.std.proofs.Common.{sym, ap, subst, ◌∙◌, length, arith}
 use Rattle.dk_map.specs.Entries.{IsOrdered}
 use Rattle.dk_map.specs.OrderedMap.{Ordered}
-use Rattle.dk_map.proofs.InOrder.{length-in_order, ordered-in_order}
-use Rattle.dk_map.proofs.hashed.HashedMap.len.Goals as goal
+use Rattle.dk_hashed.proofs.InOrder.{length-in_order, ordered-in_order}
+use Rattle.dk_hashed.proofs.hashed.HashedMap.len.Goals as goal
 
 pub returns-clause-len : goal.returns-clause-len
 returns-clause-len g c = c.len.ensures.len ∙ sym (length-in_order g.met.K.Ord.total _ g.met.K.Ord.matches_eq _ c.self.invariant.1) ∙ ap (λ (m : Ordered _ _). length m.entries) c.self.view_is

@@ -1,8 +1,8 @@
 use Rattle.std.proofs.Common.{ap, ◌∙◌}
 use Rattle.dk_map.specs.Entries.{find, without}
 use Rattle.dk_map.specs.OrderedMap.{Ordered}
-use Rattle.dk_map.proofs.InOrder.{lookup_in_order, ordered-in_order, updated_without}
-use Rattle.dk_map.proofs.hashed.HashedMap.remove.Goals as goal
+use Rattle.dk_hashed.proofs.InOrder.{lookup_in_order, ordered-in_order, updated_without}
+use Rattle.dk_hashed.proofs.hashed.HashedMap.remove.Goals as goal
 
 pub returns-clause-value : goal.returns-clause-value
 returns-clause-value g c =

@@ -30,7 +30,7 @@ impl<K: Ord + Hash, V> Model for HashedMap<K, V> {
     ghost use Rattle.std.specs.FinMap.{IsAntisymmetric};
     ghost use Rattle.std.specs.HashMap.{hash_map_len, IsUnique, spare as free_in};
     ghost use Rattle.dk_map.specs.OrderedMap.{Ordered, ordered_code};
-    ghost use Rattle.dk_map.specs.InOrder.{in_order};
+    ghost use Rattle.dk_hashed.specs.InOrder.{in_order};
 
     ghost Value = { Ordered K V };
 

@@ -1,8 +1,8 @@
 use Rattle.std.proofs.Common.{ap, ◌∙◌}
 use Rattle.dk_map.specs.Entries.{put}
 use Rattle.dk_map.specs.OrderedMap.{Ordered}
-use Rattle.dk_map.proofs.InOrder.{ordered-in_order, updated_put}
-use Rattle.dk_map.proofs.hashed.HashedMap.add.Goals as goal
+use Rattle.dk_hashed.proofs.InOrder.{ordered-in_order, updated_put}
+use Rattle.dk_hashed.proofs.hashed.HashedMap.add.Goals as goal
 
 pub returns-clause-entries : goal.returns-clause-entries
 returns-clause-entries g c =

@@ -1,7 +1,7 @@
 use Rattle.std.proofs.Common.{ap, ◌∙◌}
 use Rattle.dk_map.specs.OrderedMap.{Ordered}
-use Rattle.dk_map.proofs.InOrder.{same_in_order}
-use Rattle.dk_map.proofs.hashed.HashedMap.reserve.Goals as goal
+use Rattle.dk_hashed.proofs.InOrder.{same_in_order}
+use Rattle.dk_hashed.proofs.hashed.HashedMap.reserve.Goals as goal
 
 pub returns-clause-entries : goal.returns-clause-entries
 returns-clause-entries g c =

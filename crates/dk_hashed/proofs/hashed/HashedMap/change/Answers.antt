@@ -1,9 +1,9 @@
 use Rattle.std.proofs.Common.{◌≡◌, refl, sym, ap, subst, ◌∙◌, IsSome}
 use Rattle.dk_map.specs.Entries.{find, put}
-use Rattle.dk_map.specs.InOrder.{in_order}
+use Rattle.dk_hashed.specs.InOrder.{in_order}
 use Rattle.dk_map.specs.OrderedMap.{Ordered}
-use Rattle.dk_map.proofs.InOrder.{lookup_in_order, ordered-in_order, updated_put}
-use Rattle.dk_map.proofs.hashed.HashedMap.change.Goals as goal
+use Rattle.dk_hashed.proofs.InOrder.{lookup_in_order, ordered-in_order, updated_put}
+use Rattle.dk_hashed.proofs.hashed.HashedMap.change.Goals as goal
 
 pub returns-in_default-clause-changed : goal.returns-in_default-clause-changed
 returns-in_default-clause-changed g c = (

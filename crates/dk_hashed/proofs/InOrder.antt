@@ -10,7 +10,7 @@ use Rattle.std.specs.FinMap as map
 use Rattle.std.specs.FinMap.{IsAntisymmetric, from_entries, entries-insert, entries_sorted, get-entries, get-insert, get-from_entries, same_map, len-insert, len-entries, len-empty}
 use Rattle.std.specs.FinMap.Entries.{same_entries}
 use Rattle.dk_map.specs.Entries.{find, put, without, IsOrdered}
-use Rattle.dk_map.specs.InOrder.{in_order}
+use Rattle.dk_hashed.specs.InOrder.{in_order}
 use Rattle.dk_map.proofs.Counts.{ordered_without}
 use Rattle.dk_map.proofs.Maps.{find-without}
 

@@ -2,8 +2,8 @@ use Rattle.std.proofs.Common.{ap, ◌∙◌}
 use Rattle.std.specs.Map.Iter.{deref_pair}
 use Rattle.std.proofs.lemmas.List.Sorted.{answers_always}
 use Rattle.dk_map.specs.OrderedMap.{Ordered}
-use Rattle.dk_map.proofs.Listed.{listed}
-use Rattle.dk_map.proofs.hashed.HashedMap.entries.Goals as goal
+use Rattle.dk_hashed.proofs.Listed.{listed}
+use Rattle.dk_hashed.proofs.hashed.HashedMap.entries.Goals as goal
 
 pub returns : goal.returns
 returns g c =

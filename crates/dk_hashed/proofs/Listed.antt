@@ -15,8 +15,8 @@ use Rattle.std.proofs.lemmas.List.Elements.{All-head, All-tail}
 use Rattle.std.proofs.lemmas.List.Sorted.{IsPermutation-map, All-permutation, list_any-IsPermutation}
 use Rattle.std.proofs.lemmas.Map.Keys.{sorted_head, sorted_tail, apart_from_distinct, IsDistinct-IsPermutation, sorted_from_all_adjacent}
 use Rattle.dk_map.specs.Entries.{find, IsOrdered}
-use Rattle.dk_map.specs.InOrder.{in_order}
-use Rattle.dk_map.proofs.InOrder.{lookup_find, find-in_order, ordered-in_order}
+use Rattle.dk_hashed.specs.InOrder.{in_order}
+use Rattle.dk_hashed.proofs.InOrder.{lookup_find, find-in_order, ordered-in_order}
 
 -- both tests hold
 both : (a b : Bool) → T a → T b → T (a && b)
