@@ -95,4 +95,4 @@ module _ {K : Type 0} {R : K → K → Ordering} (o : IsTotalOrder R) where
           let distinct : IsDistinct eq (keys_of vs) = IsDistinct-IsPermutation eq flips (keys_of es) (keys_of vs) keys apart in
           let ordered = ascending vs (subst (λ ks. IsStrictlySortedBy R ks) k (strict (λ x. (shows x).0) ys up (subst (IsDistinct eq) (sym k) distinct))) in
           let count : (q : K) → is_some (find R q vs) ≡ is_some (find R q es) = λ q. is_some-find R q vs ∙ sym (list_any-IsPermutation (eq_by_cmp R q) (keys_of es) (keys_of vs) keys) ∙ sym (is_some-find R q es) in
-          same_entries R o same vs (in_order R es) ordered (ordered-in_order R es) (λ q. agreed vs q (hit vs (All-permutation _ es vs perm all) q) (count q) ∙ sym (find-in_order o es q))
+          same_entries R o same vs (in_order R es) ordered (ordered-in_order R es) (λ q. agreed vs q (hit vs (All-permutation (λ (e : K × V). lookup (eq e.0) es ≡ Some e.1) es vs perm all) q) (count q) ∙ sym (find-in_order o es q))

@@ -187,9 +187,8 @@ impl<K: Ord + Hash + Drop, V: Drop> HashedMap<K, V> {
     {
         let removed = self.map.remove_entry(key);
         let unused = self.map.capacity() - self.map.len();
-        if removed.is_some() && self.spare < unused {
-            self.spare += 1;
-        }
+        let freed = if removed.is_some() { 1 } else { 0 };
+        self.spare = unused.min(self.spare + freed);
         removed
     }
 }
