@@ -102,10 +102,7 @@ impl<K: Ord + Hash, V> HashedMap<K, V> {
 }
 
 /// References to all entries of a table, as they stand there.
-fn shown<K: Ord + Hash, V>(
-    map: &HashMap<K, V>,
-    alloc: Global,
-) -> Result<Vec<(&K, &V)>, AllocError>
+fn shown<K: Ord + Hash, V>(map: &HashMap<K, V>, alloc: Global) -> Result<Vec<(&K, &V)>, AllocError>
     ensures shown { IfOk result (λ list. list_map (λ e. (e.0.now, e.1.now)) list.items ≡ map.now.entries) }
     ensures found { All (λ e. get K.eq map.now e.0 ≡ Some e.1) map.now.entries }
 {
