@@ -1,6 +1,7 @@
 //! Sessions by the blocking calls.
+ghost use Rattle.std.specs.Prelude.{◌≡◌};
 
-use crate::hosting::Scene;
+use crate::hosting::{Scene, drain, three};
 use dk_disk::{Home, MemoryHome};
 use dk_edge::{MemorySink, MemorySource};
 use dk_frame::Decoder;
@@ -9,7 +10,6 @@ use dk_host::{Host, Hosting, WorldBook};
 use dk_pump::{SessionEnd, WriteEnd, greet, read_session, write_session};
 use dk_turn::{Naming, Pass};
 use dk_types::{ConnNo, Event, Item, Name, Seen};
-use dk_workers::{OpenGate, work};
 use std::alloc::Global;
 use std::sync::Wait;
 use std::test::Fail;
@@ -40,21 +40,40 @@ impl Scene for TwoRead {
         host: Host<W, J, MemoryHome>,
         passes: Vec<Pass<WorldBook<W>, J>>,
     ) -> Result<Sessions, Fail> {
-        let TwoRead { first, second } = self;
         let mut passes = passes;
-        let mut pass = passes.pop().ok_or("a pass")?;
-        gone(rt, alloc, &host, &mut pass)?;
-        let one = read(rt, alloc, &host, &mut pass, first).1;
-        let other = read(rt, alloc, &host, &mut pass, second).1;
-        let count = host.kept_count(rt, &mut pass);
-        passes.push(pass)?;
-        let events = host.close(passes).events;
+        let Some(pass) = passes.as_mut_slice().last_mut() else {
+            return Err(Fail::from("a pass"));
+        };
+        let (ends, count) = read_both(rt, alloc, &host, pass, self)?;
         Ok(Sessions {
-            ends: (one, other),
+            ends,
             count,
-            events,
+            events: kept_events(host, passes),
         })
     }
+}
+
+// How two sessions end behind a connection that is not there, and how many events are kept by then.
+fn read_both<W: Hosting, J: Naming, M: Home, R: Wait>(
+    rt: &R,
+    alloc: Global,
+    host: &Host<W, J, M>,
+    pass: &mut Pass<WorldBook<W>, J>,
+    two: TwoRead,
+) -> Result<((SessionEnd, SessionEnd), u64), Fail> {
+    gone(rt, alloc, host, pass)?;
+    let TwoRead { first, second } = two;
+    let (_, one) = read(rt, alloc, host, pass, first);
+    let (_, other) = read(rt, alloc, host, pass, second);
+    Ok(((one, other), host.kept_count(rt, pass)))
+}
+
+// What a host has kept when it is closed.
+fn kept_events<W: Hosting, J: Naming>(
+    host: Host<W, J, MemoryHome>,
+    passes: Vec<Pass<WorldBook<W>, J>>,
+) -> Vec<Event> {
+    host.close(passes).events
 }
 
 // Which connection a session has, if it has one, and how its reading ends.
@@ -119,23 +138,51 @@ impl Scene for ReadThenWritten {
         host: Host<W, J, MemoryHome>,
         passes: Vec<Pass<WorldBook<W>, J>>,
     ) -> Result<Written, Fail> {
-        let ReadThenWritten { source, mut sink } = self;
-        let mut passes = passes;
-        let mut worker = passes.pop().ok_or("a pass")?;
-        let mut reader = passes.pop().ok_or("a pass")?;
-        let mut writer = passes.pop().ok_or("a pass")?;
-        work(rt, alloc, &host, &mut worker, game, &OpenGate, 0);
-        let (conn, end) = read(rt, alloc, &host, &mut reader, source);
-        let conn = conn.ok_or("a connection")?;
-        work(rt, alloc, &host, &mut worker, game, &OpenGate, 0);
-        let write = write_session(rt, alloc, &host, &mut writer, conn, &mut sink);
+        let (mut worker, mut reader, mut writer) = three(passes).ok_or("a pass")?;
+        let ReadThenWritten { source, sink } = self;
+        let (conn, end) = read_and_run(rt, alloc, game, &host, &mut worker, &mut reader, source)?;
+        let (write, put) = put_frames(rt, alloc, &host, &mut writer, conn, sink)?;
         Ok(Written {
             end,
             write,
-            put: Vec::from_slice(alloc, sink.contents())?,
+            put,
             recorded: is_recorded(rt, alloc, &host, &mut worker)?,
         })
     }
+}
+
+// A session is read behind the first run, and a worker runs what it asked for.
+fn read_and_run<G: Game, W: Hosting, J: Naming, M: Home, R: Wait>(
+    rt: &R,
+    alloc: Global,
+    game: &G,
+    host: &Host<W, J, M>,
+    worker: &mut Pass<WorldBook<W>, J>,
+    reader: &mut Pass<WorldBook<W>, J>,
+    source: MemorySource,
+) -> Result<(ConnNo, SessionEnd), Fail>
+    requires rules { W.opened.rules ≡ G.rules game.now }
+{
+    drain(rt, alloc, game, host, worker);
+    let (conn, end) = read(rt, alloc, host, reader, source);
+    drain(rt, alloc, game, host, worker);
+    match conn {
+        Some(conn) => Ok((conn, end)),
+        None => Err(Fail::from("a connection")),
+    }
+}
+
+// How a session is written, and what is put.
+fn put_frames<W: Hosting, J: Naming, M: Home, R: Wait>(
+    rt: &R,
+    alloc: Global,
+    host: &Host<W, J, M>,
+    writer: &mut Pass<WorldBook<W>, J>,
+    conn: ConnNo,
+    mut sink: MemorySink,
+) -> Result<(WriteEnd, Vec<u8>), Fail> {
+    let write = write_session(rt, alloc, host, writer, conn, &mut sink);
+    Ok((write, Vec::from_slice(alloc, sink.contents())?))
 }
 
 /// Whether there is a record of alice's session.

@@ -2,7 +2,9 @@
 
 use crate::hosting::play;
 use crate::links::{link, polled, ready};
-use crate::rows::{LOGIN, ROWS, Row, SERVED, SESSION};
+use crate::polled::BothEnded;
+use crate::reading::{login_and, login_and_body};
+use crate::rows::{ROWS, Row, SERVED, SESSION};
 use crate::untaken::Untaken;
 use dk_frame::FrameFault::Field;
 use dk_pump::{BadFrame, SessionEnd, WriteEnd};
@@ -24,15 +26,19 @@ where
     let first = link(rt.alloc(), stream, ready(piece))?;
     let second = link(rt.alloc(), SESSION, ready(piece))?;
     let told = polled(rt, first, second, false)?;
-    let served = told.second.end == SessionEnd::Logout
-        && told.second.put.as_slice() == SERVED
-        && told.first.write == WriteEnd::Done
-        && !told.recorded;
-    if served {
+    if is_served(&told) {
         Ok((told.first.end, told.polls))
     } else {
         Err(Fail::from("a session that is served"))
     }
+}
+
+// Whether the second is served behind the first.
+fn is_served(told: &BothEnded) -> bool {
+    told.second.end == SessionEnd::Logout
+        && told.second.put.as_slice() == SERVED
+        && told.first.write == WriteEnd::Done
+        && !told.recorded
 }
 
 #[test]
@@ -49,10 +55,7 @@ fn a_stream_ends_its_polled_session(rt: HostRuntime) -> Result<(), Fail> {
 // The login waits too, so the last message has no place. The end is told when the worker has run what was taken.
 #[test]
 fn a_polled_session_floods_its_queue(rt: HostRuntime) -> Result<(), Fail> {
-    let mut stream = Vec::from_slice(rt.alloc(), LOGIN)?;
-    for _ in 0..1_024 {
-        stream.extend_from_slice(b"\x00\x00\x00\x01\x02")?;
-    }
+    let stream = login_and(rt.alloc(), b"\x00\x00\x00\x01\x02", 1_024)?;
     for piece in [1, 100_000] {
         let told = ended(&rt, stream.as_slice(), piece)?;
         assert_eq!(rt; told, (SessionEnd::Flood { waiting: 1_024 }, 2));
@@ -71,11 +74,7 @@ fn a_body_has_its_limit_in_a_polled_session(rt: HostRuntime) -> Result<(), Fail>
         ),
         (b"\x00\x10\x00\x02\x02".as_slice(), 1_048_577, bad),
     ] {
-        let mut stream = Vec::from_slice(rt.alloc(), LOGIN)?;
-        stream.extend_from_slice(head)?;
-        for _ in 0..body {
-            stream.push(0)?;
-        }
+        let stream = login_and_body(rt.alloc(), head, body)?;
         for piece in [1, 100_000] {
             assert_eq!(rt; ended(&rt, stream.as_slice(), piece)?.0, end);
         }

@@ -8,6 +8,7 @@ use dk_game::Game;
 use dk_host::{Host, Hosting, OpenedStore, WorldBook, open_store};
 use dk_turn::{Naming, Pass, TurnBuilder};
 use dk_types::GameId;
+use dk_workers::{OpenGate, work};
 use std::alloc::Global;
 use std::marker::Brand;
 use std::sync::{Wait, ledger};
@@ -30,6 +31,33 @@ pub(crate) trait Scene: Drop {
         passes: Vec<Pass<WorldBook<W>, J>>,
     ) -> Result<Self::Told, Fail>
         requires rules { W.opened.rules ≡ G.rules game.now };
+}
+
+/// The three passes of a scene.
+pub(crate) fn three<W: Hosting, J: Naming>(
+    mut passes: Vec<Pass<WorldBook<W>, J>>,
+) -> Option<
+    (
+        Pass<WorldBook<W>, J>,
+        Pass<WorldBook<W>, J>,
+        Pass<WorldBook<W>, J>,
+    ),
+> {
+    let (one, two) = (passes.pop()?, passes.pop()?);
+    Some((one, two, passes.pop()?))
+}
+
+/// A worker runs all that it can.
+pub(crate) fn drain<G: Game, W: Hosting, J: Naming, M: Home, R: Wait>(
+    rt: &R,
+    alloc: Global,
+    game: &G,
+    host: &Host<W, J, M>,
+    worker: &mut Pass<WorldBook<W>, J>,
+)
+    requires rules { W.opened.rules ≡ G.rules game.now }
+{
+    work(rt, alloc, host, worker, game, &OpenGate, 0);
 }
 
 /// Plays a scene on a host of this game, on a store that has just been made. The host keeps its events, or none.

@@ -2,14 +2,13 @@
 ghost use Rattle.std.specs.Prelude.{◌≡◌, IsSome};
 
 use crate::blocking::is_recorded;
-use crate::hosting::Scene;
+use crate::hosting::{Scene, drain, three};
 use dk_disk::{Home, MemoryHome};
 use dk_edge::MemoryLink;
 use dk_game::Game;
 use dk_host::{Host, Hosting, WorldBook};
 use dk_pump::{SessionDone, SessionEnd, SessionFuture, Tally, WriteEnd};
 use dk_turn::{Naming, Pass};
-use dk_workers::{OpenGate, work};
 use futures::Future;
 use futures::future::join;
 use futures::task::Poll;
@@ -60,26 +59,40 @@ impl Scene for TwoPolled {
         host: Host<W, J, MemoryHome>,
         passes: Vec<Pass<WorldBook<W>, J>>,
     ) -> Result<BothEnded, Fail> {
-        let TwoPolled {
-            task,
-            first,
-            second,
-            together,
-        } = self;
-        let mut passes = passes;
-        let mut worker = passes.pop().ok_or("a pass")?;
-        let one = passes.pop().ok_or("a pass")?;
-        let other = passes.pop().ok_or("a pass")?;
-        work(rt, alloc, &host, &mut worker, game, &OpenGate, 0);
-        let one = SessionFuture::new(rt, alloc, &host, one, first);
-        let other = SessionFuture::new(rt, alloc, &host, other, second);
-        let (one, other, polls) = if together {
-            by_turns(rt, alloc, game, &host, &mut worker, &task, one, other)?
-        } else {
-            in_turn(rt, alloc, game, &host, &mut worker, &task, one, other)?
-        };
+        let (mut worker, one, other) = three(passes).ok_or("a pass")?;
+        drain(rt, alloc, game, &host, &mut worker);
+        let (one, other, polls) = poll_both(rt, alloc, game, &host, &mut worker, one, other, self)?;
         let recorded = is_recorded(rt, alloc, &host, &mut worker)?;
         both_ended(alloc, one, other, polls, recorded)
+    }
+}
+
+// Two sessions of these passes, polled by turns or one after the other.
+fn poll_both<G: Game, W: Hosting, J: Naming, M: Home, R: Wait>(
+    rt: &R,
+    alloc: Global,
+    game: &G,
+    host: &Host<W, J, M>,
+    worker: &mut Pass<WorldBook<W>, J>,
+    one: Pass<WorldBook<W>, J>,
+    other: Pass<WorldBook<W>, J>,
+    scene: TwoPolled,
+) -> Result<
+    (
+        SessionDone<W, J, MemoryLink>,
+        SessionDone<W, J, MemoryLink>,
+        u64,
+    ),
+    Fail,
+>
+    requires rules { W.opened.rules ≡ G.rules game.now }
+{
+    let one = SessionFuture::new(rt, alloc, host, one, scene.first);
+    let other = SessionFuture::new(rt, alloc, host, other, scene.second);
+    if scene.together {
+        by_turns(rt, alloc, game, host, worker, &scene.task, one, other)
+    } else {
+        in_turn(rt, alloc, game, host, worker, &scene.task, one, other)
     }
 }
 
@@ -154,7 +167,7 @@ fn to_end<F: Future, G: Game, W: Hosting, J: Naming, M: Home, R: Wait>(
         if let Poll::Ready(output) = task.poll(&mut future) {
             return Ok((output, polls));
         }
-        work(rt, alloc, host, worker, game, &OpenGate, 0);
+        drain(rt, alloc, game, host, worker);
     }
     Err(Fail::from("an end"))
 }

@@ -1,8 +1,12 @@
 //! Sessions that are polled, over links of each manner.
 
-use crate::links::{link, polled, ready, waiting};
+use crate::links::{Manner, link, polled, ready, waiting};
+use crate::polled::{BothEnded, Ended};
 use crate::rows::{SERVED, SESSION};
 use dk_pump::{SessionEnd, WriteEnd};
+use std::process::Abort;
+use std::random::RandomSource;
+use std::sync::Wait;
 use std::test::*;
 
 // bob logs in, looks and logs out.
@@ -17,6 +21,43 @@ const MANNERS: [(usize, Option<usize>); 5] = [
     (1, Some(1)),
 ];
 
+// Two sessions in SwordWorld over links of these manners.
+fn both<R: Wait + RandomSource>(
+    rt: &R,
+    first: Manner,
+    stream: &[u8],
+    second: Manner,
+    together: bool,
+) -> Result<BothEnded, Fail>
+where
+    R: AllocGlobal,
+{
+    let first = link(rt.alloc(), SESSION, first)?;
+    let second = link(rt.alloc(), stream, second)?;
+    polled(rt, first, second, together)
+}
+
+fn assert_left(rt: &impl Abort, told: &BothEnded) {
+    assert_eq!(rt; told.tally, 2);
+    assert!(rt; !told.recorded);
+}
+
+fn assert_served(rt: &impl Abort, ended: &Ended, manner: Manner) {
+    assert_eq!(rt; ended.end, SessionEnd::Logout, "{manner:?}");
+    assert_eq!(rt; ended.write, WriteEnd::Done, "{manner:?}");
+    assert_eq!(rt; ended.put.as_slice(), SERVED, "{manner:?}");
+}
+
+// How a session ended and was written, where the first link failed after so many bytes.
+fn assert_ended(rt: &impl Abort, ended: &Ended, end: SessionEnd, write: WriteEnd, after: usize) {
+    assert_eq!(rt; ended.end, end, "after {after} bytes");
+    assert_eq!(rt; ended.write, write, "after {after} bytes");
+}
+
+fn assert_put(rt: &impl Abort, ended: &Ended, put: &[u8]) {
+    assert_eq!(rt; ended.put.as_slice(), put);
+}
+
 #[test]
 fn a_session_is_served_over_each_link(rt: HostRuntime) -> Result<(), Fail> {
     for (take, put) in MANNERS {
@@ -24,16 +65,10 @@ fn a_session_is_served_over_each_link(rt: HostRuntime) -> Result<(), Fail> {
             None => ready(take),
             Some(put) => waiting(take, put),
         };
-        let first = link(rt.alloc(), SESSION, manner)?;
-        let second = link(rt.alloc(), SESSION, manner)?;
-        let told = polled(&rt, first, second, false)?;
-        for ended in [told.first, told.second] {
-            assert_eq!(rt; ended.end, SessionEnd::Logout, "{manner:?}");
-            assert_eq!(rt; ended.write, WriteEnd::Done, "{manner:?}");
-            assert_eq!(rt; ended.put.as_slice(), SERVED, "{manner:?}");
-        }
-        assert_eq!(rt; told.tally, 2);
-        assert!(rt; !told.recorded);
+        let told = both(&rt, manner, SESSION, manner, false)?;
+        assert_served(&rt, &told.first, manner);
+        assert_served(&rt, &told.second, manner);
+        assert_left(&rt, &told);
     }
     Ok(())
 }
@@ -41,22 +76,19 @@ fn a_session_is_served_over_each_link(rt: HostRuntime) -> Result<(), Fail> {
 // Bob's session begins before alice's fails, and ends after it.
 #[test]
 fn a_link_that_fails_to_give_ends_its_session_alone(rt: HostRuntime) -> Result<(), Fail> {
-    for taken in 0..25 {
+    for taken in 0..25usize {
         let mut manner = waiting(1, 1_000);
-        manner.take_fails = taken + 1;
-        let first = link(rt.alloc(), SESSION, manner)?;
-        let second = link(rt.alloc(), BOB, waiting(1, 1))?;
-        let told = polled(&rt, first, second, true)?;
-        assert_eq!(rt;
-            told.first.end,
+        manner.take_fails = taken as u64 + 1;
+        let told = both(&rt, manner, BOB, waiting(1, 1), true)?;
+        assert_ended(
+            &rt,
+            &told.first,
             SessionEnd::ReadFault,
-            "after {taken} bytes"
+            WriteEnd::Done,
+            taken,
         );
-        assert_eq!(rt; told.first.write, WriteEnd::Done, "after {taken} bytes");
-        assert_eq!(rt; told.second.end, SessionEnd::Logout, "after {taken} bytes");
-        assert_eq!(rt; told.second.write, WriteEnd::Done, "after {taken} bytes");
-        assert_eq!(rt; told.tally, 2);
-        assert!(rt; !told.recorded);
+        assert_ended(&rt, &told.second, SessionEnd::Logout, WriteEnd::Done, taken);
+        assert_left(&rt, &told);
     }
     Ok(())
 }
@@ -66,17 +98,18 @@ fn a_link_that_fails_to_take_ends_its_session_alone(rt: HostRuntime) -> Result<(
     for put in 0..SERVED.len() {
         let mut manner = waiting(25, 1);
         manner.put_fails = put as u64 + 1;
-        let first = link(rt.alloc(), SESSION, manner)?;
-        let second = link(rt.alloc(), BOB, waiting(1, 1))?;
-        let told = polled(&rt, first, second, true)?;
-        assert_eq!(rt; told.first.end, SessionEnd::Logout, "after {put} bytes");
-        assert_eq!(rt; told.first.write, WriteEnd::WriteFault, "after {put} bytes");
-        assert_eq!(rt; told.first.put.as_slice(), &SERVED[..put]);
-        assert_eq!(rt; told.second.end, SessionEnd::Logout, "after {put} bytes");
-        assert_eq!(rt; told.second.write, WriteEnd::Done, "after {put} bytes");
-        assert_eq!(rt; told.second.put.as_slice(), SERVED);
-        assert_eq!(rt; told.tally, 2);
-        assert!(rt; !told.recorded);
+        let told = both(&rt, manner, BOB, waiting(1, 1), true)?;
+        assert_ended(
+            &rt,
+            &told.first,
+            SessionEnd::Logout,
+            WriteEnd::WriteFault,
+            put,
+        );
+        assert_put(&rt, &told.first, &SERVED[..put]);
+        assert_ended(&rt, &told.second, SessionEnd::Logout, WriteEnd::Done, put);
+        assert_put(&rt, &told.second, SERVED);
+        assert_left(&rt, &told);
     }
     Ok(())
 }

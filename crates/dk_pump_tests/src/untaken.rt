@@ -2,13 +2,12 @@
 ghost use Rattle.std.specs.Prelude.{◌≡◌, IfOk};
 ghost use Rattle.dk_model.specs.Lawful.{IsInput};
 
-use crate::hosting::Scene;
+use crate::hosting::{Scene, drain};
 use dk_disk::{Home, MemoryHome};
 use dk_game::Game;
 use dk_host::{Host, Hosting, WorldBook};
 use dk_turn::{Naming, Pass};
 use dk_types::{Blob, ConnNo, Input, Name};
-use dk_workers::{OpenGate, work};
 use std::alloc::Global;
 use std::sync::Wait;
 use std::test::Fail;
@@ -34,19 +33,33 @@ impl Scene for Untaken {
         passes: Vec<Pass<WorldBook<W>, J>>,
     ) -> Result<Vec<(usize, bool)>, Fail> {
         let mut passes = passes;
-        let mut pass = passes.pop().ok_or("a pass")?;
-        work(rt, alloc, &host, &mut pass, game, &OpenGate, 0);
-        let conn = log_in(rt, alloc, &host, &mut pass)?;
+        let Some(pass) = passes.as_mut_slice().last_mut() else {
+            return Err(Fail::from("a pass"));
+        };
+        drain(rt, alloc, game, &host, pass);
+        let conn = log_in(rt, alloc, &host, pass)?;
         for batch in self.batches {
-            look(rt, alloc, &host, &mut pass, conn, *batch)?;
-            work(rt, alloc, &host, &mut pass, game, &OpenGate, 0);
+            look(rt, alloc, &host, pass, conn, *batch)?;
+            drain(rt, alloc, game, &host, pass);
         }
-        let mut handed = Vec::new(alloc);
-        for _ in 0..self.hands {
-            handed.push(hand(rt, &host, &mut pass, conn, self.most)?)?;
-        }
-        Ok(handed)
+        handed(rt, alloc, &host, pass, conn, &self)
     }
+}
+
+// What is handed to a connection, hand by hand.
+fn handed<W: Hosting, J: Naming, M: Home, R: Wait>(
+    rt: &R,
+    alloc: Global,
+    host: &Host<W, J, M>,
+    pass: &mut Pass<WorldBook<W>, J>,
+    conn: ConnNo,
+    scene: &Untaken,
+) -> Result<Vec<(usize, bool)>, Fail> {
+    let mut handed = Vec::new(alloc);
+    for _ in 0..scene.hands {
+        handed.push(hand(rt, host, pass, conn, scene.most)?)?;
+    }
+    Ok(handed)
 }
 
 fn log_in<W: Hosting, J: Naming, M: Home, R: Wait>(
