@@ -10,3 +10,5 @@ pub mod Seen
 pub mod Top
 pub mod Turns
 pub mod Values
+mod InOrder
+mod Listed

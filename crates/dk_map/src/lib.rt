@@ -6,7 +6,9 @@
 //! `proofs/Maps.antt`. It does not choose keys, and nothing here depends on how the entries are kept.
 #![tactic(auto)]
 
+mod hashed;
 mod map;
 mod tree;
 
+pub use hashed::HashedMap;
 pub use map::OrderedMap;
