@@ -75,9 +75,9 @@ module _ {K : Type 0} {R : K → K → Ordering} (o : IsTotalOrder R) where
       hit [] h q = inl refl
       hit (e ∷ vs) h q =
           elim (R q e.0) as (λ c. R q e.0 ≡ c → (cond (is_eq c) (Some e.1) (find R q vs) ≡ None) ⊎ (cond (is_eq c) (Some e.1) (find R q vs) ≡ find R q es)) [
-            | Less ↦ λ _. hit vs (All-tail _ e vs h) q
+            | Less ↦ λ _. hit vs (All-tail (λ (e : K × V). lookup (eq e.0) es ≡ Some e.1) e vs h) q
             | Equal ↦ λ p. inr (sym (All-head (λ (e : K × V). lookup (eq e.0) es ≡ Some e.1) e vs h) ∙ lookup_find o eq by es e.0 ∙ find_tied R o q e.0 p es)
-            | Greater ↦ λ _. hit vs (All-tail _ e vs h) q
+            | Greater ↦ λ _. hit vs (All-tail (λ (e : K × V). lookup (eq e.0) es ≡ Some e.1) e vs h) q
           ] refl
 
       -- where it finds something exactly where one in es does, it finds the same
@@ -95,4 +95,4 @@ module _ {K : Type 0} {R : K → K → Ordering} (o : IsTotalOrder R) where
           let distinct : IsDistinct eq (keys_of vs) = IsDistinct-IsPermutation eq flips (keys_of es) (keys_of vs) keys apart in
           let ordered = ascending vs (subst (λ ks. IsStrictlySortedBy R ks) k (strict (λ x. (shows x).0) ys up (subst (IsDistinct eq) (sym k) distinct))) in
           let count : (q : K) → is_some (find R q vs) ≡ is_some (find R q es) = λ q. is_some-find R q vs ∙ sym (list_any-IsPermutation (eq_by_cmp R q) (keys_of es) (keys_of vs) keys) ∙ sym (is_some-find R q es) in
-          same_entries R o same vs (in_order R es) ordered (ordered-in_order R es) (λ q. agreed vs q (hit vs (All-permutation _ es vs perm all) q) (count q) ∙ sym (find-in_order o es q))
+          same_entries R o same vs (in_order R es) ordered (ordered-in_order R es) (λ q. agreed vs q (hit vs (All-permutation (λ (e : K × V). lookup (eq e.0) es ≡ Some e.1) es vs perm all) q) (count q) ∙ sym (find-in_order o es q))

@@ -102,10 +102,7 @@ impl<K: Ord + Hash, V> HashedMap<K, V> {
 }
 
 /// References to all entries of a table, as they stand there.
-fn shown<K: Ord + Hash, V>(
-    map: &HashMap<K, V>,
-    alloc: Global,
-) -> Result<Vec<(&K, &V)>, AllocError>
+fn shown<K: Ord + Hash, V>(map: &HashMap<K, V>, alloc: Global) -> Result<Vec<(&K, &V)>, AllocError>
     ensures shown { IfOk result (λ list. list_map (λ e. (e.0.now, e.1.now)) list.items ≡ map.now.entries) }
     ensures found { All (λ e. get K.eq map.now e.0 ≡ Some e.1) map.now.entries }
 {
@@ -176,14 +173,18 @@ impl<K: Ord + Hash + Drop, V: Drop> HashedMap<K, V> {
         Some(change(value))
     }
 
-    /// Takes the entry at a key out, if there is one. What room there was stays, and the entry's is not counted to it.
+    /// Takes the entry at a key out, if there is one. Its room is spare from then on, where the table has it still.
     pub fn remove(&mut self, key: &K) -> Option<(K, V)>
         ensures value { option_map (λ e. e.1) result ≡ find K.cmp key.now self.old.entries }
         ensures same_key { IfSome result (λ e. K.cmp key.now e.0 ≡ Equal) }
         ensures entries { self.new.entries ≡ without K.cmp key.now self.old.entries }
-        ensures spare { self.new.spare ≡ self.old.spare }
+        ensures kept { self.old.spare ≤ self.new.spare }
+        ensures at_most_one { self.new.spare ≤ self.old.spare + (if is_some result then 1 else 0) }
         ensures ordered { IsOrdered K.cmp self.new.entries }
     {
-        self.map.remove_entry(key)
+        let removed = self.map.remove_entry(key);
+        let unused = self.map.capacity() - self.map.len();
+        self.spare = unused.min(self.spare + removed.is_some() as usize);
+        removed
     }
 }
