@@ -1,5 +1,6 @@
 -- What there is room for after a task is taken out, or changed: a is the room of the tasks, b that of the places.
-use Rattle.std.proofs.Common.{◌≡◌, ℕ, ◌+◌, ◌-◌, ◌<◌, ◌≤◌, min, if◌then◌else◌, refl, sym, ap, subst, ◌∙◌, true, false, List, Option, Some, is_some, arith}
+use Rattle.std.proofs.Common.{◌≡◌, ℕ, ◌+◌, ◌-◌, ◌<◌, ◌≤◌, min, if◌then◌else◌, refl, sym, ap, subst, ◌∙◌, true, false, List, Option, None, Some, is_some, arith}
+use mathlib.Core.Bool.{true≢false}
 use Rattle.std.specs.Option.{option_map}
 use Rattle.dk_types.specs.declared.number.TaskKey.{TaskKey}
 use Rattle.dk_map.specs.Entries.{find, put, without}
@@ -58,3 +59,8 @@ module _ (t : List (TaskKey × Stored)) (p : List (TaskRank × Unit {0})) (i : I
 -- room that a new place takes
 pub place_in : (b b' : ℕ) (r : Option (Unit {0})) → is_some r ≡ false → b' + (if is_some r then 0 else 1) ≡ b → b' + 1 ≡ b
 place_in b b' r none e = subst (λ x. b' + (if x then 0 else 1) ≡ b) none e
+
+-- nothing is there where a test says so
+pub nowhere : {A : Type 0} (r : Option A) → is_some r ≡ false → r ≡ None
+nowhere None h = refl
+nowhere (Some x) h = absurd (true≢false h)

@@ -201,7 +201,7 @@ impl Tasks {
         let place = stored.place();
         let old = self.tasks.insert(place.key, stored);
         vacate(&mut self.places, old);
-        self.places.insert(place, ());
+        self.places.insert_new(place, ());
     }
 
     /// Takes a task out. What room there was stays, and mostly its own is spare from then on.
@@ -261,7 +261,7 @@ impl Tasks {
         if claimed {
             self.places.remove(&place);
         } else {
-            self.places.insert(place, ());
+            self.places.insert_new(place, ());
         }
     }
 
