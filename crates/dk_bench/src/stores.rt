@@ -149,6 +149,7 @@ fn of_names<R: AllocGlobal + Clock>(rt: &R, call: Call, entries: u64) -> Option<
     let mut names = names_of(alloc, entries)?;
     let mut spent: u64 = 0;
     for round in 0..ROUNDS {
+        names.reserve(CALLS).ok()?;
         let keys = round_names(alloc, call, round, entries)?;
         let again = round_names(alloc, call, round, entries)?;
         if call == Call::Remove {
@@ -239,6 +240,7 @@ fn of_objects<R: AllocGlobal + Clock>(rt: &R, call: Call, entries: u64) -> Optio
     let mut objects = objects_of(alloc, entries)?;
     let mut spent: u64 = 0;
     for round in 0..ROUNDS {
+        objects.reserve(CALLS).ok()?;
         let keys = round_objects(alloc, call, round, entries)?;
         let again = round_objects(alloc, call, round, entries)?;
         if call == Call::Remove {

@@ -37,6 +37,7 @@ pub fn of_tasks<R: AllocGlobal + Clock>(rt: &R, call: TaskCall, entries: u64) ->
     let mut tasks = tasks_of(alloc, entries)?;
     let mut spent: u64 = 0;
     for round in 0..ROUNDS {
+        tasks.reserve(CALLS).ok()?;
         let keys = round_keys(alloc, call, round, entries)?;
         let fresh = pending_of(alloc, keys.as_slice())?;
         if call == TaskCall::Cancel {
