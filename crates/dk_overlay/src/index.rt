@@ -2,18 +2,18 @@
 ghost use Rattle.std.specs.Prelude.{◌≡◌, OnOk, OnErr, IfOk};
 ghost use Rattle.dk_overlay.specs.Asked.{place_in, AddsPlace, IsOnce, IsIndexed};
 
-use dk_map::OrderedMap;
+use crate::small_map::SmallMap;
 use dk_types::{Item, Name, NoMemory, ObjectId, Read, TaskKey};
 use std::alloc::Global;
 use std::marker::Model;
 
 /// The place of each item in a list of reads.
 pub(crate) struct Index {
-    objects: OrderedMap<ObjectId, usize>,
-    names: OrderedMap<Name, usize>,
+    objects: SmallMap<ObjectId, usize>,
+    names: SmallMap<Name, usize>,
     first: Option<usize>,
-    nexts: OrderedMap<Name, usize>,
-    tasks: OrderedMap<TaskKey, usize>,
+    nexts: SmallMap<Name, usize>,
+    tasks: SmallMap<TaskKey, usize>,
 }
 
 impl Drop for Index {
@@ -51,11 +51,11 @@ impl Index {
         ensures { result ≡ no_places }
     {
         Index {
-            objects: OrderedMap::new(alloc),
-            names: OrderedMap::new(alloc),
+            objects: SmallMap::new(alloc),
+            names: SmallMap::new(alloc),
             first: None,
-            nexts: OrderedMap::new(alloc),
-            tasks: OrderedMap::new(alloc),
+            nexts: SmallMap::new(alloc),
+            tasks: SmallMap::new(alloc),
         }
     }
 

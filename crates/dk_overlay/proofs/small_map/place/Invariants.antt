@@ -1,7 +1,11 @@
-use Rattle.std.proofs.Common.{take, drop}
-use Rattle.dk_overlay.proofs.Places.{Passed}
+use Rattle.std.proofs.Common.{◌-◌}
+use Rattle.dk_overlay.proofs.Places.{Between}
 use Rattle.dk_overlay.proofs.small_map.place.Given as goal
 
--- the entries so far are passed
-abbrev pub invariant-loop-at : goal.invariant-loop-at
-invariant-loop-at g l = Passed g.K.Ord.cmp l.key l.list (take l.at l.list) (drop l.at l.list)
+-- the entries before are below the key, and those behind above it
+abbrev pub invariant-halve : goal.invariant-halve
+invariant-halve g l = Between g.K.Ord.cmp l.key l.list l.low l.high
+
+-- what is left to be looked at
+abbrev pub decreases-halve : goal.decreases-halve
+decreases-halve g l = l.high - l.low
