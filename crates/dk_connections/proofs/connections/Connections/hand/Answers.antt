@@ -27,7 +27,7 @@ returns-then-has_none_for-clause-swept c = swept_alive _ c.has_none_for.ensures.
 
 pub returns-in_default-clause-handed : goal.returns-in_default-clause-handed
 returns-in_default-clause-handed c =
-    c.from_vec.ensures ∙ c.new.ensures.items ∙ sym (take-nil c.args.most) ∙ ap (λ r. take c.args.most (outbox_at r)) (sym (found_in _ c.args.conn _ c.in_default.ensures.found))
+    c.from_vec-in_default.ensures ∙ c.new-in_default.ensures.items ∙ sym (take-nil c.args.most) ∙ ap (λ r. take c.args.most (outbox_at r)) (sym (found_in _ c.args.conn _ c.in_default.ensures.found))
 
 pub returns-in_default-clause-linked : goal.returns-in_default-clause-linked
 returns-in_default-clause-linked c = left_unchanged _ _ c.args.conn c.in_default.ensures.connections (linked (less_first c.args.most)) c.in_default.ensures.found c.in_default.ensures.alive
