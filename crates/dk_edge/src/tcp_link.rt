@@ -14,8 +14,11 @@ use std::os::fd::AsRawFd;
 use std::sync::{Arc, Wait};
 use std::time::Duration;
 
-/// How many polls in a row of a link that is alone may find nothing before it is waited for.
+/// How many polls in a row of all links together may find nothing before they are waited for.
 const QUICK_POLLS_COUNT: u64 = 64;
+
+/// How many of one link may at least. Behind a ring the first poll finds what was handed, and the next puts it.
+const LEAST_QUICK_POLLS_COUNT: u64 = 2;
 
 /// How long a stream or a bell is waited for at most, in ms.
 const WAIT_MS: u64 = 100;
@@ -75,12 +78,12 @@ impl<S: Read + Write + OpenStream + AsRawFd + Drop> TcpLink<S> {
     }
 
     // Behind how many polls that found nothing the stream is waited for: fewer where there are more links, which want the
-    // processors, and of nine on none.
+    // processors.
     fn quick_polls(&self) -> u64 {
-        let links = self.bell.count();
         QUICK_POLLS_COUNT
-            .checked_div(links.saturating_mul(links))
+            .checked_div(self.bell.count())
             .unwrap_or(QUICK_POLLS_COUNT)
+            .max(LEAST_QUICK_POLLS_COUNT)
     }
 
     // Behind some polls that found nothing, waits a little for the stream or the bell.

@@ -60,10 +60,9 @@ impl<W: Hosting, J: Naming, K: Link + Drop> Session<W, J, K> {
                 };
                 return Poll::Ready((end, write));
             }
-            // What waits for the client goes first, so that the link is asked for more once and not at each step.
-            if self.write_on(rt, host, context).is_pending()
-                && self.read_on(rt, host, context).is_pending()
-            {
+            let wrote = self.write_on(rt, host, context);
+            let read = self.read_on(rt, host, context);
+            if wrote.is_pending() && read.is_pending() {
                 return Poll::Pending;
             }
         }
