@@ -9,7 +9,7 @@ use dk_edge::{Activity, Clock, Link, Listener};
 use dk_game::Game;
 use dk_host::{Hosting, WorldBook};
 use dk_pump::{Doorway, LinkCount, Place};
-use dk_turn::{Naming, Pass, Waking};
+use dk_turn::{Naming, Pass};
 use dk_workers::Gate;
 use std::alloc::{AllocError, AllocGlobal, Global};
 use std::random::RandomSource;
@@ -87,7 +87,6 @@ impl Activity for Waiting {
 }
 
 /// A ticker, then the workers and then the places, as far as there are passes. Each place has one part of the ledger.
-/// Only workers wait for the host: a place's post wakes one of them, which goes on with what its commits bring.
 pub(crate) fn roles<W: Hosting, J: Naming, D: Doorway, K: Link + Drop>(
     alloc: Global,
     mut passes: Vec<Pass<WorldBook<W>, J>>,
@@ -102,14 +101,12 @@ pub(crate) fn roles<W: Hosting, J: Naming, D: Doorway, K: Link + Drop>(
         roles.push(Role::Ticker(pass))?;
     }
     for number in 0..terms.workers {
-        if let Some(mut pass) = passes.pop() {
-            pass.set_waking(Waking::Nobody);
+        if let Some(pass) = passes.pop() {
             roles.push(Role::Worker(u32::from(number), pass))?;
         }
     }
     for _place in 0..terms.clients {
-        if let Some(mut pass) = passes.pop() {
-            pass.set_waking(Waking::One);
+        if let Some(pass) = passes.pop() {
             let count = LinkCount::new(share.split_off(1, 0));
             roles.push(Role::Place(Place::new(pass, count)))?;
         }
