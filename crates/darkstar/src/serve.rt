@@ -54,11 +54,11 @@ impl ServeTerms {
         }
     }
 
-    /// How many passes the host has: of the workers and the places, the ticker's and the caller's.
+    /// How many passes the host has: of the workers, two of each place, the ticker's and the caller's.
     fn passes(self) -> u32
-        ensures { result ≡ self.workers + self.clients + 2 }
+        ensures { result ≡ self.workers + 2 * self.clients + 2 }
     {
-        u32::from(self.workers) + u32::from(self.clients) + 2
+        u32::from(self.workers) + 2 * u32::from(self.clients) + 2
     }
 }
 

@@ -75,12 +75,13 @@ impl<S: Read + Write + OpenStream + AsRawFd + Drop> TcpLink<S> {
     }
 
     // Behind how many polls that found nothing the stream is waited for: fewer where there are more links, which want the
-    // processors, and of nine on none.
+    // processors, but one at least, behind which the thread helps.
     fn quick_polls(&self) -> u64 {
         let links = self.bell.count();
         QUICK_POLLS_COUNT
             .checked_div(links.saturating_mul(links))
             .unwrap_or(QUICK_POLLS_COUNT)
+            .max(1)
     }
 
     // Behind some polls that found nothing, waits a little for the stream or the bell.

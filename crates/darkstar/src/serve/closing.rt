@@ -67,7 +67,7 @@ pub(crate) fn serve_on_turn<
     terms: ServeTerms,
 ) -> Served<M, K>
     requires name { blank ≡ J.name }
-    requires passes { J.name.passes ≡ terms.workers + terms.clients + 2 }
+    requires passes { J.name.passes ≡ terms.workers + 2 * terms.clients + 2 }
     requires unbound { IsUncalled (L.listening net.old) }
     requires commits { (commits.name ≡ W.commits) × (commits.parts ≡ 1) }
     requires places { (places.name ≡ W.places) × (places.parts ≡ 1) }

@@ -21,7 +21,8 @@ use std::sync::ledger::Share;
 pub(crate) enum Role<A, B> {
     Ticker(A),
     Worker(u32, A),
-    Place(B),
+    /// With the pass by which its thread runs jobs between.
+    Place(B, A),
 }
 
 /// A member of the crew, which is lent the server.
@@ -69,7 +70,7 @@ impl<
         match role {
             Role::Ticker(pass) => server.tick(pass),
             Role::Worker(number, pass) => server.work(number, pass),
-            Role::Place(place) => server.serve(place),
+            Role::Place(place, helper) => server.serve(place, helper),
         }
     }
 }
@@ -87,7 +88,7 @@ impl Activity for Waiting {
 }
 
 /// A ticker, then the workers and then the places, as far as there are passes. Each place has one part of the ledger.
-/// Only workers wait for the host: a place's post wakes one of them, which goes on with what its commits bring.
+/// Only workers wait for the host, and a tick wakes them: who posts, or commits, goes on with what that brings.
 pub(crate) fn roles<W: Hosting, J: Naming, D: Doorway, K: Link + Drop>(
     alloc: Global,
     mut passes: Vec<Pass<WorldBook<W>, J>>,
@@ -108,10 +109,11 @@ pub(crate) fn roles<W: Hosting, J: Naming, D: Doorway, K: Link + Drop>(
         }
     }
     for _place in 0..terms.clients {
-        if let Some(mut pass) = passes.pop() {
-            pass.set_waking(Waking::One);
+        if let (Some(mut pass), Some(mut helper)) = (passes.pop(), passes.pop()) {
+            pass.set_waking(Waking::Nobody);
+            helper.set_waking(Waking::Nobody);
             let count = LinkCount::new(share.split_off(1, 0));
-            roles.push(Role::Place(Place::new(pass, count)))?;
+            roles.push(Role::Place(Place::new(pass, count), helper))?;
         }
     }
     Ok(roles)

@@ -217,7 +217,7 @@ pub(crate) fn run_server<
 ) -> ServerEnd<K>
     requires rules { W.opened.rules ≡ G.rules game.now }
     requires unbound { IsUncalled (L.listening net.old) }
-    requires passes { length passes.items ≡ terms.workers + terms.clients + 2 }
+    requires passes { length passes.items ≡ terms.workers + 2 * terms.clients + 2 }
     ensures bound { result.verdict.fault ≡ None → IsBoundAt terms.port (L.listening net.new) }
     ensures all { result.verdict.fault ≡ None → IsAllServed (L.listening net.old).given (links_of terms.sessions) result.served (L.listening net.new) }
 {

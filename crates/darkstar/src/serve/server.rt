@@ -1,15 +1,17 @@
 //! What the members of a server's crew share.
 ghost use Rattle.std.specs.Prelude.{◌≡◌};
+ghost use Rattle.darkstar.specs.Served.{HasWorkCause};
 
 use super::counting::MemberDone;
 use super::verdict::Verdict;
 use dk_disk::Home;
 use dk_edge::{Clock, Link, Listener};
 use dk_game::Game;
+use dk_help::Help;
 use dk_host::{Host, Hosting, WorldBook};
 use dk_pump::{Door, Doorway, Place, keep_time};
 use dk_turn::{Naming, Pass};
-use dk_workers::{Gate, serve_jobs};
+use dk_workers::{Gate, Worked, serve_jobs, work_next};
 use std::alloc::{AllocGlobal, Global};
 use std::marker::Model;
 use std::random::RandomSource;
@@ -133,11 +135,21 @@ impl<
     T: Gate,
     R: Wait + RandomSource + AllocGlobal,
 > Server<'a, 'n, W, J, M, L, D, C, G, T, R> {
-    /// Serves sessions, as long as there are links for them.
-    pub(crate) fn serve(&self, place: Place<W, J, D, K>) -> MemberDone<D, K> {
-        match place.serve(self.rt, self.alloc, self.host, &self.door) {
+    /// Serves sessions, as long as there are links for them, and runs jobs between.
+    pub(crate) fn serve(
+        &self,
+        place: Place<W, J, D, K>,
+        pass: Pass<WorldBook<W>, J>,
+    ) -> MemberDone<D, K> {
+        let mut helper = Helper {
+            server: self,
+            pass,
+            worked: Worked::Idle,
+        };
+        match place.serve(self.rt, self.alloc, self.host, &self.door, &mut helper) {
             Some(done) => {
-                let verdict = Verdict::of_place(done.end);
+                let verdict =
+                    Verdict::of_place(done.end).or(Verdict::of_worker(helper.worked));
                 let (_, count) = done.place.into_parts();
                 MemberDone {
                     verdict,
@@ -148,6 +160,64 @@ impl<
                 verdict: Verdict::no_memory(),
                 count: None,
             },
+        }
+    }
+}
+
+/// A place's thread as a worker, with a pass of its own.
+#[derive(Drop)]
+struct Helper<
+    's,
+    'a,
+    'n,
+    W: Hosting,
+    J: Naming,
+    M: Home,
+    L: Listener,
+    D: Doorway,
+    C: Clock,
+    G: Game,
+    T: Gate,
+    R: Wait,
+> {
+    server: &'s Server<'a, 'n, W, J, M, L, D, C, G, T, R>,
+    pass: Pass<WorldBook<W>, J>,
+    // What ended it.
+    worked: Worked,
+    ghost sound: { HasWorkCause worked },
+}
+
+impl<
+    's,
+    'a,
+    'n,
+    W: Hosting,
+    J: Naming,
+    M: Home,
+    L: Listener,
+    D: Doorway,
+    C: Clock,
+    G: Game,
+    T: Gate,
+    R: Wait,
+> Help for Helper<'s, 'a, 'n, W, J, M, L, D, C, G, T, R> {
+    /// Runs one job, if there is one. Another answer ends the server.
+    fn help(&mut self) {
+        let Server {
+            rt,
+            alloc,
+            host,
+            door,
+            game,
+            gate,
+            ..
+        } = self.server;
+        match work_next(*rt, *alloc, *host, &mut self.pass, *game, *gate, 0) {
+            Ok(()) | Err(Worked::Idle) => {}
+            Err(end) => {
+                self.worked = end;
+                door.end();
+            }
         }
     }
 }
