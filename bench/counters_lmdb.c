@@ -1,7 +1,11 @@
 // The counter game on LMDB without sync, with the same work: so many pending tasks wait in the order of their due moments and
 // keys. Each transaction takes the first of them, finds by name the counter that it tells, raises the object that the name leads
 // to, and leaves the task no longer pending. All stands in one tree, told apart by a first byte, which is
-// faster than a database for each store. Prints the nanoseconds of all transactions together.
+// faster than a database for each store. Prints the nanoseconds of all transactions together, and the manner of its run.
+//
+//     counters_lmdb FOLDER TASKS nosync|nosync+writemap
+//
+// With the second LMDB writes through a map of its file.
 #include <endian.h>
 #include <lmdb.h>
 #include <stdint.h>
@@ -106,20 +110,35 @@ static int run_task(MDB_env *env) {
     return 1;
 }
 
+// How LMDB may be opened: its flags under their name.
+static const struct manner { const char *name; unsigned flags; } manners[] = {
+    {"nosync", MDB_NOSYNC},
+    {"nosync+writemap", MDB_NOSYNC | MDB_WRITEMAP},
+};
+
+// The manner of this name; NULL where there is none.
+static const struct manner *manner_of(const char *name) {
+    for (size_t at = 0; at < sizeof manners / sizeof *manners; at++) {
+        if (strcmp(name, manners[at].name) == 0) return &manners[at];
+    }
+    return NULL;
+}
+
 int main(int argc, char **argv) {
-    if (argc != 3) return 2;
+    const struct manner *manner = argc == 4 ? manner_of(argv[3]) : NULL;
+    if (manner == NULL) return 2;
     unsigned tasks = (unsigned)atol(argv[2]), done = 0;
     MDB_env *env;
     must(mdb_env_create(&env));
     must(mdb_env_set_mapsize(env, 1 << 28));
-    must(mdb_env_open(env, argv[1], MDB_NOSYNC, 0666));
+    must(mdb_env_open(env, argv[1], manner->flags, 0666));
     begin_game(env, tasks);
     struct timespec start, end;
     clock_gettime(CLOCK_MONOTONIC, &start);
     while (run_task(env)) done++;
     clock_gettime(CLOCK_MONOTONIC, &end);
     if (done != tasks) return 1;
-    printf("%lld\n", (long long)(end.tv_sec - start.tv_sec) * 1000000000 + (end.tv_nsec - start.tv_nsec));
+    printf("%lld %s\n", (long long)(end.tv_sec - start.tv_sec) * 1000000000 + (end.tv_nsec - start.tv_nsec), manner->name);
     mdb_env_close(env);
     return 0;
 }

@@ -1,16 +1,18 @@
-//! What two threads do on a shared host beside one another, each with a pass.
+//! What threads do on a shared host beside one another, each with a pass.
 ghost use Rattle.std.specs.Prelude.{◌≡◌};
 ghost use Rattle.std.specs.Thread.{IsSend, IsSync};
 
 use crate::desk::{Desk, HOLD};
+use crate::stores::nanoseconds;
 use dk_disk::Home;
 use dk_game::Game;
 use dk_host::{Hosting, WorldBook};
 use dk_turn::{Naming, Pass};
+use dk_workers::{OpenGate, Worked, work_all};
 use std::sync::Wait;
 use std::sync::atomic::{AtomicBool, AtomicU64, Ordering};
 use std::thread::{Threads, join_mut};
-use std::time::Clock;
+use std::time::{Clock, Instant};
 
 /// What each of two threads does with its pass, and the nanoseconds of it.
 trait Pair<X> {
@@ -102,6 +104,18 @@ impl<
     M: Home + Send,
     R: Clock + Threads + Wait + Sync,
 > Desk<'_, G, W, J, M, R> {
+    /// All jobs behind the first run, by a worker for each pass.
+    pub(crate) fn tasks(&self, passes: &mut [Pass<WorldBook<W>, J>]) -> Option<u64>
+        requires rules { W.opened.rules ≡ G.rules self.now.game.now }
+    {
+        self.commit_next(passes.first_mut()?)?;
+        let start = Instant::now(self.rt).ok()?;
+        match work_all(self.rt, self.alloc, self.host, passes, self.game, &OpenGate) {
+            Worked::Idle => nanoseconds(self.rt, &start),
+            _ => None,
+        }
+    }
+
     /// So many reads by the other pass behind the first run, while the sync of a commit is held.
     pub(crate) fn reads_beside_hold(
         &self,

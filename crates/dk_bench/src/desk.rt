@@ -74,16 +74,6 @@ impl<G: Game, W: Hosting, J: Naming, M: Home, R: Clock + Wait> Desk<'_, G, W, J,
         }
     }
 
-    /// All jobs behind the first run.
-    pub(crate) fn tasks(&self, pass: &mut Pass<WorldBook<W>, J>) -> Option<u64>
-        requires rules { W.opened.rules ≡ G.rules self.now.game.now }
-    {
-        self.commit_next(pass)?;
-        let start = Instant::now(self.rt).ok()?;
-        self.rest(pass)?;
-        nanoseconds(self.rt, &start)
-    }
-
     /// Runs the first job and so many logins.
     pub(crate) fn fill(&self, pass: &mut Pass<WorldBook<W>, J>, logins: u32) -> Option<()>
         requires rules { W.opened.rules ≡ G.rules self.now.game.now }

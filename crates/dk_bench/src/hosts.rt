@@ -5,6 +5,7 @@ ghost use Rattle.dk_bench.specs.Hosts.{opened_for};
 
 use crate::desk::Desk;
 use crate::filler::Filler;
+use crate::sheets::Sheets;
 use dk_demos::Counters;
 use dk_disk::{HoldingHome, Home, MemoryHome};
 use dk_game::Game;
@@ -42,6 +43,10 @@ pub enum HostWork {
     HeldReads,
     /// The longest of the reads while a world of so many objects is written anew, in thousandths of a copy of that world.
     CheckpointRead,
+    /// So many tasks by one worker, each of which rewrites an object of 16 kB of its own.
+    RewritesByOne,
+    /// The same by four workers beside one another.
+    RewritesByFour,
 }
 
 /// The work of this word.
@@ -53,6 +58,8 @@ pub fn named(word: &str) -> Option<HostWork> {
         "host-reads" => Some(HostWork::Reads),
         "host-held-reads" => Some(HostWork::HeldReads),
         "host-checkpoint-read" => Some(HostWork::CheckpointRead),
+        "host-rewrites-by-one" => Some(HostWork::RewritesByOne),
+        "host-rewrites-by-four" => Some(HostWork::RewritesByFour),
         _ => None,
     }
 }
@@ -94,6 +101,9 @@ pub fn on_host<M: Home + Send + Drop, R: AllocGlobal + Clock + Threads + Wait + 
         HostWork::CheckpointRead => {
             let objects = number.min(LOGIN_OBJECTS);
             in_memory(rt, &Filler { objects }, &hold, &order)
+        }
+        HostWork::RewritesByOne | HostWork::RewritesByFour => {
+            in_memory(rt, &Sheets { sheets: number }, &hold, &order)
         }
     }
 }
@@ -149,7 +159,7 @@ fn on_ledgers<
     requires counted { M.counted store.home ≡ W.counted }
     requires keeps { W.keeps ≡ false }
 {
-    let blank = TurnBuilder::new(rt.alloc(), 2).ok()?;
+    let blank = TurnBuilder::new(rt.alloc(), passes_for(order.work)).ok()?;
     on_turn::<G, W, Brand, M, R>(rt, game, blank, commits, places, store, order)
 }
 
@@ -183,15 +193,13 @@ fn on_turn<
     let Ok((host, mut passes)) = opened else {
         return None;
     };
-    let mut one = passes.pop()?;
-    let mut other = passes.pop()?;
     let desk = Desk {
         rt,
         alloc,
         host: &host,
         game,
     };
-    let told = done(&desk, &mut one, &mut other, order);
+    let told = done(&desk, passes.as_mut_slice(), order);
     if host.close(passes).commits < least_commits(order) {
         return None;
     }
@@ -207,22 +215,38 @@ fn done<
     R: Clock + Threads + Wait + Sync,
 >(
     desk: &Desk<'_, G, W, J, M, R>,
-    one: &mut Pass<WorldBook<W>, J>,
-    other: &mut Pass<WorldBook<W>, J>,
+    passes: &mut [Pass<WorldBook<W>, J>],
     order: &Order<'_>,
 ) -> Option<u64>
     requires rules { W.opened.rules ≡ G.rules desk.now.game.now }
 {
     let number = order.number;
     match order.work {
-        HostWork::Tasks | HostWork::FolderTasks => desk.tasks(one),
-        HostWork::Reads => desk.reads_alone(one, number),
-        HostWork::HeldReads => desk.reads_beside_hold(one, other, order.hold, number),
-        HostWork::Commits => desk.commits(one, commit_logins(number)),
+        HostWork::Tasks
+        | HostWork::FolderTasks
+        | HostWork::RewritesByOne
+        | HostWork::RewritesByFour => desk.tasks(passes),
+        HostWork::Reads => desk.reads_alone(passes.first_mut()?, number),
+        HostWork::Commits => desk.commits(passes.first_mut()?, commit_logins(number)),
+        HostWork::HeldReads => {
+            let (front, back) = passes.split_at_mut(passes.len() / 2);
+            desk.reads_beside_hold(front.first_mut()?, back.first_mut()?, order.hold, number)
+        }
         HostWork::CheckpointRead => {
             let logins = (number / LOGIN_OBJECTS).max(1);
-            desk.checkpoint_read(one, other, logins)
+            let (front, back) = passes.split_at_mut(passes.len() / 2);
+            desk.checkpoint_read(front.first_mut()?, back.first_mut()?, logins)
         }
+    }
+}
+
+/// How many passes there are for the work: one for each thread.
+fn passes_for(work: HostWork) -> u32 {
+    match work {
+        HostWork::Tasks | HostWork::FolderTasks | HostWork::RewritesByOne => 1,
+        HostWork::Commits | HostWork::Reads => 1,
+        HostWork::HeldReads | HostWork::CheckpointRead => 2,
+        HostWork::RewritesByFour => 4,
     }
 }
 
@@ -236,7 +260,10 @@ fn commit_logins(objects: u32) -> u32
 /// So many commits are made at least.
 fn least_commits(order: &Order<'_>) -> u64 {
     match order.work {
-        HostWork::Tasks | HostWork::FolderTasks => (order.number as u64).saturating_add(1),
+        HostWork::Tasks
+        | HostWork::FolderTasks
+        | HostWork::RewritesByOne
+        | HostWork::RewritesByFour => (order.number as u64).saturating_add(1),
         _ => 1,
     }
 }

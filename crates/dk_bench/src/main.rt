@@ -15,6 +15,8 @@ mod frames;
 mod hosts;
 mod inspecting;
 mod records;
+mod sheet;
+mod sheets;
 mod stores;
 mod tasks;
 mod txn;
@@ -72,7 +74,7 @@ enum Subcommand {
 fn main(rt: HostRuntime) -> ExitCode {
     let Some(asked) = asked(&rt) else {
         let _ = rt.eprintln(
-            "dk_bench: locked-adds|empty-turns|tally|STORE-CALL|txn-calls|channel-sends|channel-join|channel-leave|core-tasks|core-counters|core-sessions|folder-appends|memory-calls|inspect-objects|frames-in-pieces|frames-by-byte|store-appends|store-recover|store-decode|host-tasks|host-folder-tasks|host-commits|host-reads|host-held-reads|host-checkpoint-read TIMES, or several of these",
+            "dk_bench: locked-adds|empty-turns|tally|STORE-CALL|txn-calls|channel-sends|channel-join|channel-leave|core-tasks|core-counters|core-sessions|folder-appends|memory-calls|inspect-objects|frames-in-pieces|frames-by-byte|store-appends|store-recover|store-decode|host-tasks|host-folder-tasks|host-commits|host-reads|host-held-reads|host-checkpoint-read|host-rewrites-by-one|host-rewrites-by-four TIMES, or several of these",
         );
         return ExitCode::from(2);
     };

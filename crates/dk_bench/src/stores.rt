@@ -241,6 +241,7 @@ fn of_objects<R: AllocGlobal + Clock>(rt: &R, call: Call, entries: u64) -> Optio
     for round in 0..ROUNDS {
         let keys = round_objects(alloc, call, round, entries)?;
         let again = round_objects(alloc, call, round, entries)?;
+        objects.reserve(CALLS).ok()?;
         if call == Call::Remove {
             put_objects(&mut objects, keys);
             let start = Instant::now(rt).ok()?;

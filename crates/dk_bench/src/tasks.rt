@@ -39,6 +39,7 @@ pub fn of_tasks<R: AllocGlobal + Clock>(rt: &R, call: TaskCall, entries: u64) ->
     for round in 0..ROUNDS {
         let keys = round_keys(alloc, call, round, entries)?;
         let fresh = pending_of(alloc, keys.as_slice())?;
+        tasks.reserve(CALLS).ok()?;
         if call == TaskCall::Cancel {
             put_all(&mut tasks, fresh);
             let start = Instant::now(rt).ok()?;

@@ -71,6 +71,10 @@ module _ (all : FinMap conn_cmp MarkedConnection) where
         | false ↦ λ _. refl
       ] refl)
 
+  -- to put in what stands at a number changes nothing
+  pub put_same : (k : ConnNo) (l : MarkedConnection) → Some l ≡ get all k → insert all k l ≡ all
+  put_same k l e = sym (insert_again k l) ∙ put_back k l e
+
   -- what is there once those that are over with nothing left to hand are gone
   pub get-left : (q : ConnNo) → get (left all) q ≡ cond (is_done_at (get all q)) None (get all q)
   get-left q = get-retain_keys all (λ conn. not (is_done_at (get all conn))) q (λ x t. ap (λ r. not (is_done_at r)) (get_tied conns_total all q x t)) ∙ turned (is_done_at (get all q)) _ _

@@ -1,5 +1,7 @@
 -- What a call leaves that takes a connection out of both trees and puts it back, by the clauses of `take`, `add` and `settle`.
-use Rattle.std.proofs.Common.{◌≡◌, ℕ, ◌+◌, refl, sym, ap, subst, ◌∙◌, Bool, true, false, cond, if◌then◌else◌, Option, None, Some, is_some, is_none, arith}
+use Rattle.std.proofs.Common.{◌≡◌, ℕ, ◌+◌, refl, sym, ap, subst, ◌∙◌, Bool, true, false, cond, if◌then◌else◌, Option, None, Some, is_some, is_none, ◌==◌, List, [], ◌∷◌, length, drop, arith}
+use Rattle.std.proofs.Math.Seq.{drop-nil}
+use Rattle.std.proofs.lemmas.Bool.Decides.{nat_tests}
 use Rattle.std.specs.Option.{option_map}
 use Rattle.std.specs.Ordering.{eq_by_cmp}
 use Rattle.std.specs.FinMap.{FinMap, get, insert, remove, contains_key, get-insert, get-remove}
@@ -7,8 +9,9 @@ use Rattle.dk_types.specs.declared.number.ConnNo.{ConnNo}
 use Rattle.dk_map.proofs.Values.{get_values}
 use Rattle.dk_model.specs.Keys.{conn_cmp}
 use Rattle.dk_model.proofs.Maps.{conns_total}
-use Rattle.dk_connections.specs.MarkedConnections.{MarkedConnection, ConnectionStore, all_of, change, is_done_at, left, settled, IsAlive, IsSwept}
-use Rattle.dk_connections.proofs.Changes.{connection_in, changed_again, change_none, left_alive, put_back, remove_gone, remove_none, settled_left, swept_alive}
+use Rattle.dk_model.specs.Events.{outbox_at}
+use Rattle.dk_connections.specs.MarkedConnections.{MarkedConnection, ConnectionStore, all_of, change, changed_at, is_done_at, left, less_first, linked, settled, HasNoneAt, IsAlive, IsSwept}
+use Rattle.dk_connections.proofs.Changes.{connection_in, changed_again, change_none, left_alive, put_back, put_same, remove_gone, remove_none, settled_left, swept_alive}
 use Rattle.dk_connections.proofs.Found.{conn_itself}
 
 -- what is found in the world
@@ -72,6 +75,36 @@ module _ (all m : FinMap conn_cmp MarkedConnection) (k : ConnNo) (out : m ≡ re
   pub settled_gone : (x : MarkedConnection) (n : FinMap conn_cmp MarkedConnection) → n ≡ settled k x m → is_done_at (Some x) ≡ is_none (get (all_of n) k)
   settled_gone x n e =
       gone_at x (is_done_at (Some x)) ∙ ap (λ o. is_none (get o k)) (sym e) ∙ none_in (get n k) ∙ ap is_none (sym (get_values connection_in n k))
+
+is_zero : (n : ℕ) → (n == 0) ≡ true → n ≡ 0
+is_zero n e = grind (arith, nat_tests)
+
+no_length : {A : Type 0} (xs : List A) → length xs ≡ 0 → xs ≡ []
+no_length [] e = refl
+no_length (x ∷ xs) e = absurd (omega (arith, e))
+
+-- the test of an outbox without a message
+pub none_waits : (l : MarkedConnection) (b : Bool) → b ≡ (length l.connection.outbox == 0) → b ≡ true → HasNoneAt (Some l)
+none_waits l b is t = no_length l.connection.outbox (is_zero _ (sym is ∙ t))
+
+-- where no message waits, none is handed
+pub none_handed : (r : Option MarkedConnection) → HasNoneAt r → outbox_at (option_map connection_in r) ≡ []
+none_handed None h = absurd h
+none_handed (Some l) h = h
+
+pub none_there : (r : Option MarkedConnection) → HasNoneAt r → false ≡ is_none (option_map connection_in r)
+none_there None h = absurd h
+none_there (Some l) h = refl
+
+module _ (all : FinMap conn_cmp MarkedConnection) (k : ConnNo) (most : ℕ) where
+  handed_at : (r : Option MarkedConnection) → HasNoneAt r → r ≡ get all k → changed_at r k (linked (less_first most)) all ≡ all
+  handed_at None h e = absurd h
+  handed_at (Some l) h e =
+      ap (insert all k) (λ i. record l { connection = record (l.connection) { outbox = (ap (drop most) h ∙ drop-nil most ∙ sym h) i } }) ∙ put_same all k l e
+
+  -- and the connections stay as they are
+  pub none_left : HasNoneAt (get all k) → IsAlive all → all ≡ left (change k (linked (less_first most)) all)
+  none_left h a = sym (ap left (handed_at (get all k) h refl) ∙ left_alive all a)
 
 -- both parts of what is seen are the same
 same_shown : (a b : ConnectionStore) → a.connections ≡ b.connections → a.spare ≡ b.spare → a ≡ b

@@ -1,5 +1,5 @@
 -- What the store is seen as: a finite map from numbers to connections, each with whether a claimed run has its first input.
-use Rattle.std.specs.Prelude.{◌≡◌, ℕ, refl, ◌&&◌, not, Bool, true, false, Option, None, Some, List, drop, if◌then◌else◌}
+use Rattle.std.specs.Prelude.{◌≡◌, ℕ, refl, ◌&&◌, not, Bool, true, false, Option, None, Some, List, [], drop, if◌then◌else◌}
 use Rattle.std.specs.Coded.{Coded, code_by, coded×, coded_ℕ, coded_bool, coded_list}
 use Rattle.std.specs.FinMap.{FinMap, code, get, insert, retain_keys}
 use Rattle.dk_types.specs.declared.number.ConnNo.{ConnNo}
@@ -94,6 +94,11 @@ change_some (Some conn) f all = change conn f all
 abbrev pub is_done_at : Option MarkedConnection → Bool
 is_done_at None = false
 is_done_at (Some l) = is_done (Some l.connection)
+
+-- what was found is a connection for which no message waits
+abbrev pub HasNoneAt : Option MarkedConnection → Type 0
+HasNoneAt None = ⊥
+HasNoneAt (Some l) = l.connection.outbox ≡ []
 
 -- the connections without those that are over and have nothing left to hand
 abbrev pub left : FinMap conn_cmp MarkedConnection → FinMap conn_cmp MarkedConnection

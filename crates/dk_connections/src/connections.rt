@@ -1,5 +1,5 @@
 // The store.
-ghost use Rattle.std.specs.Prelude.{◌≡◌, ◌==◌, ◌+◌, ◌<◌, false, None, Some, IfOk, IfSome, OnOk, OnErr, take, drop, is_none};
+ghost use Rattle.std.specs.Prelude.{◌≡◌, ◌==◌, ◌+◌, ◌<◌, true, false, None, Some, IfOk, IfSome, OnOk, OnErr, take, drop, is_none};
 ghost use Rattle.std.specs.FinMap as map;
 ghost use Rattle.dk_types.specs.declared.number.ConnNo.{ConnNo};
 ghost use Rattle.dk_model.specs.declared.waiting.Waiting.TheVariants as waits;
@@ -8,7 +8,7 @@ ghost use Rattle.dk_model.specs.Openings.{ended_connection};
 ghost use Rattle.dk_model.specs.Deliveries.{change_connection, without_done};
 ghost use Rattle.dk_model.specs.Events.{is_open_at, outbox_at, put_last};
 ghost use Rattle.dk_model.specs.Picks.{pick_input};
-ghost use Rattle.dk_connections.specs.MarkedConnections.{all_of, change, left, less_first, linked, released, unclaimed, with_turn, IsSwept};
+ghost use Rattle.dk_connections.specs.MarkedConnections.{all_of, change, left, less_first, linked, released, unclaimed, with_turn, HasNoneAt, IsAlive, IsSwept};
 ghost use Rattle.dk_connections.specs.Posts.{PostAnswer};
 ghost use Rattle.dk_connections.specs.Ready.{first_at, job_at, least_ready as least_ready_of, HasConnections, HasInput, IsReadyAt};
 
@@ -211,6 +211,17 @@ impl Connections {
         self.add(conn, slot);
     }
 
+    /// Whether a connection is there and no message waits for it.
+    fn has_none_for(&self, conn: ConnNo) -> bool
+        ensures none { result ≡ true → HasNoneAt (map.get self.now.connections conn) }
+        ensures alive { IsAlive self.now.connections }
+    {
+        match self.slots.get(&conn) {
+            Some(slot) => slot.has_none(),
+            None => false,
+        }
+    }
+
     /// Hands a connection's first messages, `most` of them or all. A connection that is over and has none left is gone.
     /// The list alone takes memory; refused, it changes nothing.
     pub fn hand(&mut self, conn: ConnNo, most: u32) -> Result<Handed, NoMemory>
@@ -221,6 +232,13 @@ impl Connections {
         ensures swept { IsSwept self.new.connections }
         ensures refused { OnErr result (self.new ≡ self.old) }
     {
+        // A client that waits for its messages asks often: where there are none, both trees stay as they are.
+        if self.has_none_for(conn) {
+            return Ok(Handed {
+                outs: Listed::from_vec(Vec::new(self.alloc)),
+                end: false,
+            });
+        }
         let Some(mut slot) = self.take(conn) else {
             return Ok(Handed {
                 outs: Listed::from_vec(Vec::new(self.alloc)),

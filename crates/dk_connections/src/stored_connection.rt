@@ -1,5 +1,5 @@
 // A connection, as the store keeps it.
-ghost use Rattle.std.specs.Prelude.{◌≡◌, ◌==◌, ◌<◌, ◌||◌, not, take, false, Some, IfOk, OnOk, OnErr};
+ghost use Rattle.std.specs.Prelude.{◌≡◌, ◌==◌, ◌<◌, ◌||◌, length, not, take, false, Some, IfOk, OnOk, OnErr};
 ghost use Rattle.dk_types.specs.declared.limits.TheConstants.{INPUTS_MOST_COUNT};
 ghost use Rattle.dk_model.specs.declared.waiting.Waiting.TheVariants as waits;
 ghost use Rattle.dk_model.specs.Worlds.{new_connection};
@@ -105,6 +105,13 @@ impl StoredConnection {
         ensures { result ≡ is_done_at (Some self.now.connection) }
     {
         self.over && self.outbox.is_empty()
+    }
+
+    /// Whether no message waits to be handed.
+    pub(crate) fn has_none(&self) -> bool
+        ensures { result ≡ (length self.now.connection.outbox == 0) }
+    {
+        self.outbox.is_empty()
     }
 
     /// Whether it takes inputs.

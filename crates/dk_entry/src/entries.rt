@@ -145,6 +145,15 @@ pub fn encode_entries(alloc: Global, entries: &[Entry]) -> Result<Blob, NoMemory
     Ok(writer.finish())
 }
 
+/// So many bytes are enough for most commits with these effects, whose objects are copied once by this.
+fn room_for(effects: &Effects) -> usize {
+    let mut room = ROOM_BYTES;
+    for (_, object) in effects.written.as_slice() {
+        room = room.saturating_add(object.bytes.as_slice().len());
+    }
+    room
+}
+
 /// The payload of the one entry that has these fields, as `encode_entries` writes it.
 #[tactic(auto, using(crate::proofs::OneEntry::spelled_alone))]
 pub fn encode_commit(
@@ -155,7 +164,7 @@ pub fn encode_commit(
 ) -> Result<Blob, NoMemory>
     ensures { IfOk result (λ payload. payload ≡ entries_spelling (record { seq = seq; run = run; effects = effects.now } ∷ [])) }
 {
-    let mut writer = Writer::with_capacity(alloc, ROOM_BYTES)?;
+    let mut writer = Writer::with_capacity(alloc, room_for(effects))?;
     writer.put_u32(1)?;
     put_commit::<SecondFormat>(&mut writer, seq, run, effects)?;
     Ok(writer.finish())

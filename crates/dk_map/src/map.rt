@@ -143,11 +143,22 @@ impl<K: Ord + Drop, V: Drop> OrderedMap<K, V> {
         if self.tree.swap(&key, &mut value) {
             return Some(value);
         }
+        self.insert_new(key, value);
+        None
+    }
+
+    /// Puts a value at a key that is not there, and so does not look for it first. It uses one of `spare`, and no memory.
+    pub fn insert_new(&mut self, key: K, value: V)
+        requires absent { find K.cmp key self.old.entries ≡ None }
+        requires room { 0 < self.old.spare }
+        ensures entries { self.new.entries ≡ put K.cmp key value self.old.entries }
+        ensures spare { self.new.spare + 1 ≡ self.old.spare }
+        ensures ordered { IsOrdered K.cmp self.new.entries }
+    {
         prove!(self.tree.height() < 128);
         let mut entry = Some((key, value));
         self.tree.insert(&mut entry, &mut self.cells);
         self.len += 1;
-        None
     }
 
     /// Changes the value at a key where it stands, if there is one, and gives what the change answers. Nothing is moved.

@@ -4,7 +4,7 @@ ghost use Rattle.std.specs.FinMap as map;
 ghost use Rattle.std.specs.Option.{option_map};
 ghost use Rattle.dk_objects.specs.StampedObjects.{restamped};
 
-use dk_map::OrderedMap;
+use dk_hashed::HashedMap;
 use dk_types::{NoMemory, Object, ObjectId};
 use std::alloc::Global;
 use std::marker::Model;
@@ -12,7 +12,7 @@ use std::marker::Model;
 /// The managed objects, each with its stamp: the number of the commit that wrote it last.
 #[derive(Drop)]
 pub struct Objects {
-    objects: OrderedMap<ObjectId, (Object, u64)>,
+    objects: HashedMap<ObjectId, (Object, u64)>,
 }
 
 impl Model for Objects {
@@ -37,7 +37,7 @@ impl Objects {
         ensures spare { result.spare ≡ 0 }
     {
         Objects {
-            objects: OrderedMap::new(alloc),
+            objects: HashedMap::new(alloc),
         }
     }
 
@@ -87,10 +87,10 @@ impl Objects {
         self.objects.insert(id, (object, stamp));
     }
 
-    /// Takes out the object under an id, if there is one. Its room is spare from then on.
+    /// Takes out the object under an id, if there is one. What room there was stays, and mostly its own is spare from then on.
     pub fn remove(&mut self, id: ObjectId)
         ensures objects { self.new.objects ≡ map.remove self.old.objects id }
-        ensures spare { self.new.spare ≡ self.old.spare + (if map.contains_key self.old.objects id then 1 else 0) }
+        ensures spare { self.old.spare ≤ self.new.spare }
     {
         self.objects.remove(&id);
     }
@@ -103,7 +103,7 @@ impl Objects {
         self.objects.change(&id, |stamped| stamped.1 = stamp);
     }
 
-    /// All objects in the order of their ids, in one walk. Only the list itself takes memory.
+    /// All objects in the order of their ids. Only the list itself, and what sorts it, take memory.
     pub fn entries(&self, alloc: Global) -> Result<Vec<(&ObjectId, &(Object, u64))>, NoMemory>
         ensures { IfOk result (λ list. list_map (λ e. (e.0.now, e.1.now)) list.items ≡ map.entries self.now.objects) }
     {

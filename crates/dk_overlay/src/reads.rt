@@ -1,5 +1,5 @@
 //! What a run has read, in the order in which it first asked.
-ghost use Rattle.std.specs.Prelude.{◌≡◌, ◌++◌, ◌∷◌, [], OnOk, OnErr, IfOk, IfSome, IfNone};
+ghost use Rattle.std.specs.Prelude.{◌≡◌, ◌≤◌, ◌++◌, ◌∷◌, [], OnOk, OnErr, IfOk, IfSome, IfNone};
 ghost use Rattle.dk_types.specs.declared.item.Read.{Read};
 ghost use Rattle.dk_overlay.specs.Asked.{WasRead, WasNotRead, WasAnswered, IsOnce, IsIndexedLong};
 
@@ -12,6 +12,9 @@ use std::marker::Model;
 
 /// So many reads are looked through one by one. A run of more has an index of them.
 pub(crate) const FEW_READS: usize = 8;
+
+/// Room for so many more is made behind these.
+const MANY_READS: usize = 56;
 
 /// Reads in the order in which they were made, and the places of their items among them, once there are many.
 pub struct Reads {
@@ -55,6 +58,14 @@ fn read_among<'a>(list: &'a [(Item, Read)], item: &Item) -> Option<&'a Read>
         }
     }
     None
+}
+
+/// For how many reads room is made behind so many, where there is none: a run of more than a few mostly makes many, and a
+/// long list is costly to move.
+fn room_behind(count: usize) -> usize
+    ensures { 1 ≤ result }
+{
+    if count == FEW_READS { MANY_READS } else { 1 }
 }
 
 /// Gives the item that comes next in a list its place, where there are many. Where they become many, all get their places.
@@ -123,7 +134,7 @@ impl Reads {
         ensures ok { OnOk result (self.new ≡ self.old ++ (item, read) ∷ []) }
         ensures err { OnErr result (self.new ≡ self.old) }
     {
-        self.list.reserve(1)?;
+        self.list.reserve(room_behind(self.list.len()))?;
         add_place(&mut self.index, self.alloc, self.list.as_slice(), &item)?;
         self.list.push_reserved((item, read));
         Ok(())

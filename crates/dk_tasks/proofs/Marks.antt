@@ -9,7 +9,7 @@ use Rattle.dk_tasks.specs.declared.stored.Stored.{Stored}
 use Rattle.dk_tasks.specs.declared.stored.TaskRank.{TaskRank}
 use Rattle.dk_tasks.proofs.Found.{found_of_all}
 use Rattle.dk_tasks.proofs.Orders.{key_same}
-use Rattle.dk_tasks.proofs.Spares.{place_out, place_in, spare_claimed, spare_freed, spare_kept}
+use Rattle.dk_tasks.proofs.Spares.{place_out, place_in, spare_claimed, spare_freed, spare_kept, nowhere}
 use Rattle.dk_tasks.proofs.Steps.{step_same, step_claimed, step_freed, hidden}
 
 -- what a change of the mark tells
@@ -38,6 +38,10 @@ module _ (t : List (TaskKey × Stored)) (p : List (TaskRank × Unit {0})) (i : I
         let out = place_out t p i k s f a b n v fits free q at r was b' g in
         let room = spare_claimed t p i k s f a b n v fits (claimed_at claimed s) t' e a' d free now b' out in
         (step_claimed t p i k s (claimed_at claimed s) f key t' e p' ordered free now (gone ∙ ap (λ x. without place_cmp x p) at), room.0, room.1)
+
+    -- what a run has has no place
+    pub held_absent : s.claimed ≡ true → find place_cmp q p ≡ None
+    held_absent held = nowhere _ (ap (λ x. is_some (find place_cmp x p)) at ∙ hidden t p i k s f held (place_of k s) refl)
 
     -- no run has it any more
     pub marked_freed : s.claimed ≡ true → claimed ≡ false → (r : Option (Unit {0})) → r ≡ find place_cmp q p → (b' : ℕ) → b' + (if is_some r then 0 else 1) ≡ b

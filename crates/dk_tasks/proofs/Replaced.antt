@@ -10,7 +10,7 @@ use Rattle.dk_tasks.proofs.Found.{found_of_all}
 use Rattle.dk_tasks.proofs.Held.{held_put}
 use Rattle.dk_tasks.proofs.Orders.{key_same}
 use Rattle.dk_tasks.proofs.Rooms.{free_in}
-use Rattle.dk_tasks.proofs.Spares.{place_out, place_in, room_kept, spare_freed, spare_kept}
+use Rattle.dk_tasks.proofs.Spares.{place_out, place_in, room_kept, spare_freed, spare_kept, nowhere}
 use Rattle.dk_tasks.proofs.Steps.{step_in, step_freed, step_moved, hidden, not_placed, own_without}
 
 module _ (t : List (TaskKey × Stored)) (p : List (TaskRank × Unit {0})) (i : IsInStep t p) (k : TaskKey) (new : Stored) (key : new.task.key ≡ k) (stays : new.claimed ≡ false) (t' : List (TaskKey × Stored)) (ordered : IsOrdered key_cmp t') (e : t' ≡ put key_cmp k new t) (a b n : ℕ) (v : min a (b - held_count t) ≡ n) (fits : held_count t ≤ b) (less : List (TaskRank × Unit {0})) (c : ℕ) where
@@ -25,6 +25,17 @@ module _ (t : List (TaskKey × Stored)) (p : List (TaskRank × Unit {0})) (i : I
   pub vacated_room : (old : Option Stored) → old ≡ find key_cmp k t → (find key_cmp k t ≡ None → 0 < n) → IsVacated old p less b c → 0 < c
   vacated_room None was room left = omega (arith, room (sym was), left.1, v)
   vacated_room (Some s) was room left = left_room s s.claimed (sym was) refl left
+
+  -- and nothing stands at the new place
+  left_absent : (s : Stored) (claimed : Bool) → find key_cmp k t ≡ Some s → s.claimed ≡ claimed → IsLeft claimed (place_of s.task.key s) p less b c → find place_cmp (place_of k new) less ≡ None
+  left_absent s true f held left = nowhere _ (ap (λ es. is_some (find place_cmp (place_of k new) es)) left.0 ∙ hidden t p i k s f held (place_of k new) refl)
+  left_absent s false f free left =
+      let at = ap (λ j. place_of j s) (found_of_all key_same IsKeyed t i.keyed k s f) in
+      nowhere _ (ap (λ es. is_some (find place_cmp (place_of k new) es)) (left.0 ∙ ap (λ q. without place_cmp q p) at) ∙ own_without t p i k s f free (place_of k new) refl)
+
+  pub vacated_absent : (old : Option Stored) → old ≡ find key_cmp k t → IsVacated old p less b c → find place_cmp (place_of k new) less ≡ None
+  vacated_absent None was left = nowhere _ (ap (λ es. is_some (find place_cmp (place_of k new) es)) left.0 ∙ not_placed t p i k new (sym was) new)
+  vacated_absent (Some s) was left = left_absent s s.claimed (sym was) refl left
 
   module _ (a' : ℕ) (p' : List (TaskRank × Unit {0})) (more : p' ≡ put place_cmp (place_of k new) tt less) (places_ordered : IsOrdered place_cmp p') (r : Option (Unit {0})) (found : r ≡ find place_cmp (place_of k new) less) (b' : ℕ) (into : b' + (if is_some r then 0 else 1) ≡ c) where
     -- the room that the new place takes

@@ -4,12 +4,12 @@ use Rattle.dk_tasks.proofs.Held.{one_held}
 
 module _ (a b c n : ℕ) (v : min a (b - c) ≡ n) (fits : c ≤ b) (a' b' c' : ℕ) where
   -- a task less that no run has
-  pub free_out : (x : Bool) → x ≡ false → a' ≡ a + 1 → b' ≡ b + 1 → c' + one_held x ≡ c → (min a' (b' - c') ≡ n + 1) × (c' ≤ b')
+  pub free_out : (x : Bool) → x ≡ false → a ≤ a' → b' ≡ b + 1 → c' + one_held x ≡ c → (n ≤ min a' (b' - c')) × (c' ≤ b')
   free_out true p d e f = cc
   free_out false p d e f = (omega arith, omega arith)
 
   -- and one that a run has
-  pub held_out : (x : Bool) → x ≡ true → a' ≡ a + 1 → c' + one_held x ≡ c → (min a' (b - c') ≡ n + 1) × (c' ≤ b)
+  pub held_out : (x : Bool) → x ≡ true → a ≤ a' → c' + one_held x ≡ c → (n ≤ min a' (b - c')) × (c' ≤ b)
   held_out true p d f = (omega arith, omega arith)
   held_out false p d f = cc
 

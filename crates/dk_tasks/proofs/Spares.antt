@@ -1,5 +1,6 @@
 -- What there is room for after a task is taken out, or changed: a is the room of the tasks, b that of the places.
-use Rattle.std.proofs.Common.{◌≡◌, ℕ, ◌+◌, ◌-◌, ◌<◌, ◌≤◌, min, if◌then◌else◌, refl, sym, ap, subst, ◌∙◌, true, false, List, Option, Some, is_some, arith}
+use Rattle.std.proofs.Common.{◌≡◌, ℕ, ◌+◌, ◌-◌, ◌<◌, ◌≤◌, min, if◌then◌else◌, refl, sym, ap, subst, ◌∙◌, true, false, List, Option, None, Some, is_some, arith}
+use mathlib.Core.Bool.{true≢false}
 use Rattle.std.specs.Option.{option_map}
 use Rattle.dk_types.specs.declared.number.TaskKey.{TaskKey}
 use Rattle.dk_map.specs.Entries.{find, put, without}
@@ -27,10 +28,10 @@ module _ (t : List (TaskKey × Stored)) (p : List (TaskRank × Unit {0})) (i : I
   counted_now s' t' e = ap (λ es. held_count es + one_held s.claimed) e ∙ held_changed t i.ordered k s f s'
 
   -- a task is taken out that no run has, and one that a run has
-  pub spare_out : s.claimed ≡ false → (t' : List (TaskKey × Stored)) → t' ≡ without key_cmp k t → (a' b' : ℕ) → a' ≡ a + 1 → b' ≡ b + 1 → (min a' (b' - held_count t') ≡ n + 1) × (held_count t' ≤ b')
+  pub spare_out : s.claimed ≡ false → (t' : List (TaskKey × Stored)) → t' ≡ without key_cmp k t → (a' b' : ℕ) → a ≤ a' → b' ≡ b + 1 → (n ≤ min a' (b' - held_count t')) × (held_count t' ≤ b')
   spare_out free t' e a' b' d g = free_out a b (held_count t) n v fits a' b' (held_count t') s.claimed free d g (counted_out t' e)
 
-  pub spare_held_out : s.claimed ≡ true → (t' : List (TaskKey × Stored)) → t' ≡ without key_cmp k t → (a' : ℕ) → a' ≡ a + 1 → (min a' (b - held_count t') ≡ n + 1) × (held_count t' ≤ b)
+  pub spare_held_out : s.claimed ≡ true → (t' : List (TaskKey × Stored)) → t' ≡ without key_cmp k t → (a' : ℕ) → a ≤ a' → (n ≤ min a' (b - held_count t')) × (held_count t' ≤ b)
   spare_held_out held t' e a' d = held_out a b (held_count t) n v fits a' b (held_count t') s.claimed held d (counted_out t' e)
 
   module _ (s' : Stored) (t' : List (TaskKey × Stored)) (e : t' ≡ put key_cmp k s' t) (a' : ℕ) (d : a' ≡ a) where
@@ -58,3 +59,8 @@ module _ (t : List (TaskKey × Stored)) (p : List (TaskRank × Unit {0})) (i : I
 -- room that a new place takes
 pub place_in : (b b' : ℕ) (r : Option (Unit {0})) → is_some r ≡ false → b' + (if is_some r then 0 else 1) ≡ b → b' + 1 ≡ b
 place_in b b' r none e = subst (λ x. b' + (if x then 0 else 1) ≡ b) none e
+
+-- nothing is there where a test says so
+pub nowhere : {A : Type 0} (r : Option A) → is_some r ≡ false → r ≡ None
+nowhere None h = refl
+nowhere (Some x) h = absurd (true≢false h)

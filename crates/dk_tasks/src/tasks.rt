@@ -13,6 +13,7 @@ ghost use Rattle.dk_map.specs.Entries.{find, put};
 ghost use Rattle.dk_model.specs.Keys.{key_cmp};
 
 use crate::stored::{Stored, TaskRank};
+use dk_hashed::HashedMap;
 use dk_map::OrderedMap;
 use dk_types::{NoMemory, Pending, TaskKey};
 use std::alloc::Global;
@@ -22,7 +23,7 @@ use std::marker::Model;
 /// store is dropped.
 #[derive(Drop)]
 pub struct Tasks {
-    tasks: OrderedMap<TaskKey, Stored>,
+    tasks: HashedMap<TaskKey, Stored>,
     places: OrderedMap<TaskRank, ()>,
 }
 
@@ -41,7 +42,7 @@ impl Model for Tasks {
 }
 
 /// Gives a task another due moment, and tells the old one and whether a run has it. Its place is not moved.
-fn set_due(tasks: &mut OrderedMap<TaskKey, Stored>, key: TaskKey, due: u64) -> Option<(u64, bool)>
+fn set_due(tasks: &mut HashedMap<TaskKey, Stored>, key: TaskKey, due: u64) -> Option<(u64, bool)>
     ensures moved { IsMoved key due tasks.old.entries tasks.new.entries result }
     ensures spare { tasks.new.spare ≡ tasks.old.spare }
 {
@@ -54,7 +55,7 @@ fn set_due(tasks: &mut OrderedMap<TaskKey, Stored>, key: TaskKey, due: u64) -> O
 
 /// Marks whether a claimed run has a task, and tells its due moment and how it was marked. Its place is not moved.
 fn set_claim(
-    tasks: &mut OrderedMap<TaskKey, Stored>,
+    tasks: &mut HashedMap<TaskKey, Stored>,
     key: TaskKey,
     claimed: bool,
 ) -> Option<(u64, bool)>
@@ -90,7 +91,7 @@ impl Tasks {
         ensures spare { result.spare ≡ 0 }
     {
         Tasks {
-            tasks: OrderedMap::new(alloc),
+            tasks: HashedMap::new(alloc),
             places: OrderedMap::new(alloc),
         }
     }
@@ -109,7 +110,7 @@ impl Tasks {
         let Some(places) = more.checked_add(held) else {
             return Err(NoMemory);
         };
-        // The tree with more room comes first: `spare` is that of the other, so that a refusal leaves it.
+        // The map with more room comes first: `spare` is that of the other, so that a refusal leaves it.
         if self.tasks.spare() < self.places.spare() - held {
             self.places.reserve(places)?;
             self.tasks.reserve(more)?;
@@ -174,7 +175,7 @@ impl Tasks {
         Some(place.key)
     }
 
-    /// All tasks in the order of their keys, in one walk. Only the list itself takes memory.
+    /// All tasks in the order of their keys. Only the list itself, and what sorts it, take memory.
     pub fn in_order(&self, alloc: Global) -> Result<Vec<&Pending>, NoMemory>
         ensures { IfOk result (λ list. list_map (λ task. task.now) list.items ≡ list_map pending_of (map.entries (durable_tasks self.now.tasks))) }
     {
@@ -201,22 +202,22 @@ impl Tasks {
         let place = stored.place();
         let old = self.tasks.insert(place.key, stored);
         vacate(&mut self.places, old);
-        self.places.insert(place, ());
+        self.places.insert_new(place, ());
     }
 
-    /// Takes a task out. Its room is spare from then on.
+    /// Takes a task out. What room there was stays, and mostly its own is spare from then on.
     pub fn cancel(&mut self, key: TaskKey)
         requires pending { map.contains_key self.old.tasks key ≡ true }
         ensures tasks { self.new.tasks ≡ map.remove self.old.tasks key }
-        ensures spare { self.new.spare ≡ self.old.spare + 1 }
+        ensures spare { self.old.spare ≤ self.new.spare }
     {
         self.take(key);
     }
 
-    /// Takes a task out, if it is pending. Its room is spare from then on.
+    /// Takes a task out, if it is pending. What room there was stays, and mostly its own is spare from then on.
     pub fn remove(&mut self, key: TaskKey)
         ensures tasks { self.new.tasks ≡ map.remove self.old.tasks key }
-        ensures spare { self.new.spare ≡ self.old.spare + (if map.contains_key self.old.tasks key then 1 else 0) }
+        ensures spare { self.old.spare ≤ self.new.spare }
     {
         self.take(key);
     }
@@ -260,7 +261,7 @@ impl Tasks {
         if claimed {
             self.places.remove(&place);
         } else {
-            self.places.insert(place, ());
+            self.places.insert_new(place, ());
         }
     }
 
@@ -269,7 +270,7 @@ impl Tasks {
         ensures found { option_map kept_of result ≡ map.get self.old.tasks key }
         ensures same_key { IfSome result (λ stored. stored.task.key ≡ key) }
         ensures tasks { self.new.tasks ≡ map.remove self.old.tasks key }
-        ensures spare { self.new.spare ≡ self.old.spare + (if map.contains_key self.old.tasks key then 1 else 0) }
+        ensures spare { self.old.spare ≤ self.new.spare }
     {
         let Some((_, stored)) = self.tasks.remove(&key) else {
             return None;

@@ -84,8 +84,18 @@ pub fn put_list<T, F: Form<T>>(writer: &mut Writer, items: &[T]) -> Result<(), N
     Ok(())
 }
 
-/// A list begins with room for its items, but for so many at most: its count alone is no reason to take more.
-const FIRST_ITEMS: usize = 16;
+/// A list begins with room for so many items at least, if it has them.
+const FIRST_ITEMS_LEAST: usize = 16;
+
+/// And for so many at most.
+const FIRST_ITEMS_MOST: usize = 65_536;
+
+/// For how many items of a list of this count there is room at first: one to eight of the bytes that are left, within these
+/// bounds. A count alone is no reason to take more.
+fn first_room(reader: &Reader<'_>, count: u32) -> usize {
+    let ahead = reader.rest.len() / 8;
+    (count as usize).min(ahead.clamp(FIRST_ITEMS_LEAST, FIRST_ITEMS_MOST))
+}
 
 /// Takes a list: its count, and that many items, each behind the one before it.
 #[tactic(auto, unfolding(dk_types::specs::Lists::list_at))]
@@ -109,7 +119,7 @@ fn take_items<'a, T: Drop, F: Form<T>>(
 ) -> Result<(Listed<T>, Reader<'a>), PayloadRefused>
     ensures { GivesBack (items_at F.reading None count) reader.entry result }
 {
-    let mut items: Vec<T> = Vec::with_capacity(alloc, FIRST_ITEMS.min(count as usize))?;
+    let mut items: Vec<T> = Vec::with_capacity(alloc, first_room(&reader, count))?;
     for _ in 0..count {
         let (item, behind) = F::take(alloc, reader, items.last())?;
         items.push(item)?;

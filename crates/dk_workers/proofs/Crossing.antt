@@ -4,11 +4,12 @@ use denote.Param.SendFields.{as_row_send, as_row_sync, declared_send, declared_s
 use Rattle.std.proofs.Crossing.{crosses}
 use Rattle.std.proofs.option.Option.TheSendSync as options
 use Rattle.dk_map.proofs.tree.Tree.TheLaws.TheKnot as knot
+use Rattle.dk_hashed.proofs.hashed.HashedMap.TheSendSync as hashed
+use Rattle.dk_objects.proofs.objects.Objects.TheSendSync as stored_objects
 use Rattle.dk_types.proofs.number.ObjectId.TheSendSync as ids
 use Rattle.dk_types.proofs.number.ConnNo.TheSendSync as conns
 use Rattle.dk_types.proofs.number.RunNo.TheSendSync as runs
 use Rattle.dk_types.proofs.number.TaskKey.TheSendSync as keys
-use Rattle.dk_types.proofs.object.Object.TheSendSync as object
 use Rattle.dk_types.proofs.name.Name.TheSendSync as name
 use Rattle.dk_tasks.proofs.stored.Stored.TheSendSync as task
 use Rattle.dk_tasks.proofs.stored.TaskRank.TheSendSync as task_rank
@@ -52,13 +53,13 @@ use Rattle.dk_workers.specs.contracts.team.Team as team
 use Rattle.dk_host.specs.contracts.book.WorldBook.TheInside as inside
 
 pub objects_send : IsSend objects.the_row
-objects_send = search (sendable, crosses, knot.crosses, options.the_send, ids.the_send, object.the_send) depth 40 fits 20000
+objects_send = stored_objects.the_send
 
 pub names_send : IsSend names.the_row
 names_send = search (sendable, crosses, knot.crosses, options.the_send, ids.the_send, name.the_send) depth 40 fits 20000
 
 pub tasks_send : IsSend tasks.the_row
-tasks_send = search (sendable, crosses, knot.crosses, options.the_send, keys.the_send, task.the_send, task_rank.the_send) depth 20
+tasks_send = search (sendable, crosses, hashed.the_send, knot.crosses, options.the_send, keys.the_send, task.the_send, task_rank.the_send) depth 20
 
 pub connections_send : IsSend connections.the_row
 connections_send = search (sendable, crosses, knot.crosses, options.the_send, conns.the_send, connection.the_send, connection_rank.the_send) depth 20

@@ -4,12 +4,30 @@ use Rattle.dk_model.specs.Deliveries.{without_done}
 use Rattle.dk_model.specs.Events.{outbox_at}
 use Rattle.dk_connections.specs.MarkedConnections.{all_of, less_first, linked}
 use Rattle.dk_connections.proofs.Changes.{all_of-change, all_of-left, swept_alive}
-use Rattle.dk_connections.proofs.Kept.{absent, alive_out, found_in, left_unchanged, restored, settled_by, settled_gone, swept_none}
+use Rattle.dk_connections.proofs.Kept.{absent, alive_out, found_in, left_unchanged, none_handed, none_left, none_there, restored, settled_by, settled_gone, swept_none}
 use Rattle.dk_connections.proofs.connections.Connections.hand.Goals as goal
+
+pub returns-then-has_none_for-clause-handed : goal.returns-then-has_none_for-clause-handed
+returns-then-has_none_for-clause-handed c =
+    c.from_vec.ensures ∙ c.new.ensures.items ∙ sym (take-nil c.args.most)
+    ∙ ap (take c.args.most) (sym (ap outbox_at (found_in _ c.args.conn _ refl) ∙ none_handed _ (c.has_none_for.ensures.none c.if-has_none_for.true)))
+
+pub returns-then-has_none_for-clause-linked : goal.returns-then-has_none_for-clause-linked
+returns-then-has_none_for-clause-linked c = none_left _ c.args.conn c.args.most (c.has_none_for.ensures.none c.if-has_none_for.true) c.has_none_for.ensures.alive
+
+pub returns-then-has_none_for-clause-world : goal.returns-then-has_none_for-clause-world
+returns-then-has_none_for-clause-world c =
+    ap all_of (returns-then-has_none_for-clause-linked c) ∙ all_of-left _ ∙ ap without_done (all_of-change _ c.args.conn (linked (less_first c.args.most)) (less_first c.args.most) (λ l. refl))
+
+pub returns-then-has_none_for-clause-end : goal.returns-then-has_none_for-clause-end
+returns-then-has_none_for-clause-end c = none_there _ (c.has_none_for.ensures.none c.if-has_none_for.true) ∙ sym (ap is_none (found_in _ c.args.conn _ refl))
+
+pub returns-then-has_none_for-clause-swept : goal.returns-then-has_none_for-clause-swept
+returns-then-has_none_for-clause-swept c = swept_alive _ c.has_none_for.ensures.alive
 
 pub returns-in_default-clause-handed : goal.returns-in_default-clause-handed
 returns-in_default-clause-handed c =
-    c.from_vec.ensures ∙ c.new.ensures.items ∙ sym (take-nil c.args.most) ∙ ap (λ r. take c.args.most (outbox_at r)) (sym (found_in _ c.args.conn _ c.in_default.ensures.found))
+    c.from_vec-in_default.ensures ∙ c.new-in_default.ensures.items ∙ sym (take-nil c.args.most) ∙ ap (λ r. take c.args.most (outbox_at r)) (sym (found_in _ c.args.conn _ c.in_default.ensures.found))
 
 pub returns-in_default-clause-linked : goal.returns-in_default-clause-linked
 returns-in_default-clause-linked c = left_unchanged _ _ c.args.conn c.in_default.ensures.connections (linked (less_first c.args.most)) c.in_default.ensures.found c.in_default.ensures.alive

@@ -1,4 +1,5 @@
-use Rattle.std.proofs.Common.{List, ap, sym, subst, ◌∙◌}
+use Rattle.std.proofs.Common.{◌<◌, List, ap, sym, subst, ◌∙◌}
+use Rattle.std.specs.List.{All}
 use Rattle.std.specs.FinMap.{len}
 use Rattle.std.proofs.lemmas.List.Elements.{All-weaker}
 use Rattle.dk_types.specs.declared.event.Event.{Event}
@@ -16,6 +17,10 @@ returns-clause-fronts g c =
     let log = c.into_parts-history.result.0 in
     All-weaker (λ (p : Known Event). Continues pass_of p.number p.front log) (λ (p : Known Event). IsFront p.number p.front log) (λ (p : Known Event) goes. front_of p.number p.front log goes) c.args.passes.items
     (subst (ContinuesAll pass_of c.args.passes.items) (sym (c.into_parts-history.ensures.history ∙ c.core.view_is)) c.close_with.ensures.fronts)
+
+pub returns-clause-named : goal.returns-clause-named
+returns-clause-named g c =
+    subst (λ (es : List Event). All (λ e. pass_of e < g.J.Naming.name.passes) es) (sym (c.into_parts-history.ensures.history ∙ c.core.view_is)) c.close_with.ensures.named
 
 pub returns-clause-legal : goal.returns-clause-legal
 returns-clause-legal g c = subst (IsLegal g.W.Hosting.opened) (sym c.into_parts-history.ensures.history) (legal g.W.Hosting.opened c.core.inside.history.events c.core.inside.core c.core.invariant.1)

@@ -29,10 +29,8 @@ pub returns-in_default-clause-spare : goal.returns-in_default-clause-spare
 returns-in_default-clause-spare c =
     let none = sym c.in_default.ensures.value in
     let same = ap held_count (c.in_default.ensures.entries ∙ without_absent key_cmp c.args.key c.self.inside.tasks.entries none) in
-    let absent = ap is_some c.in_default.ensures.value ∙ kept_some _ (ap (λ s. s.tasks) c.self.view_is) c.self.invariant.0.ordered c.args.key in
-    let no_more = ap {B = ℕ} (λ b. if b then 1 else 0) absent in
-    let room = as_before _ _ _ _ (ap (λ s. s.spare) c.self.view_is) c.self.invariant.1 c.remove.new.self.spare c.self.inside.places.spare _ (omega (arith, c.in_default.ensures.spare)) refl same in
-    omega (arith, room.0, no_more)
+    let room = as_before _ _ _ _ (ap (λ s. s.spare) c.self.view_is) c.self.invariant.1 c.remove.new.self.spare c.self.inside.places.spare _ (omega (arith, c.in_default.ensures.kept, c.in_default.ensures.at_most_one)) refl same in
+    omega (arith, room.0)
 
 pub invariant_of-self-then-not-stored : goal.invariant_of-self-then-not-stored
 invariant_of-self-then-not-stored c =
@@ -44,7 +42,7 @@ invariant_of-self-then-not-stored c =
     let place = c.place.ensures ∙ ap (λ k. place_of k s) key in
     let gone = c.remove-then-not-stored in (
       step_out _ _ i c.args.key s _ _ c.in-Some.ensures.ordered gone.ensures.ordered there free c.in-Some.ensures.entries (gone.ensures.entries ∙ ap (λ q. without place_cmp q c.self.inside.places.entries) place),
-      (spare_out _ _ i c.args.key s there _ _ _ (ap (λ s. s.spare) c.self.view_is) c.self.invariant.1 free _ c.in-Some.ensures.entries _ _ c.in-Some.ensures.spare
+      (spare_out _ _ i c.args.key s there _ _ _ (ap (λ s. s.spare) c.self.view_is) c.self.invariant.1 free _ c.in-Some.ensures.entries _ _ c.in-Some.ensures.kept
           (place_out _ _ i c.args.key s there _ _ _ (ap (λ s. s.spare) c.self.view_is) c.self.invariant.1 free _ place _ gone.ensures.value _ gone.ensures.spare)).1,
     )
 
@@ -54,7 +52,7 @@ invariant_of-self-else-not-stored c =
     let there = sym c.in-Some.ensures.value in
     let held : s.claimed ≡ true = cc in (
       step_held_out _ _ c.self.invariant.0 c.args.key s _ c.in-Some.ensures.ordered there held c.in-Some.ensures.entries,
-      (spare_held_out _ _ c.self.invariant.0 c.args.key s there _ _ _ (ap (λ s. s.spare) c.self.view_is) c.self.invariant.1 held _ c.in-Some.ensures.entries _ c.in-Some.ensures.spare).1,
+      (spare_held_out _ _ c.self.invariant.0 c.args.key s there _ _ _ (ap (λ s. s.spare) c.self.view_is) c.self.invariant.1 held _ c.in-Some.ensures.entries _ c.in-Some.ensures.kept).1,
     )
 
 pub returns : goal.returns
@@ -65,29 +63,27 @@ returns c =
     let there = sym c.in-Some.ensures.value in
     let key = found_of_all key_same IsKeyed _ i.keyed c.args.key s there in
     let tasks = kept_without _ v i.ordered c.args.key _ c.in-Some.ensures.entries in
-    let present = ap is_some c.in-Some.ensures.value ∙ kept_some _ v i.ordered c.args.key in
-    let one = ap {B = ℕ} (λ b. if b then 1 else 0) present in
     elim c.if-not-stored.branch [
       | then-not-stored w ↦
           let free : s.claimed ≡ false = cc in
           let gone = w.remove-then-not-stored in
           let place = w.place.ensures ∙ ap (λ k. place_of k s) key in
           let room =
-          spare_out _ _ i c.args.key s there _ _ _ (ap (λ s. s.spare) c.self.view_is) c.self.invariant.1 free _ c.in-Some.ensures.entries _ _ c.in-Some.ensures.spare
+          spare_out _ _ i c.args.key s there _ _ _ (ap (λ s. s.spare) c.self.view_is) c.self.invariant.1 free _ c.in-Some.ensures.entries _ _ c.in-Some.ensures.kept
           (place_out _ _ i c.args.key s there _ _ _ (ap (λ s. s.spare) c.self.view_is) c.self.invariant.1 free _ place _ gone.ensures.value _ gone.ensures.spare) in
           record {
             found = ap (option_map kept_of) c.in-Some.ensures.value ∙ kept_get _ v i.ordered c.args.key;
             same_key = key;
             tasks = rw w.self-is tasks;
-            spare = rw w.self-is (omega (arith, room.0, one));
+            spare = rw w.self-is room.0;
           }
       | else-not-stored w ↦
           let held : s.claimed ≡ true = cc in
-          let room = spare_held_out _ _ i c.args.key s there _ _ _ (ap (λ s. s.spare) c.self.view_is) c.self.invariant.1 held _ c.in-Some.ensures.entries _ c.in-Some.ensures.spare in
+          let room = spare_held_out _ _ i c.args.key s there _ _ _ (ap (λ s. s.spare) c.self.view_is) c.self.invariant.1 held _ c.in-Some.ensures.entries _ c.in-Some.ensures.kept in
           record {
             found = ap (option_map kept_of) c.in-Some.ensures.value ∙ kept_get _ v i.ordered c.args.key;
             same_key = key;
             tasks = rw w.self-is tasks;
-            spare = rw w.self-is (omega (arith, room.0, one));
+            spare = rw w.self-is room.0;
           }
     ]

@@ -1,0 +1,59 @@
+-- The rules of the sheets are lawful: each part of them, in the shape that it has.
+use Rattle.std.proofs.Common.{ℕ, zero, suc, Option, Some, None, List, [], ◌∷◌, All, lit<}
+use Rattle.std.proofs.lemmas.List.Elements.{All-nil, All-cons}
+use Rattle.dk_types.specs.declared.number.ObjectId.{ObjectId}
+use Rattle.dk_types.specs.declared.job.Job.{Job}
+use Rattle.dk_types.specs.declared.job.Job.TheVariants as job
+use Rattle.dk_types.specs.Fields.{u64_spelling, id_spelling}
+use Rattle.dk_types.specs.Payload.{next_id}
+use Rattle.dk_model.specs.Lawful.{IsForGame, AreLawful}
+use Rattle.dk_model.specs.Records.{value_of}
+use Rattle.dk_model.proofs.Acts.{Anything, AreBytes, IsLawful, lawful_rules, lawful_then, lawful_done}
+use Rattle.dk_model.proofs.Bytes.{bytes_of_u64, bytes_of_id, bytes_of_list}
+use Rattle.dk_model.proofs.Operations.{lawful_create, lawful_schedule}
+use Rattle.dk_model.proofs.ReferenceActs.{lawful_get_for_update_as, lawful_save_as}
+use Rattle.dk_bench.specs.declared.sheet.Sheet.{Sheet}
+use Rattle.dk_bench.specs.Sheet.{SHEET, sheet_bytes, sheet_of, blank, raised}
+use Rattle.dk_bench.specs.Rewriting.{plan, begin, rewrite_at, rewrite_found, sheets_rules}
+
+each_in_bytes : (numbers : List ℕ) → All (λ n. AreBytes (u64_spelling n)) numbers
+each_in_bytes [] = All-nil (λ n. AreBytes (u64_spelling n))
+each_in_bytes (n ∷ numbers) = All-cons (λ n. AreBytes (u64_spelling n)) n numbers (bytes_of_u64 n) (each_in_bytes numbers)
+
+-- a sheet is spelled in bytes
+bytes_of_sheet : (s : Sheet) → AreBytes (sheet_bytes s)
+bytes_of_sheet s = bytes_of_list u64_spelling s.numbers (each_in_bytes s.numbers)
+
+lawful_plan : {Needs : Type 0} → IsLawful Needs Anything plan
+unfolding plan
+lawful_plan =
+    lawful_then (lawful_create SHEET (sheet_bytes blank) (λ _. (lit< tt, bytes_of_sheet blank))) (λ id.
+    lawful_then (lawful_schedule 1 (id_spelling id) 0 (λ _. (lit< tt, bytes_of_id id))) (λ _.
+    lawful_done tt))
+
+lawful_begin : {Needs : Type 0} (sheets : ℕ) → IsLawful Needs Anything (begin sheets)
+lawful_begin zero = lawful_done tt
+lawful_begin (suc n) = lawful_then lawful_plan (λ _. lawful_begin n)
+
+lawful_rewrite_at : {Needs : Type 0} (id : ObjectId) → IsLawful Needs Anything (rewrite_at id)
+unfolding rewrite_at
+lawful_rewrite_at id =
+    lawful_then (lawful_get_for_update_as {Has = Anything} SHEET sheet_of id (λ bytes sheet are is. tt)) (λ sheet.
+    lawful_then (lawful_save_as SHEET id (sheet_bytes (raised sheet)) (λ _. bytes_of_sheet (raised sheet))) (λ _.
+    lawful_done tt))
+
+lawful_rewrite_found : {Needs : Type 0} (found : Option ObjectId) → IsLawful Needs Anything (rewrite_found found)
+lawful_rewrite_found None = lawful_done tt
+lawful_rewrite_found (Some id) = lawful_rewrite_at id
+
+lawful_job : (sheets : ℕ) (j : Job) → IsLawful (IsForGame j) Anything (sheets_rules sheets j)
+lawful_job sheets job.Initialize = lawful_begin sheets
+lawful_job sheets (job.Task key due period kind arg) = lawful_rewrite_found (value_of next_id arg)
+lawful_job sheets (job.Login conn name) = lawful_done tt
+lawful_job sheets (job.Message conn name body) = lawful_done tt
+lawful_job sheets (job.Channel conn name channel body) = lawful_done tt
+lawful_job sheets (job.Disconnect conn name graceful) = lawful_done tt
+
+-- the rules are lawful
+pub sheets_lawful : (sheets : ℕ) → AreLawful (sheets_rules sheets)
+sheets_lawful sheets = lawful_rules (lawful_job sheets)
