@@ -1,5 +1,3 @@
-pub mod SinkPieces
-pub mod Fronts
 pub mod Told
 pub mod ReportEnds
 pub mod Askings

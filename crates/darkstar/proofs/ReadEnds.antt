@@ -6,11 +6,11 @@ use Rattle.dk_model.specs.Scripts.{IsBadLine}
 use Rattle.dk_script.specs.declared.script.Script.{Script}
 use Rattle.dk_status.specs.declared.status.Status.{Status}
 use Rattle.dk_status.specs.declared.status.Status.TheVariants as status
-use Rattle.darkstar.specs.declared.input.Refused.{Refused}
-use Rattle.darkstar.specs.declared.input.Refused.TheVariants as refused
+use Rattle.dk_streams.specs.declared.reading.Refused.{Refused}
+use Rattle.dk_streams.specs.declared.reading.Refused.TheVariants as refused
 use Rattle.darkstar.specs.Ends.{status_of_reading}
-use Rattle.darkstar.specs.Headline.{IsPlayable, ReadsFew}
-use Rattle.darkstar.specs.Reading.{CountsRefused, IfBadLine, ReadsFewAt}
+use Rattle.dk_streams.specs.Sources.{IsPlayable, ReadsFew}
+use Rattle.dk_streams.specs.Refusals.{CountsRefused, IfBadLine, ReadsFewAt}
 use Rattle.darkstar.specs.Runs.{IsPlayEnd, Passage, PlayTerms}
 use Rattle.darkstar.specs.Statuses.{ComesForBadLine, IfBadScript, IsOfOpened, IsOkOrLimit, IsUnread}
 use Rattle.darkstar.proofs.Told.{not_both, told_free, told_once}

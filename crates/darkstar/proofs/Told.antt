@@ -4,7 +4,7 @@ use Rattle.std.specs.Prelude.{IfSome}
 use Rattle.dk_model.specs.declared.script.Line.{Line}
 use Rattle.dk_model.specs.Scripts.{IsScript, IsBadLine}
 use Rattle.dk_script.proofs.ScriptOnce.{scripts-are_read}
-use Rattle.darkstar.specs.Headline.{IsPlayable, IsReadScript}
+use Rattle.dk_streams.specs.Sources.{IsPlayable, IsReadScript}
 
 -- nothing is asked
 pub told_free : (o : Option (List ℕ)) (line : ℕ) → IfSome o (λ bytes. IsBadLine bytes line → Unit {0})

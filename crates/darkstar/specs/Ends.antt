@@ -5,8 +5,8 @@ use Rattle.dk_host.specs.declared.fault.OpenFault.{OpenFault}
 use Rattle.dk_host.specs.declared.fault.OpenFault.TheVariants as opening
 use Rattle.dk_status.specs.declared.status.Status.{Status}
 use Rattle.dk_status.specs.declared.status.Status.TheVariants as status
-use Rattle.darkstar.specs.declared.input.Refused.{Refused}
-use Rattle.darkstar.specs.declared.input.Refused.TheVariants as reading
+use Rattle.dk_streams.specs.declared.reading.Refused.{Refused}
+use Rattle.dk_streams.specs.declared.reading.Refused.TheVariants as reading
 use Rattle.dk_workers.specs.declared.play.fault.PlayFault.{PlayFault}
 use Rattle.dk_workers.specs.declared.play.fault.PlayFault.TheVariants as playing
 

@@ -1,11 +1,9 @@
 pub mod Statuses
-pub mod Headline
 pub mod Reports
 pub mod Games
 pub mod Runs
 pub mod Asked
 pub mod Ends
-pub mod Reading
 pub mod StressText
 pub mod Tallies
 pub mod Served

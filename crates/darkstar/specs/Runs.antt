@@ -38,7 +38,7 @@ use Rattle.dk_command.specs.Requests.{Asks, Playing, Plays}
 use Rattle.dk_status.specs.declared.status.Status.{Status}
 use Rattle.dk_status.specs.declared.status.Status.TheVariants as status
 use Rattle.darkstar.specs.Games.{rules_of}
-use Rattle.darkstar.specs.Headline.{IsReadScript}
+use Rattle.dk_streams.specs.Sources.{IsReadScript}
 use Rattle.darkstar.specs.Reports.{Holds, bytes_of}
 
 -- where the words ask for a play, this holds of it

@@ -5,11 +5,8 @@
 //! fault to standard error, and exits with the status.
 #![tactic(auto)]
 
-mod announcing;
 mod asked;
 mod ended;
-mod input;
-mod output;
 mod play_command;
 mod program;
 mod report;
@@ -20,10 +17,10 @@ mod stress;
 #[cfg(test)]
 mod tests;
 
-use announcing::Announcing;
 use dk_disk::FolderHome;
 use dk_edge::{Bells, StdSink, StdSource, SystemClock, TcpListen, ThreadSpawner};
 use dk_status::Status;
+use dk_streams::Announcing;
 use dk_types::Words;
 use program::run;
 use ringing::RingingGate;

@@ -9,7 +9,7 @@ ghost use Rattle.dk_model.specs.DurableWorlds.{DurableWorld};
 ghost use Rattle.dk_model.specs.Scripts.{IsBadLine};
 ghost use Rattle.dk_recover.specs.Files.{OnlyReads};
 ghost use Rattle.dk_reports.specs.Causes.{IsOpenedAt};
-ghost use Rattle.darkstar.specs.Headline.{IsPlayable, ReadsFew};
+ghost use Rattle.dk_streams.specs.Sources.{IsPlayable, ReadsFew};
 ghost use Rattle.dk_command.specs.Commands.{IsCommandLine};
 ghost use Rattle.dk_command.specs.Requests.{Asks, Serves, Serving};
 ghost use Rattle.darkstar.specs.Reports.{AppendsOne, AppendsPart, ForReport, Holds, IsCauseOf, IsLine, IsOfGame};

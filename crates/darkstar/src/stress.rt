@@ -19,13 +19,13 @@ mod tallies;
 #[cfg(test)]
 mod tests;
 
-use crate::output::put_all;
 use dk_demos::Counters;
 use dk_disk::{Home, MemoryHome};
 use dk_edge::Sink;
 use dk_game::Game;
 use dk_host::{OpenedStore, open_store};
 use dk_status::Status;
+use dk_streams::put_all;
 use dk_types::{GameId, NoMemory};
 use dk_workers::Gate;
 use lines::lines_text;

@@ -4,14 +4,13 @@ use dk_turn_books::{
     Leg, append_both_anew, count_by_each, empty_turns_anew, locked_adds, race_in_threads,
     tally_in_threads,
 };
-use dk_turn_ledger::commit_twice;
 use std::alloc::Global;
 use std::io::{self, Write};
 use std::sync::Wait;
 use std::thread::Threads;
 
 /// What comes of each book: two lines, a million turns of two threads, two thousand legs, a thousand empty turns beside as many
-/// additions under a lock, the most passes that a turn has, and two commits.
+/// additions under a lock, and the most passes that a turn has.
 pub fn tell<R: Threads + Wait + Sync, W: Write>(
     alloc: Global,
     rt: &R,
@@ -21,8 +20,7 @@ pub fn tell<R: Threads + Wait + Sync, W: Write>(
     line(out, tally(alloc, rt, 500_000))?;
     line(out, relay(alloc, rt, 1_000))?;
     line(out, empty(alloc, rt, 1_000))?;
-    line(out, passes(alloc, rt, 1_025))?;
-    line(out, commits(alloc, rt))
+    line(out, passes(alloc, rt, 1_025))
 }
 
 fn line<W: Write>(out: &mut W, text: Option<String>) -> io::Result<()> {
@@ -35,11 +33,6 @@ fn line<W: Write>(out: &mut W, text: Option<String>) -> io::Result<()> {
 fn tally<R: Threads + Wait + Sync>(alloc: Global, rt: &R, turns: u32) -> Option<String> {
     let total = tally_in_threads(rt, alloc, u64::from(turns))?;
     format!(in alloc; "{total} turns").ok()
-}
-
-fn commits<R: Threads + Wait + Sync>(alloc: Global, rt: &R) -> Option<String> {
-    let (stored, _events) = commit_twice(rt, alloc)?;
-    format!(in alloc; "{stored} commits").ok()
 }
 
 /// Two lines of two threads: how many there are, what stands where each thread was told, and what was read.

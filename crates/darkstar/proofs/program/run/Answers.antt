@@ -11,7 +11,7 @@ use Rattle.dk_recover.proofs.OnlyRead.{none_read}
 use Rattle.dk_recover.specs.Files.{OnlyReads}
 use Rattle.dk_reports.specs.Causes.{IsOpenedAt}
 use Rattle.darkstar.specs.Asked.{asked, play_of, request_for, serving_of}
-use Rattle.darkstar.specs.Headline.{IsPlayable}
+use Rattle.dk_streams.specs.Sources.{IsPlayable}
 use Rattle.darkstar.specs.Reports.{AppendsOne, AppendsPart, ForReport, Holds, IsCauseOf, IsLine, IsOfGame}
 use Rattle.darkstar.specs.Runs.{ForPlay, IsPlayEnd, IsReadAndWritten, Keeps, MayOpen, passage, terms_of}
 use Rattle.darkstar.specs.Serves.{ForServe, HasServedAll, IsServeEnd, IsServedOrEnd, service_of}

@@ -1,0 +1,2 @@
+pub mod SinkPieces
+pub mod Fronts
