@@ -1,3 +1,4 @@
 pub mod ItemLaws
 pub mod TaskLaws
+pub mod Drafts
 pub mod EntryLaws

@@ -53,7 +53,7 @@ impl<F: StoreFormat> Form<Entry> for EntryForm<F> {
 }
 
 /// Puts the fields of an entry.
-fn put_commit<F: StoreFormat>(
+pub(crate) fn put_commit<F: StoreFormat>(
     writer: &mut Writer,
     seq: u64,
     run: RunNo,
@@ -146,28 +146,12 @@ pub fn encode_entries(alloc: Global, entries: &[Entry]) -> Result<Blob, NoMemory
 }
 
 /// So many bytes are enough for most commits with these effects, whose objects are copied once by this.
-fn room_for(effects: &Effects) -> usize {
+pub(crate) fn room_for(effects: &Effects) -> usize {
     let mut room = ROOM_BYTES;
     for (_, object) in effects.written.as_slice() {
         room = room.saturating_add(object.bytes.as_slice().len());
     }
     room
-}
-
-/// The payload of the one entry that has these fields, as `encode_entries` writes it.
-#[tactic(auto, using(crate::proofs::OneEntry::spelled_alone))]
-pub fn encode_commit(
-    alloc: Global,
-    seq: u64,
-    run: RunNo,
-    effects: &Effects,
-) -> Result<Blob, NoMemory>
-    ensures { IfOk result (λ payload. payload ≡ entries_spelling (record { seq = seq; run = run; effects = effects.now } ∷ [])) }
-{
-    let mut writer = Writer::with_capacity(alloc, room_for(effects))?;
-    writer.put_u32(1)?;
-    put_commit::<SecondFormat>(&mut writer, seq, run, effects)?;
-    Ok(writer.finish())
 }
 
 /// The entries that a whole payload spells in this format.

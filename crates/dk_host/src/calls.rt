@@ -15,6 +15,7 @@ use crate::refused::CommitRefused;
 use crate::steps::{Claim, Connect, CountKept, Hand, Post, ReadItem, Release, Tick};
 use dk_core::{ClaimRefused, Claimed, ConnectRefused, Handed, PostRefused};
 use dk_disk::Home;
+use dk_entry::CommitDraft;
 use dk_turn::{Naming, Pass, Turn};
 use dk_txn::Finished;
 use dk_types::{ConnNo, Input, Item, Name, NoMemory, Read};
@@ -150,7 +151,8 @@ impl<W: Hosting, J: Naming, M: Home> Host<W, J, M> {
     }
 
     /// Commits a finished run where all its reads stand: first its record is on the disk, and then its event is entered.
-    /// Where it is refused the claim comes back, and nothing is entered.
+    /// Where it is refused the claim comes back, and nothing is entered. The record is written in memory before the commit
+    /// lock is taken, so that commits wait for one another no longer than for the disk.
     pub fn commit<R: Wait>(
         &self,
         rt: &R,
@@ -165,8 +167,9 @@ impl<W: Hosting, J: Naming, M: Home> Host<W, J, M> {
         ensures back { IsBackAt W.opened pass.new.front claimed finished result }
         ensures named { All (λ e. pass_of e < J.name.passes) pass.new.front }
     {
+        let draft = CommitDraft::new(self.alloc, claimed.run(), finished.effects());
         self.store
             .lock(rt)
-            .commit(rt, &self.world, pass, claimed, finished)
+            .commit(rt, &self.world, pass, claimed, finished, draft)
     }
 }

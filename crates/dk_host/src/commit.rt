@@ -1,6 +1,7 @@
 //! A commit: a look, a record, and its event.
-ghost use Rattle.std.specs.Prelude.{◌≡◌, ◌<◌, None};
+ghost use Rattle.std.specs.Prelude.{◌≡◌, ◌<◌, None, IfOk};
 ghost use Rattle.std.specs.List.{All};
+ghost use Rattle.dk_entry.specs.Drafts.{IsDraft};
 ghost use Rattle.dk_model.specs.Legal.{pass_of};
 ghost use Rattle.dk_core.specs.Rooms.{places_of};
 ghost use Rattle.dk_host.specs.Calls.{Entered, IsClaimOf, IsHonestAt};
@@ -14,12 +15,15 @@ use crate::refused::{CommitRefused, Why, why_of_append, why_of_look};
 use crate::store::CommitStore;
 use dk_core::Claimed;
 use dk_disk::Home;
+use dk_entry::CommitDraft;
 use dk_turn::{Naming, Pass, Turn};
 use dk_txn::Finished;
+use dk_types::NoMemory;
 use std::sync::Wait;
 
 impl<W: Hosting, J: Naming, M: Home> CommitStore<W, J, M> {
-    // Commits a finished run where all its reads stand: its record is on the disk before its event is entered.
+    // Commits a finished run where all its reads stand: its record, of which there is a draft, is on the disk before its
+    // event is entered.
     pub(crate) fn commit<R: Wait>(
         &mut self,
         rt: &R,
@@ -27,10 +31,12 @@ impl<W: Hosting, J: Naming, M: Home> CommitStore<W, J, M> {
         pass: &mut Pass<WorldBook<W>, J>,
         claimed: Claimed,
         finished: Finished,
+        draft: Result<CommitDraft, NoMemory>,
     ) -> Result<u64, CommitRefused>
         requires free { IsFree self.old }
         requires claim { IsClaimOf W.opened pass.old claimed }
         requires honest { IsHonestAt W.opened pass.old.front claimed finished }
+        requires draft { IfOk draft (IsDraft claimed.run finished.effects) }
         ensures number { pass.new.number ≡ pass.old.number }
         ensures entered { Entered W.opened pass.old.number (commit_events pass.old.number claimed finished result) pass.old.front pass.new.front }
         ensures back { IsBackAt W.opened pass.new.front claimed finished result }
@@ -45,7 +51,7 @@ impl<W: Hosting, J: Naming, M: Home> CommitStore<W, J, M> {
                 why: Why::Stopped { faults },
             });
         }
-        match self.prepare(rt, world, pass, &claimed, &finished) {
+        match self.prepare_drafted(rt, world, pass, &claimed, &finished, draft) {
             Ok(commit) => self.record(rt, world, pass, claimed, finished, commit),
             Err(refused) => Err(CommitRefused {
                 claimed,
@@ -101,15 +107,18 @@ impl<W: Hosting, J: Naming, M: Home> FreeStore<W, J, M> {
         pass: &mut Pass<WorldBook<W>, J>,
         claimed: Claimed,
         finished: Finished,
+        draft: Result<CommitDraft, NoMemory>,
     ) -> Result<u64, CommitRefused>
         requires claim { IsClaimOf W.opened pass.old claimed }
         requires honest { IsHonestAt W.opened pass.old.front claimed finished }
+        requires draft { IfOk draft (IsDraft claimed.run finished.effects) }
         ensures number { pass.new.number ≡ pass.old.number }
         ensures entered { Entered W.opened pass.old.number (commit_events pass.old.number claimed finished result) pass.old.front pass.new.front }
         ensures back { IsBackAt W.opened pass.new.front claimed finished result }
         ensures named { All (λ e. pass_of e < J.name.passes) pass.new.front }
         ensures leaves { Leaves self.old.store self.new.store result }
     {
-        self.store.commit(rt, world, pass, claimed, finished)
+        self.store
+            .commit(rt, world, pass, claimed, finished, draft)
     }
 }

@@ -31,6 +31,7 @@ use std::sync::{Mutex, ledger};
 pub struct Host<W: Hosting, J: Naming, M: Home> {
     pub(crate) world: Turn<WorldBook<W>, J>,
     pub(crate) store: Mutex<FreeStore<W, J, M>>,
+    pub(crate) alloc: Global,
 }
 
 /// What is left of a host: its home, the events that it kept, how many commits its durable world has, and how many tasks
@@ -105,7 +106,14 @@ impl<W: Hosting, J: Naming, M: Home> Host<W, J, M> {
         let right = CommitRight::new(commit_share, place_share);
         let store = CommitStore::new(home, game, side, journal, watcher, right, alloc);
         let store = Mutex::new(FreeStore { store });
-        Ok((Host { world, store }, passes))
+        Ok((
+            Host {
+                world,
+                store,
+                alloc,
+            },
+            passes,
+        ))
     }
 
     /// Ends the sharing. The one history begins with the front of each pass that is handed in, and has no event of such
@@ -122,7 +130,11 @@ impl<W: Hosting, J: Naming, M: Home> Host<W, J, M> {
         ensures first { (result.first ≡ W.first) × (W.first ≤ result.epoch) }
         ensures tasks { result.tasks ≡ map.len (world_after W.opened result.history).durable.tasks }
     {
-        let Host { world, store } = self;
+        let Host {
+            world,
+            store,
+            alloc: _,
+        } = self;
         let FreeStore { store } = store.into_inner();
         let CommitStore {
             home,

@@ -1,12 +1,11 @@
 //! What a commit of the shared host needs.
-ghost use Rattle.std.specs.Prelude.{◌≡◌, [], ◌∷◌, IfOk};
+ghost use Rattle.std.specs.Prelude.{◌≡◌, [], ◌∷◌};
+ghost use Rattle.dk_entry.specs.Drafts.{IsDraft};
 ghost use Rattle.dk_model.specs.Entries.{entries_spelling};
 
 use dk_core::Prepared;
-use dk_entry::encode_commit;
-use dk_txn::Finished;
-use dk_types::{Blob, NoMemory};
-use std::alloc::Global;
+use dk_entry::CommitDraft;
+use dk_types::Blob;
 
 /// All that a commit needs, with the payload of its record.
 #[derive(Drop)]
@@ -17,16 +16,12 @@ pub struct PreparedCommit {
 }
 
 impl PreparedCommit {
-    // With the payload of its entry alone, whose effects are those of the finished run.
-    pub(crate) fn new(
-        alloc: Global,
-        prepared: Prepared,
-        finished: &Finished,
-    ) -> Result<PreparedCommit, NoMemory>
-        requires effects { prepared.entry.effects ≡ finished.now.effects }
-        ensures { IfOk result (λ commit. commit.prepared ≡ prepared) }
+    // With its draft as the payload of its entry alone. Takes no memory.
+    pub(crate) fn new(prepared: Prepared, draft: CommitDraft) -> PreparedCommit
+        requires { IsDraft prepared.entry.run prepared.entry.effects draft }
+        ensures { result.prepared ≡ prepared }
     {
-        let payload = encode_commit(alloc, prepared.seq(), prepared.run(), finished.effects())?;
-        Ok(PreparedCommit { prepared, payload })
+        let payload = draft.numbered(prepared.seq());
+        PreparedCommit { prepared, payload }
     }
 }

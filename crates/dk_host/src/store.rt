@@ -1,9 +1,10 @@
 //! The store behind the commit lock.
-ghost use Rattle.std.specs.Prelude.{◌≡◌, ◌<◌, ◌^◌, ◌↔◌, ◌+◌, ℕ, min, None, Some, [], ◌∷◌, length, IsErrOf, IsTrue};
+ghost use Rattle.std.specs.Prelude.{◌≡◌, ◌<◌, ◌^◌, ◌↔◌, ◌+◌, ℕ, min, None, Some, [], ◌∷◌, length, IfOk, IsErrOf, IsTrue};
 ghost use Rattle.std.specs.List.{All};
 ghost use Rattle.dk_types.specs.Faults.{COUNT_END};
 ghost use Rattle.dk_types.specs.declared.event.Event.TheVariants as event;
 ghost use Rattle.dk_disk.specs.Opening.{IsOpen};
+ghost use Rattle.dk_entry.specs.Drafts.{IsDraft};
 ghost use Rattle.dk_model.specs.Lawful.{AreLawful};
 ghost use Rattle.dk_model.specs.Legal.{pass_of};
 ghost use Rattle.dk_model.specs.Validity.{IsValid};
@@ -19,10 +20,11 @@ use crate::right::CommitRight;
 use crate::steps::{Prepare, Publish};
 use dk_core::{Claimed, PrepareRefused, Prepared};
 use dk_disk::Home;
+use dk_entry::CommitDraft;
 use dk_journal::{Journal, JournalRefused};
 use dk_turn::{Naming, Pass, Turn, Watcher};
 use dk_txn::Finished;
-use dk_types::{GameId, Side};
+use dk_types::{GameId, NoMemory, Side};
 use std::alloc::Global;
 use std::marker::Model;
 use std::sync::Wait;
@@ -148,8 +150,35 @@ impl<W: Hosting, J: Naming, M: Home> CommitStore<W, J, M> {
         ensures faults { (self.new.faults ≡ self.old.faults) × (self.new.counted ≡ self.old.counted) × (self.new.journal_length ≡ self.old.journal_length) × (self.new.epoch ≡ self.old.epoch) }
         ensures named { All (λ e. pass_of e < J.name.passes) pass.new.front }
     {
-        let result = self.look(rt, world, pass, claimed, finished);
-        Ok(PreparedCommit::new(self.alloc, result?, finished)?)
+        let draft = CommitDraft::new(self.alloc, claimed.run(), finished.effects());
+        self.prepare_drafted(rt, world, pass, claimed, finished, draft)
+    }
+
+    // The same with a draft of its record, which was made before the lock of this store was taken. That there was no
+    // memory for it is told behind a stale read.
+    pub(crate) fn prepare_drafted<R: Wait>(
+        &mut self,
+        rt: &R,
+        world: &Turn<WorldBook<W>, J>,
+        pass: &mut Pass<WorldBook<W>, J>,
+        claimed: &Claimed,
+        finished: &Finished,
+        draft: Result<CommitDraft, NoMemory>,
+    ) -> Result<PreparedCommit, PrepareRefused>
+        requires none_waits { self.old.waiting ≡ None }
+        requires claim { IsClaimOf W.opened pass.old claimed.now }
+        requires honest { IsHonestAt W.opened pass.old.front claimed.now finished.now }
+        requires draft { IfOk draft (IsDraft claimed.now.run finished.now.effects) }
+        ensures number { pass.new.number ≡ pass.old.number }
+        ensures entered { Entered W.opened pass.old.number [] pass.old.front pass.new.front }
+        ensures same { self.new.watcher.front ≡ pass.new.front }
+        ensures finds { FindsNext W.opened pass.new.front claimed.now finished.now self.new.room result }
+        ensures none_waits { self.new.waiting ≡ None }
+        ensures faults { (self.new.faults ≡ self.old.faults) × (self.new.counted ≡ self.old.counted) × (self.new.journal_length ≡ self.old.journal_length) × (self.new.epoch ≡ self.old.epoch) }
+        ensures named { All (λ e. pass_of e < J.name.passes) pass.new.front }
+    {
+        let prepared = self.look(rt, world, pass, claimed, finished)?;
+        Ok(PreparedCommit::new(prepared, draft?))
     }
 
     fn look<R: Wait>(
