@@ -8,10 +8,11 @@ use Rattle.std.specs.List.{position_or_len}
 use Rattle.std.specs.FinSet as sets
 use Rattle.std.specs.Io.KnownBytes.{Consumes, Keeps, IsAtEnd}
 use Rattle.dk_types.specs.declared.limits.TheConstants.{SCRIPT_MOST_BYTES}
+use Rattle.dk_streams.specs.declared.reading.TheConstants.{PIECE_BYTES}
 use Rattle.dk_model.specs.declared.script.Line.{Line}
 use Rattle.dk_model.specs.Lines.{text_of}
 use Rattle.dk_model.specs.Scripts.{IsScript, IsBadLine, IsOutside, names_at, is_end, first_line}
-use Rattle.dk_streams.specs.Sources.{ReadsAll, ReadsFront, ReadsFew, IsReadScript}
+use Rattle.dk_streams.specs.Sources.{ReadsAll, ReadsFront, ReadsFew, ReadsNear, IsReadScript}
 
 -- the first line with one byte before it
 first_line-cons : (b : ℕ) (bs : List ℕ) (t : Bool) → is_end b ≡ t → first_line (b ∷ bs) ≡ cond t [] (b ∷ first_line bs)
@@ -100,3 +101,11 @@ few_read None mid left' bytes read kept few = tt
 few_read (Some xs) None left' bytes read kept few = absurd read
 few_read (Some xs) (Some ys) None bytes read kept few = absurd kept
 few_read (Some xs) (Some ys) (Some zs) bytes read kept few = record { bytes = bytes; rest = ys; parted = read; left = ap (λ (l : List ℕ). Some l) kept; few = few }
+
+-- what was read, and one piece more
+pub near_read : (left mid left' : Option (List ℕ)) (bytes piece : List ℕ) → Consumes left mid bytes → Consumes mid left' piece → length bytes ≤ SCRIPT_MOST_BYTES → length piece ≤ PIECE_BYTES → ReadsNear left left'
+near_read None mid left' bytes piece read last few short = tt
+near_read (Some xs) None left' bytes piece read last few short = absurd read
+near_read (Some xs) (Some ys) None bytes piece read last few short = absurd last
+near_read (Some xs) (Some ys) (Some zs) bytes piece read last few short =
+    record { bytes = bytes ++ piece; rest = zs; parted = read ∙ ap (λ (l : List ℕ). bytes ++ l) last ∙ sym (append_assoc bytes piece zs); left = refl; near = omega (arith, few, short, length-append bytes piece) }

@@ -3,7 +3,7 @@ ghost use Rattle.std.specs.Prelude.{◌≤◌, length, IfOk, IfSome};
 ghost use Rattle.std.specs.FinSet as sets;
 ghost use Rattle.std.specs.List.{sum_by};
 ghost use Rattle.dk_model.specs.Scripts.{AllStand, IsBadLine};
-ghost use Rattle.dk_streams.specs.Sources.{IsReadScript, ReadsFront};
+ghost use Rattle.dk_streams.specs.Sources.{IsReadScript, ReadsFront, ReadsNear, ReadsOut};
 ghost use Rattle.dk_streams.specs.Refusals.{CountsRead, IfBadLine, ReadsFewAt};
 
 use dk_edge::Source;
@@ -13,7 +13,7 @@ use dk_types::{Failed, NoMemory};
 use std::alloc::{AllocError, Global};
 
 /// The most bytes of one call on the source.
-const PIECE_BYTES: usize = 8_192;
+pub const PIECE_BYTES: usize = 8_192;
 
 /// Why no script was read.
 #[derive(Clone, Copy, Debug, PartialEq, Eq)]
@@ -65,6 +65,8 @@ pub fn read_script<S: Source>(alloc: Global, input: &mut S) -> Result<Script, Re
     ensures few { IfOk result (λ script. sum_by length script.phases ≤ SCRIPT_MOST_BYTES) }
     ensures bad_line { IfBadLine result (λ line. IfSome (S.remaining input.old) (λ bytes. IsBadLine bytes line)) }
     ensures few_read { ReadsFewAt result (S.remaining input.old) (S.remaining input.new) }
+    ensures near { ReadsNear (S.remaining input.old) (S.remaining input.new) }
+    ensures read_out { IfBadLine result (λ _. ReadsOut (S.remaining input.old) (S.remaining input.new)) }
     ensures count { CountsRead result (S.counted input.old) (S.counted input.new) }
 {
     let bytes = read_all(alloc, input)?;
@@ -80,6 +82,7 @@ fn read_all<S: Source>(alloc: Global, input: &mut S) -> Result<Vec<u8>, Refused>
     ensures ok { IfOk result (λ bytes. ReadsFront (S.remaining input.old) (S.remaining input.new) bytes.items) }
     ensures good { IfBadLine result (λ _. ⊥) }
     ensures few_read { ReadsFewAt result (S.remaining input.old) (S.remaining input.new) }
+    ensures near { ReadsNear (S.remaining input.old) (S.remaining input.new) }
     ensures count { CountsRead result (S.counted input.old) (S.counted input.new) }
 {
     let mut bytes = Vec::new(alloc);
