@@ -25,6 +25,9 @@ const LOGIN_OBJECTS: u32 = 1_000;
 /// names and tasks.
 const COMMIT_LOGINS: u32 = 1_000;
 
+/// So many bytes of a journal are enough for a sheet, which is written as it is made and once anew.
+const ROOM_BYTES: u64 = 40_000;
+
 /// A held sync looks so often whether it is let go.
 const HELD_TURNS: u64 = 1 << 34;
 
@@ -116,9 +119,23 @@ fn in_memory<G: Game + Sync, R: AllocGlobal + Clock + Threads + Wait + Sync>(
 ) -> Option<u64> {
     let alloc = rt.alloc();
     let none = Vec::new(alloc);
-    let inner = MemoryHome::new(alloc, Vec::new(alloc), Vec::new(alloc), none, false);
+    let mut inner = MemoryHome::new(alloc, Vec::new(alloc), Vec::new(alloc), none, false);
+    let (calls, bytes) = room_for(order);
+    inner.reserve(calls, bytes).ok()?;
     let hold = Arc::try_clone(hold).ok()?;
     in_home(rt, game, HoldingHome::new(inner, hold, HELD_TURNS), order)
+}
+
+/// The calls and the bytes for which a home in memory has room before the work begins. Who rewrites sheets is not to wait for
+/// the system to give pages; other work makes its room as it goes.
+fn room_for(order: &Order<'_>) -> (u64, u64) {
+    match order.work {
+        HostWork::RewritesByOne | HostWork::RewritesByFour => {
+            let sheets = order.number as u64;
+            (sheets.saturating_mul(8), sheets.saturating_mul(ROOM_BYTES))
+        }
+        _ => (0, 0),
+    }
 }
 
 /// Makes a store in a home that is not opened yet, and works on a host of it.
