@@ -33,7 +33,7 @@ use std::marker::Model;
 pub struct MemoryHome {
     alloc: Global,
     drives: Drives,
-    calls: UndoRecord,
+    undos: UndoRecord,
     plan: FaultPlan,
     entrance: HomeOpening,
 }
@@ -43,9 +43,9 @@ impl Model for MemoryHome {
 
     ghost Value = { Memory };
 
-    ghost view = { λ m. memory_of m.drives m.calls m.plan m.entrance };
+    ghost view = { λ m. memory_of m.drives m.undos m.plan m.entrance };
 
-    ghost invariant = { λ m. IsConsistent (memory_of m.drives m.calls m.plan m.entrance) m.drives };
+    ghost invariant = { λ m. IsConsistent (memory_of m.drives m.undos m.plan m.entrance) m.drives };
 }
 
 impl MemoryHome {
@@ -62,7 +62,7 @@ impl MemoryHome {
         MemoryHome {
             alloc,
             drives: Drives::new(zero, one),
-            calls: UndoRecord::new(alloc),
+            undos: UndoRecord::new(alloc),
             plan: FaultPlan::new(failing),
             entrance: HomeOpening::new(alloc, open_fails),
         }
@@ -77,7 +77,7 @@ impl MemoryHome {
     {
         make_all_room(
             &mut self.drives,
-            &mut self.calls,
+            &mut self.undos,
             &mut self.entrance,
             calls as usize,
             bytes as usize,
@@ -127,7 +127,7 @@ impl MemoryHome {
     {
         let zero = self.drives.bytes(Side::Zero);
         let one = self.drives.bytes(Side::One);
-        let past = Unwinding::of(self.alloc, zero, one, &self.calls)?;
+        let past = Unwinding::of(self.alloc, zero, one, &self.undos)?;
         let zero = past.image(Side::Zero, moment, torn)?;
         let one = past.image(Side::One, moment, torn)?;
         Ok((zero, one))
@@ -160,7 +160,7 @@ impl MemoryHome {
     {
         if make_room(
             &mut self.drives,
-            &mut self.calls,
+            &mut self.undos,
             &self.plan,
             side,
             step.size(),
@@ -172,7 +172,7 @@ impl MemoryHome {
         }
         carry_out(
             &mut self.drives,
-            &mut self.calls,
+            &mut self.undos,
             &mut self.plan,
             side,
             step,
@@ -306,12 +306,12 @@ impl Home for MemoryHome {
 /// Numbers a call and records it, and does it where it is not to fail. There is room for it.
 fn carry_out(
     drives: &mut Drives,
-    calls: &mut UndoRecord,
+    undos: &mut UndoRecord,
     plan: &mut FaultPlan,
     side: Side,
     step: &Step<'_>,
 ) -> Result<(), Failed>
-    requires ready { IsReady drives.old calls.old plan.old side (step_size step.now) }
+    requires ready { IsReady drives.old undos.old plan.old side (step_size step.now) }
     requires within { IsWithin step.now (file_of drives.old side).reads }
     requires small { (length (file_of drives.old side).reads < 2 ^ 63) × (step_size step.now < 2 ^ 63) }
     ensures plan { plan.new ≡ after_call plan.old }
@@ -320,7 +320,7 @@ fn carry_out(
     ensures cause { OnErr result (HasRisen plan.old.faults plan.new.faults) }
     ensures most { plan.new.faults ≤ COUNT_END }
     ensures fails { IsErr result ↔ IsTrue (fails_next plan.old) }
-    ensures recorded { IsPushed calls.old calls.new (undo_for (counted_up plan.old.calls) side step.now (not (fails_next plan.old)) (file_of drives.old side).reads) }
+    ensures recorded { IsPushed undos.old undos.new (undo_for (counted_up plan.old.calls) side step.now (not (fails_next plan.old)) (file_of drives.old side).reads) }
     ensures takes { (s : Which) → Takes (file_of drives.old s) (file_of drives.new s) (step_size step.now) }
     ensures this { (file_of drives.new side).reads ≡ (if fails_next plan.old then (file_of drives.old side).reads else reads_after step.now (file_of drives.old side).reads) }
     ensures other { file_of drives.new (other_side side) ≡ file_of drives.old (other_side side) }
@@ -332,7 +332,7 @@ fn carry_out(
         step: *step,
         is_made: outcome.is_ok(),
     };
-    calls.push(&call, drives.bytes(side));
+    undos.push(&call, drives.bytes(side));
     if call.is_made {
         drives.change(side, step);
     }
@@ -342,38 +342,38 @@ fn carry_out(
 /// Makes room for one more call with so many bytes, if there is a number for it.
 fn make_room(
     drives: &mut Drives,
-    calls: &mut UndoRecord,
+    undos: &mut UndoRecord,
     plan: &FaultPlan,
     side: Side,
     bytes: usize,
 ) -> Result<(), NoMemory>
-    ensures ok { OnOk result (IsReady drives.new calls.new plan.now side bytes) }
-    ensures err { OnErr result (IsReady drives.old calls.old plan.now side bytes → ⊥) }
+    ensures ok { OnOk result (IsReady drives.new undos.new plan.now side bytes) }
+    ensures err { OnErr result (IsReady drives.old undos.old plan.now side bytes → ⊥) }
     ensures kept { AreReserved drives.old drives.new }
-    ensures spared { IsSpared calls.old calls.new }
+    ensures spared { IsSpared undos.old undos.new }
     ensures small { OnOk result (length (file_of drives.new side).reads < 2 ^ 63) }
 {
     if plan.calls() == u64::MAX {
         return Err(NoMemory);
     }
     drives.reserve(side, bytes)?;
-    calls.reserve(1, drives.size() + bytes)
+    undos.reserve(1, drives.size() + bytes)
 }
 
 /// Makes room for so many calls, and for so many bytes of each kind.
 fn make_all_room(
     drives: &mut Drives,
-    calls: &mut UndoRecord,
+    undos: &mut UndoRecord,
     entrance: &mut HomeOpening,
     more_calls: usize,
     bytes: usize,
 ) -> Result<(), NoMemory>
-    ensures ok { OnOk result ((bytes ≤ drives.new.zero.room) × (bytes ≤ drives.new.one.room) × HasSpare calls.new more_calls (size_of drives.new + bytes) × (bytes ≤ entrance.new.room)) }
+    ensures ok { OnOk result ((bytes ≤ drives.new.zero.room) × (bytes ≤ drives.new.one.room) × HasSpare undos.new more_calls (size_of drives.new + bytes) × (bytes ≤ entrance.new.room)) }
     ensures kept { AreReserved drives.old drives.new }
-    ensures spared { IsSpared calls.old calls.new }
+    ensures spared { IsSpared undos.old undos.new }
     ensures opening { (entrance.new.opening ≡ entrance.old.opening) × (entrance.new.fails ≡ entrance.old.fails) × (entrance.old.room ≤ entrance.new.room) }
 {
     drives.prepare_both(bytes)?;
-    calls.reserve(more_calls, drives.size() + bytes)?;
+    undos.reserve(more_calls, drives.size() + bytes)?;
     entrance.reserve(bytes)
 }
