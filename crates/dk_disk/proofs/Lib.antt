@@ -1,5 +1,7 @@
 pub mod Calls
+pub mod Undos
 pub mod Images
+pub mod Unwindings
 pub mod Replays
 pub mod Fills
 pub mod Sides

@@ -5,7 +5,7 @@ use Rattle.dk_types.specs.declared.side.Side.{Side}
 use Rattle.dk_disk.specs.Disk.{Disk, after_write}
 use Rattle.dk_disk.specs.DiskHistories.{now, other_side}
 use Rattle.dk_disk.specs.MemoryFiles.{File, Files, file_of, AreReserved}
-use Rattle.dk_disk.specs.CallRecord.{Calls}
+use Rattle.dk_disk.specs.UndoRecord.{Undos}
 use Rattle.dk_disk.specs.Opening.{HomeOpening}
 use Rattle.dk_types.specs.FaultPlan.{Plan, after_call, fails_next}
 use Rattle.dk_disk.specs.Record.{changed}
@@ -34,7 +34,7 @@ reads_changed (step.Cut to) false disk within = refl
 reads_changed step.Sync true disk within = refl
 reads_changed step.Sync false disk within = refl
 
-pub consistent : (files files1 files2 : Files) (calls calls2 : Calls) (plan : Plan) (entrance : HomeOpening) (side : Side) (s : Step) (n : ℕ)
+pub consistent : (files files1 files2 : Files) (calls calls2 : Undos) (plan : Plan) (entrance : HomeOpening) (side : Side) (s : Step) (n : ℕ)
     → IsRecorded (memory_of files calls plan entrance) (memory_of files2 calls2 (after_call plan) entrance) side (change_of s) n
     → IsConsistent (memory_of files calls plan entrance) files → AreReserved files files1
     → IsWithin s (now (past_of (memory_of files calls plan entrance)) side).reads

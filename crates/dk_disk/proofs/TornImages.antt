@@ -1,11 +1,8 @@
 -- The images that a crash gives are images.
-use Rattle.std.proofs.Common.{◌≡◌, ℕ, ◌≤◌, Bool, true, false, List, [], ◌∷◌, length, refl, arith, nat_le, if◌then◌else◌, Result, Ok, Err, IfOk}
+use Rattle.std.proofs.Common.{ℕ, ◌≤◌, Bool, true, false, List, [], ◌∷◌, length, refl, arith, nat_le, if◌then◌else◌, Result, Ok, Err, IfOk}
 use Rattle.dk_types.specs.declared.side.Side.{Side}
-use Rattle.dk_types.specs.declared.side.Side.TheVariants.{Zero, One}
 use Rattle.dk_disk.specs.Disk.{Disk, IsImage, settled, after_write}
-use Rattle.dk_disk.specs.MemoryFiles.{Files, file_of}
 use Rattle.dk_disk.specs.Record.{Call, Change, Write, Cut, Sync, changed, is_side, after_one, replayed}
-use Rattle.dk_disk.specs.Memory.{first_of}
 use Rattle.dk_disk.specs.Torn.{IsTorn}
 use Rattle.dk_disk.specs.declared.torn.Torn.{Torn}
 use Rattle.dk_disk.specs.declared.torn.Torn.TheVariants.{Old, New, Zeros, Ones}
@@ -38,10 +35,6 @@ torn_image Old disk image reads bounded is = rw is (record { no_shorter = bounde
 torn_image New disk image reads bounded is = rw is reads
 torn_image Zeros disk image reads bounded is = record { no_shorter = omega (arith, is.length_is); no_longer = omega (arith, is.length_is, bounded.0, bounded.1); kept = λ i l k u. is.kept i (omega (arith, l, is.length_is)) k u }
 torn_image Ones disk image reads bounded is = record { no_shorter = omega (arith, is.length_is, bounded.0, bounded.1); no_longer = omega (arith, is.length_is); kept = λ i l k u. is.kept i (omega (arith, l, is.length_is)) k u }
-
-pub first_is : (files : Files) (side : Side) → (file_of files side).first ≡ first_of files.zero.first files.one.first side
-first_is files Zero = refl
-first_is files One = refl
 
 pub replayed_torn : (torn : Torn) (t : ℕ) (side : Side) (calls : List Call) (first image : List ℕ) → IsImage (replayed t side calls (settled first)) (replayed t side calls (settled first)).reads → IsTorn torn (replayed t side calls (settled first)) image → IsImage (replayed t side calls (settled first)) image
 replayed_torn torn t side calls first image reads is = torn_image torn (replayed t side calls (settled first)) image reads (replayed_bounded t side calls (settled first) (omega arith, omega arith)) is

@@ -1,17 +1,11 @@
--- The record of calls, as the code has it.
-use Rattle.std.specs.Prelude.{◌≡◌, ℕ, ◌+◌, ◌≤◌, ◌<◌, ◌^◌, ⊤, List, [], ◌∷◌, ◌++◌, take, drop}
+-- A list of calls, as the code has it.
+use Rattle.std.specs.Prelude.{ℕ, ◌+◌, ◌≤◌, ◌<◌, ◌^◌, ⊤, List, [], ◌∷◌, take, drop}
 use Rattle.dk_disk.specs.Record.{Call, Change, Write, Cut, Sync}
 use Rattle.dk_disk.specs.Step.{change_of}
 use Rattle.dk_disk.specs.declared.call_record.Entry.{Entry}
 use Rattle.dk_disk.specs.declared.call_record.Recorded.{Recorded}
 use Rattle.dk_disk.specs.declared.call_record.Kept.{Kept}
 use Rattle.dk_disk.specs.declared.call_record.Kept.TheVariants as kept
-
--- the calls, and room for so many more calls and bytes
-pub record Calls : Type 0 where
-  pub calls : List Call
-  pub spare_calls : ℕ
-  pub spare_bytes : ℕ
 
 -- what a call was to do, whose bytes stand in this list
 abbrev pub change_at : List ℕ → Kept → Change
@@ -37,20 +31,3 @@ IsWithinRecord size kept.Sync = ⊤
 abbrev pub AreWithin : ℕ → List Entry → Type 0
 AreWithin size [] = ⊤
 AreWithin size (entry ∷ entries) = IsWithinRecord size entry.kept × AreWithin size entries
-
--- room for so many more calls and bytes
-pub record HasSpare (record_ : Calls) (calls bytes : ℕ) : Type 0 where
-  pub calls_fit : calls ≤ record_.spare_calls
-  pub bytes_fit : bytes ≤ record_.spare_bytes
-
--- the calls stay, and there is no less room
-pub record IsSpared (old new : Calls) : Type 0 where
-  pub same : new.calls ≡ old.calls
-  pub calls_fit : old.spare_calls ≤ new.spare_calls
-  pub bytes_fit : old.spare_bytes ≤ new.spare_bytes
-
--- one more call stands last, and took no more than the room of n bytes
-pub record IsPushed (old new : Calls) (call : Call) (n : ℕ) : Type 0 where
-  pub pushed : new.calls ≡ old.calls ++ call ∷ []
-  pub calls_left : old.spare_calls ≤ new.spare_calls + 1
-  pub bytes_left : old.spare_bytes ≤ new.spare_bytes + n

@@ -5,6 +5,8 @@ pub mod Record
 pub mod MemoryFiles
 pub mod Step
 pub mod CallRecord
+pub mod UndoRecord
+pub mod Unwinding
 pub mod Memory
 pub mod Torn
 pub mod Folder

@@ -1,5 +1,5 @@
 -- A home in memory.
-use Rattle.std.specs.Prelude.{◌≡◌, ◌⊎◌, ◌↔◌, ℕ, ◌+◌, ◌<◌, ◌≤◌, min, Bool, true, not, ◌&&◌, if◌then◌else◌, List, [], ◌∷◌, ◌++◌, length, Result, IsErr, IsTrue}
+use Rattle.std.specs.Prelude.{◌≡◌, ◌⊎◌, ◌↔◌, ℕ, ◌+◌, ◌-◌, ◌<◌, ◌≤◌, min, nat_le, Bool, true, not, if◌then◌else◌, List, [], ◌∷◌, ◌++◌, length, Result, IsErr, IsTrue}
 use Rattle.dk_types.specs.Faults.{COUNT_END}
 use Rattle.dk_types.specs.declared.fault.Failed.{Failed}
 use Rattle.dk_types.specs.declared.side.Side.{Side}
@@ -7,8 +7,9 @@ use Rattle.dk_types.specs.declared.side.Side.TheVariants.{Zero, One}
 use Rattle.dk_disk.specs.Disk.{settled}
 use Rattle.dk_disk.specs.DiskHistories.{DiskHistory, now}
 use Rattle.dk_disk.specs.Opening.{Opening, HomeOpening, opening_of}
-use Rattle.dk_disk.specs.MemoryFiles.{Files, file_of, HasPlace}
-use Rattle.dk_disk.specs.CallRecord.{Calls, HasSpare}
+use Rattle.dk_disk.specs.MemoryFiles.{Files, file_of, size_of}
+use Rattle.dk_disk.specs.UndoRecord.{Undos, HasSpare}
+use Rattle.dk_disk.specs.Unwinding.{unwound}
 use Rattle.dk_types.specs.FaultPlan.{Plan, fails_next, counted_up, after_call, after_fault}
 use Rattle.dk_disk.specs.Record.{Call, Change, AreUpTo, replayed}
 
@@ -92,18 +93,18 @@ Changes old new side change n result =
 abbrev pub looked : Memory → Memory
 looked memory = record { zero = memory.zero; one = memory.one; calls = memory.calls; plan = after_call memory.plan; opening = memory.opening; open_fails = memory.open_fails; room = memory.room }
 
--- what is seen of the parts
-abbrev pub memory_of : Files → Calls → Plan → HomeOpening → Memory
-memory_of files calls plan entrance = record {
-  zero = files.zero.first;
-  one = files.one.first;
-  calls = calls.calls;
+-- what is seen of the parts, where the room for cutting off all that the files hold is not told
+abbrev pub memory_of : Files → Undos → Plan → HomeOpening → Memory
+memory_of files undos plan entrance = record {
+  zero = (unwound undos.undos files.zero.reads files.one.reads).zero;
+  one = (unwound undos.undos files.zero.reads files.one.reads).one;
+  calls = (unwound undos.undos files.zero.reads files.one.reads).calls;
   plan = plan;
   opening = entrance.opening;
   open_fails = entrance.fails;
   room = record {
-    calls = if files.zero.is_kept && files.one.is_kept then calls.spare_calls else 0;
-    bytes = min (min files.zero.room files.one.room) (min calls.spare_bytes entrance.room);
+    calls = if nat_le (size_of files) undos.spare_bytes then undos.spare_calls else 0;
+    bytes = min (min files.zero.room files.one.room) (min (undos.spare_bytes - size_of files) entrance.room);
   };
 }
 
@@ -113,7 +114,7 @@ pub record IsConsistent (memory : Memory) (files : Files) : Type 0 where
   pub reads : (side : Side) → (file_of files side).reads ≡ (now (past_of memory) side).reads
 
 -- the parts have room for one more call with n bytes, and a number for it
-pub record IsReady (files : Files) (calls : Calls) (plan : Plan) (side : Side) (n : ℕ) : Type 0 where
-  pub place : HasPlace (file_of files side) n
-  pub spare : HasSpare calls 1 n
+pub record IsReady (files : Files) (undos : Undos) (plan : Plan) (side : Side) (n : ℕ) : Type 0 where
+  pub place : n ≤ (file_of files side).room
+  pub spare : HasSpare undos 1 (size_of files + n)
   pub number : plan.calls < COUNT_END

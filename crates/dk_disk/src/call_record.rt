@@ -1,5 +1,5 @@
-//! The record of the calls on a home in memory, in their order.
-ghost use Rattle.std.specs.Prelude.{◌≡◌, ◌+◌, ◌-◌, ◌<◌, ◌≤◌, ◌∷◌, ◌++◌, [], length, vec_len, Some, slice_get, OnOk, OnErr};
+//! A list of calls on a home in memory, made from the last call to the first.
+ghost use Rattle.std.specs.Prelude.{◌≡◌, ◌+◌, ◌-◌, ◌<◌, ◌≤◌, ◌∷◌, ◌++◌, [], length, vec_len, Some, slice_get, OnOk};
 ghost use Rattle.std.specs.Vec.{vec_capacity};
 ghost use Rattle.dk_disk.specs.Step.{change_of, step_size, bytes_of, IsAddressable};
 ghost use Rattle.dk_disk.specs.CallRecord.{change_at, IsWithinRecord};
@@ -40,7 +40,8 @@ pub(crate) struct Entry {
     is_made: bool,
 }
 
-/// The calls so far that change a file or sync it. Each call is put last.
+/// Calls that change a file or sync it, in their order. The entries stand the other way round, so that a
+/// call is put before the others at their end.
 #[derive(Drop)]
 pub(crate) struct CallRecord {
     entries: Vec<Entry>,
@@ -48,22 +49,22 @@ pub(crate) struct CallRecord {
 }
 
 impl Model for CallRecord {
-    ghost use Rattle.std.specs.Prelude.{◌-◌, map, length, vec_len};
-    ghost use Rattle.std.specs.Vec.{vec_capacity};
-    ghost use Rattle.dk_disk.specs.CallRecord.{Calls, call_of, AreWithin};
+    ghost use Rattle.std.specs.Prelude.{List, map, reverse, length};
+    ghost use Rattle.dk_disk.specs.Record.{Call};
+    ghost use Rattle.dk_disk.specs.CallRecord.{call_of, AreWithin};
 
-    ghost Value = { Calls };
+    ghost Value = { List Call };
 
-    ghost view = { λ r. record { calls = map (λ e. call_of r.bytes.items e) r.entries.items; spare_calls = vec_capacity r.entries - vec_len r.entries; spare_bytes = vec_capacity r.bytes - vec_len r.bytes } };
+    ghost view = { λ r. reverse (map (λ e. call_of r.bytes.items e) r.entries.items) };
 
     ghost invariant = { λ r. AreWithin (length r.bytes.items) r.entries.items };
 }
 
 impl CallRecord {
-    ghost use Rattle.dk_disk.specs.CallRecord.{as_call, HasSpare, IsSpared, IsPushed};
+    ghost use Rattle.dk_disk.specs.CallRecord.{as_call};
 
     pub(crate) fn new(alloc: Global) -> CallRecord
-        ensures { result.calls ≡ [] }
+        ensures { result ≡ [] }
     {
         CallRecord {
             entries: Vec::new(alloc),
@@ -71,23 +72,13 @@ impl CallRecord {
         }
     }
 
-    /// Makes room for so many calls and bytes. A refused call changes nothing but the room.
-    pub(crate) fn reserve(&mut self, calls: usize, bytes: usize) -> Result<(), NoMemory>
-        ensures ok { OnOk result (HasSpare self.new calls bytes) }
-        ensures err { OnErr result (HasSpare self.old calls bytes → ⊥) }
-        ensures kept { IsSpared self.old self.new }
+    /// Puts a call before the others.
+    pub(crate) fn put_first(&mut self, call: &Recorded<'_>) -> Result<(), NoMemory>
+        requires { IsAddressable call.now.step }
+        ensures { OnOk result (self.new ≡ as_call call.now ∷ self.old) }
     {
-        self.entries.reserve(calls)?;
-        self.bytes.reserve(bytes)?;
-        Ok(())
-    }
-
-    /// Puts a call last, where there is room.
-    pub(crate) fn push(&mut self, call: &Recorded<'_>)
-        requires room { HasSpare self.old 1 (step_size call.now.step) }
-        requires range { IsAddressable call.now.step }
-        ensures { IsPushed self.old self.new (as_call call.now) (step_size call.now.step) }
-    {
+        self.entries.reserve(1)?;
+        self.bytes.reserve(call.step.size())?;
         let kept = keep(&mut self.bytes, &call.step);
         self.entries.push_reserved(Entry {
             number: call.number,
@@ -95,21 +86,22 @@ impl CallRecord {
             kept,
             is_made: call.is_made,
         });
+        Ok(())
     }
 
     pub(crate) fn count(&self) -> usize
-        ensures { result ≡ length self.now.calls }
+        ensures { result ≡ length self.now }
     {
         self.entries.len()
     }
 
     /// The call at this place, from 0.
     pub(crate) fn call(&self, at: usize) -> Recorded<'_>
-        requires { at < length self.now.calls }
-        ensures call { slice_get self.now.calls at ≡ Some (as_call result) }
+        requires { at < length self.now }
+        ensures call { slice_get self.now at ≡ Some (as_call result) }
         ensures range { IsAddressable result.step }
     {
-        let entry = &self.entries[at];
+        let entry = &self.entries[self.entries.len() - 1 - at];
         Recorded {
             number: entry.number,
             side: entry.side,
@@ -126,7 +118,6 @@ fn keep(bytes: &mut Vec<u8>, step: &Step<'_>) -> Kept
     ensures put { bytes.new.items ≡ bytes.old.items ++ bytes_of step.now }
     ensures kept { change_at bytes.new.items result ≡ change_of step.now }
     ensures within { IsWithinRecord (length bytes.new.items) result }
-    ensures room { vec_capacity bytes.old - vec_len bytes.old ≤ vec_capacity bytes.new - vec_len bytes.new + step_size step.now }
 {
     match step {
         Step::Write { at, bytes: new } => {

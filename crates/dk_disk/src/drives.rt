@@ -1,14 +1,13 @@
 //! The two files of a home in memory.
-ghost use Rattle.std.specs.Prelude.{◌≡◌, ◌<◌, ◌^◌, length, OnOk, OnErr};
+ghost use Rattle.std.specs.Prelude.{◌≡◌, ◌+◌, ◌<◌, ◌≤◌, ◌^◌, length, OnOk, OnErr};
 ghost use Rattle.dk_types.specs.declared.side.Side.{Side as Which};
 ghost use Rattle.dk_disk.specs.DiskHistories.{other_side};
-ghost use Rattle.dk_disk.specs.MemoryFiles.{file_of, HasPlace, AreReserved, IsReserved, IsChanged};
+ghost use Rattle.dk_disk.specs.MemoryFiles.{file_of, size_of, AreReserved, IsReserved, IsChanged};
 ghost use Rattle.dk_disk.specs.Step.{step_size, IsWithin, reads_after};
 
 use crate::memory_file::MemoryFile;
 use crate::step::Step;
 use dk_types::{NoMemory, Side};
-use std::alloc::Global;
 use std::marker::Model;
 
 /// Both files.
@@ -27,24 +26,22 @@ impl Model for Drives {
 }
 
 impl Drives {
-    pub(crate) fn new(alloc: Global, zero: Vec<u8>, one: Vec<u8>) -> Drives
-        ensures zero_first { result.zero.first ≡ zero.items }
-        ensures zero_reads { result.zero.reads ≡ zero.items }
-        ensures one_first { result.one.first ≡ one.items }
-        ensures one_reads { result.one.reads ≡ one.items }
+    pub(crate) fn new(zero: Vec<u8>, one: Vec<u8>) -> Drives
+        ensures zero { result.zero.reads ≡ zero.items }
+        ensures one { result.one.reads ≡ one.items }
     {
         Drives {
-            zero: MemoryFile::new(alloc, zero),
-            one: MemoryFile::new(alloc, one),
+            zero: MemoryFile::new(zero),
+            one: MemoryFile::new(one),
         }
     }
 
     /// Makes room for a change of one file with so many bytes. A refused call changes nothing but the room.
     pub(crate) fn reserve(&mut self, side: Side, bytes: usize) -> Result<(), NoMemory>
-        ensures ok { OnOk result (HasPlace (file_of self.new side) bytes) }
-        ensures err { OnErr result (HasPlace (file_of self.old side) bytes → ⊥) }
+        ensures ok { OnOk result (bytes ≤ (file_of self.new side).room) }
+        ensures err { OnErr result ((file_of self.old side).room < bytes) }
         ensures kept { (s : Which) → IsReserved (file_of self.old s) (file_of self.new s) }
-        ensures small { OnOk result (length (file_of self.new side).reads < 2 ^ 63) }
+        ensures small { OnOk result (length (file_of self.new side).reads + bytes < 2 ^ 63) }
     {
         match side {
             Side::Zero => self.zero.reserve(bytes),
@@ -52,13 +49,14 @@ impl Drives {
         }
     }
 
-    /// Makes room for a change of either file with so many bytes.
-    pub(crate) fn reserve_both(&mut self, bytes: usize) -> Result<(), NoMemory>
-        ensures ok { OnOk result (HasPlace self.new.zero bytes × HasPlace self.new.one bytes) }
+    /// Makes room for a change of either file with so many bytes, which the system has given by then.
+    pub(crate) fn prepare_both(&mut self, bytes: usize) -> Result<(), NoMemory>
+        ensures ok { OnOk result ((bytes ≤ self.new.zero.room) × (bytes ≤ self.new.one.room)) }
         ensures kept { AreReserved self.old self.new }
+        ensures small { OnOk result (size_of self.new + bytes < 2 ^ 64) }
     {
-        self.zero.reserve(bytes)?;
-        self.one.reserve(bytes)
+        self.zero.prepare(bytes)?;
+        self.one.prepare(bytes)
     }
 
     pub(crate) fn bytes(&self, side: Side) -> &[u8]
@@ -70,19 +68,18 @@ impl Drives {
         }
     }
 
-    pub(crate) fn first(&self, side: Side) -> &[u8]
-        ensures { result.now ≡ (file_of self.now side).first }
+    /// How many bytes both files hold.
+    pub(crate) fn size(&self) -> usize
+        ensures size { result ≡ size_of self.now }
+        ensures small { (s : Which) → length (file_of self.now s).reads < 2 ^ 63 }
     {
-        match side {
-            Side::Zero => self.zero.first(),
-            Side::One => self.one.first(),
-        }
+        self.zero.bytes().len() + self.one.bytes().len()
     }
 
     /// Does what a call is to do.
     pub(crate) fn change(&mut self, side: Side, step: &Step<'_>)
         requires within { IsWithin step.now (file_of self.old side).reads }
-        requires place { HasPlace (file_of self.old side) (step_size step.now) }
+        requires place { step_size step.now ≤ (file_of self.old side).room }
         ensures this { IsChanged (file_of self.old side) (file_of self.new side) (reads_after step.now (file_of self.old side).reads) (step_size step.now) }
         ensures other { file_of self.new (other_side side) ≡ file_of self.old (other_side side) }
     {

@@ -22,3 +22,5 @@ pub mod memory_home;
 mod replay;
 mod step;
 pub mod torn;
+mod undo_record;
+mod unwinding;

@@ -1,61 +1,59 @@
-//! A file in memory, with what it held at first.
+//! A file in memory.
 ghost use Rattle.std.specs.Prelude.{◌≡◌, ◌+◌, ◌-◌, ◌<◌, ◌≤◌, ◌^◌, length, vec_len, OnOk, OnErr};
 ghost use Rattle.std.specs.Vec.{vec_capacity};
 ghost use Rattle.dk_disk.specs.Disk.{overwritten};
 
 use crate::step::Step;
 use dk_types::NoMemory;
-use std::alloc::Global;
 use std::marker::Model;
 
-/// The bytes of a file. What it held at first is copied before the first change.
+/// The bytes of a file.
 #[derive(Drop)]
 pub(crate) struct MemoryFile {
-    alloc: Global,
-    first: Vec<u8>,
     bytes: Vec<u8>,
-    is_kept: bool,
 }
 
 impl Model for MemoryFile {
-    ghost use Rattle.std.specs.Prelude.{◌-◌, vec_len, if◌then◌else◌};
+    ghost use Rattle.std.specs.Prelude.{◌-◌, vec_len};
     ghost use Rattle.std.specs.Vec.{vec_capacity};
     ghost use Rattle.dk_disk.specs.MemoryFiles.{File};
 
     ghost Value = { File };
 
-    ghost view = { λ d. record { first = if d.is_kept then d.first.items else d.bytes.items; reads = d.bytes.items; is_kept = d.is_kept; room = vec_capacity d.bytes - vec_len d.bytes } };
+    ghost view = { λ d. record { reads = d.bytes.items; room = vec_capacity d.bytes - vec_len d.bytes } };
 }
 
 impl MemoryFile {
-    ghost use Rattle.dk_disk.specs.MemoryFiles.{HasPlace, IsReserved, IsChanged};
+    ghost use Rattle.dk_disk.specs.MemoryFiles.{IsReserved, IsChanged};
     ghost use Rattle.dk_disk.specs.Step.{IsWithin, step_size, reads_after};
 
-    pub(crate) fn new(alloc: Global, bytes: Vec<u8>) -> MemoryFile
-        ensures first { result.first ≡ bytes.items }
-        ensures reads { result.reads ≡ bytes.items }
+    pub(crate) fn new(bytes: Vec<u8>) -> MemoryFile
+        ensures { result.reads ≡ bytes.items }
     {
-        let is_kept = bytes.is_empty();
-        MemoryFile {
-            alloc,
-            first: Vec::new(alloc),
-            bytes,
-            is_kept,
-        }
+        MemoryFile { bytes }
     }
 
     /// Makes room for a change with so many bytes. A refused call changes nothing but the room.
     pub(crate) fn reserve(&mut self, bytes: usize) -> Result<(), NoMemory>
-        ensures ok { OnOk result (HasPlace self.new bytes) }
-        ensures err { OnErr result (HasPlace self.old bytes → ⊥) }
+        ensures ok { OnOk result (bytes ≤ self.new.room) }
+        ensures err { OnErr result (self.old.room < bytes) }
         ensures kept { IsReserved self.old self.new }
-        ensures small { OnOk result (length self.new.reads < 2 ^ 63) }
+        ensures small { OnOk result (length self.new.reads + bytes < 2 ^ 63) }
     {
-        if !self.is_kept {
-            self.first = self.bytes.to_vec(self.alloc)?;
-            self.is_kept = true;
-        }
         self.bytes.reserve(bytes)?;
+        Ok(())
+    }
+
+    /// The same. The system has given the room by then, so that no later call within it waits for a page.
+    pub(crate) fn prepare(&mut self, bytes: usize) -> Result<(), NoMemory>
+        ensures ok { OnOk result (bytes ≤ self.new.room) }
+        ensures kept { IsReserved self.old self.new }
+        ensures small { OnOk result (length self.new.reads + bytes < 2 ^ 63) }
+    {
+        self.bytes.reserve(bytes)?;
+        let size = self.bytes.len();
+        self.bytes.resize(size + bytes, 0)?;
+        self.bytes.truncate(size);
         Ok(())
     }
 
@@ -65,20 +63,10 @@ impl MemoryFile {
         &self.bytes
     }
 
-    pub(crate) fn first(&self) -> &[u8]
-        ensures { result.now ≡ self.now.first }
-    {
-        if self.is_kept {
-            &self.first
-        } else {
-            &self.bytes
-        }
-    }
-
     /// Does what a call is to do.
     pub(crate) fn change(&mut self, step: &Step<'_>)
         requires within { IsWithin step.now self.old.reads }
-        requires place { HasPlace self.old (step_size step.now) }
+        requires place { step_size step.now ≤ self.old.room }
         ensures { IsChanged self.old self.new (reads_after step.now self.old.reads) (step_size step.now) }
     {
         match step {

@@ -1,38 +1,39 @@
 //! A home in memory, which fails where a test says so and gives the images of a crash.
-ghost use Rattle.std.specs.Prelude.{◌≡◌, ◌⊎◌, ◌+◌, ◌<◌, ◌≤◌, ◌^◌, ◌↔◌, ℕ, List, length, take, drop, true, if◌then◌else◌, [], IsErr, IsErrOf, IsTrue, IfOk, IfErr, OnOk, OnErr};
+ghost use Rattle.std.specs.Prelude.{◌≡◌, ◌⊎◌, ◌+◌, ◌<◌, ◌≤◌, ◌^◌, ◌↔◌, ℕ, List, length, take, drop, true, not, if◌then◌else◌, [], IsErr, IsErrOf, IsTrue, IfOk, IfErr, OnOk, OnErr};
 ghost use Rattle.dk_types.specs.Faults.{HasRisen, COUNT_END};
 ghost use Rattle.dk_disk.specs.Disk.{IsImage, after_write, after_failed_write, after_cut, after_failed_cut, after_sync};
 ghost use Rattle.dk_disk.specs.Opening.{NotCalled, Refused, Opened, IsOpen};
 ghost use Rattle.dk_types.specs.declared.side.Side.{Side as Which};
-ghost use Rattle.dk_types.specs.FaultPlan.{after_call, fails_next};
+ghost use Rattle.dk_types.specs.FaultPlan.{after_call, fails_next, counted_up};
 ghost use Rattle.dk_disk.specs.Step.{change_of, step_size, reads_after, IsWithin};
 ghost use Rattle.dk_disk.specs.Record.{Write, Cut, Sync, made, failed};
 ghost use Rattle.dk_disk.specs.DiskHistories.{now, other_side, Elapses, Stays, Becomes, MayBecome, MayLeave};
-ghost use Rattle.dk_disk.specs.Memory.{past_of, next_call, looked, Changes, IsReady, IsRoomy, Opens};
+ghost use Rattle.dk_disk.specs.Memory.{past_of, looked, Changes, IsReady, IsRoomy, Opens};
 ghost use Rattle.dk_disk.specs.Torn.{IsTorn, AreTorn};
 ghost use Rattle.dk_disk.specs.declared.torn.CrashRefused.TheVariants.{NoSuchCall, NoMemory as WantOfMemory};
-ghost use Rattle.dk_disk.specs.MemoryFiles.{AreReserved, HasPlace, Takes, file_of};
-ghost use Rattle.dk_disk.specs.CallRecord.{IsSpared, IsPushed, HasSpare};
+ghost use Rattle.dk_disk.specs.MemoryFiles.{AreReserved, Takes, file_of, size_of};
+ghost use Rattle.dk_disk.specs.UndoRecord.{IsSpared, IsPushed, HasSpare, undo_for};
 
-use crate::call_record::{CallRecord, Recorded};
+use crate::call_record::Recorded;
 use crate::drives::Drives;
 use crate::home::Home;
 use crate::home_opening::HomeOpening;
-use crate::replay::Replay;
 use crate::step::Step;
 use crate::torn::{CrashRefused, Torn};
+use crate::undo_record::UndoRecord;
+use crate::unwinding::Unwinding;
 use dk_types::{Failed, FaultPlan, NoMemory, Side};
 use std::alloc::Global;
 use std::marker::Model;
 
-/// Two files in memory, with a record of the calls on them. It fails exactly at the calls whose numbers
-/// were named, and where there is no room for a call's record or bytes. Calls are numbered from 1 over
-/// both files; `open` has no number.
+/// Two files in memory, with a record of what takes the calls on them back. It fails exactly at the calls
+/// whose numbers were named, and where there is no room for a call's record or bytes. Calls are numbered
+/// from 1 over both files; `open` has no number.
 #[derive(Drop)]
 pub struct MemoryHome {
     alloc: Global,
     drives: Drives,
-    calls: CallRecord,
+    undos: UndoRecord,
     plan: FaultPlan,
     entrance: HomeOpening,
 }
@@ -42,9 +43,9 @@ impl Model for MemoryHome {
 
     ghost Value = { Memory };
 
-    ghost view = { λ m. memory_of m.drives m.calls m.plan m.entrance };
+    ghost view = { λ m. memory_of m.drives m.undos m.plan m.entrance };
 
-    ghost invariant = { λ m. IsConsistent (memory_of m.drives m.calls m.plan m.entrance) m.drives };
+    ghost invariant = { λ m. IsConsistent (memory_of m.drives m.undos m.plan m.entrance) m.drives };
 }
 
 impl MemoryHome {
@@ -60,14 +61,15 @@ impl MemoryHome {
     {
         MemoryHome {
             alloc,
-            drives: Drives::new(alloc, zero, one),
-            calls: CallRecord::new(alloc),
+            drives: Drives::new(zero, one),
+            undos: UndoRecord::new(alloc),
             plan: FaultPlan::new(failing),
             entrance: HomeOpening::new(alloc, open_fails),
         }
     }
 
-    /// Makes room for so many calls and bytes, those of the folder's name among them. A refused call
+    /// Makes room for so many calls and bytes, those of the folder's name among them. The system has given
+    /// the files' room by then, so that no later call within it waits for a page of a file. A refused call
     /// changes nothing but the room.
     pub fn reserve(&mut self, calls: u64, bytes: u64) -> Result<(), NoMemory>
         ensures room { OnOk result ((calls ≤ self.new.room.calls) × (bytes ≤ self.new.room.bytes)) }
@@ -75,7 +77,7 @@ impl MemoryHome {
     {
         make_all_room(
             &mut self.drives,
-            &mut self.calls,
+            &mut self.undos,
             &mut self.entrance,
             calls as usize,
             bytes as usize,
@@ -123,18 +125,12 @@ impl MemoryHome {
         ensures images { IfOk result (λ pair. MayLeave (past_of self.now) moment pair.0.items pair.1.items) }
         ensures torn { IfOk result (λ pair. AreTorn torn (past_of self.now) moment pair.0.items pair.1.items) }
     {
-        let zero = self.image(Side::Zero, moment, torn)?;
-        let one = self.image(Side::One, moment, torn)?;
+        let zero = self.drives.bytes(Side::Zero);
+        let one = self.drives.bytes(Side::One);
+        let past = Unwinding::of(self.alloc, zero, one, &self.undos)?;
+        let zero = past.image(Side::Zero, moment, torn)?;
+        let one = past.image(Side::One, moment, torn)?;
         Ok((zero, one))
-    }
-
-    fn image(&self, side: Side, moment: u64, torn: Torn) -> Result<Vec<u8>, NoMemory>
-        ensures image { IfOk result (λ image. IsImage ((past_of self.now).disks moment side) image.items) }
-        ensures torn { IfOk result (λ image. IsTorn torn ((past_of self.now).disks moment side) image.items) }
-    {
-        let first = self.drives.first(side);
-        let replay = Replay::at_moment(self.alloc, first, &self.calls, side, moment)?;
-        replay.image(torn)
     }
 
     /// Numbers a call that only looks.
@@ -164,7 +160,7 @@ impl MemoryHome {
     {
         if make_room(
             &mut self.drives,
-            &mut self.calls,
+            &mut self.undos,
             &self.plan,
             side,
             step.size(),
@@ -176,7 +172,7 @@ impl MemoryHome {
         }
         carry_out(
             &mut self.drives,
-            &mut self.calls,
+            &mut self.undos,
             &mut self.plan,
             side,
             step,
@@ -310,12 +306,12 @@ impl Home for MemoryHome {
 /// Numbers a call and records it, and does it where it is not to fail. There is room for it.
 fn carry_out(
     drives: &mut Drives,
-    calls: &mut CallRecord,
+    undos: &mut UndoRecord,
     plan: &mut FaultPlan,
     side: Side,
     step: &Step<'_>,
 ) -> Result<(), Failed>
-    requires ready { IsReady drives.old calls.old plan.old side (step_size step.now) }
+    requires ready { IsReady drives.old undos.old plan.old side (step_size step.now) }
     requires within { IsWithin step.now (file_of drives.old side).reads }
     requires small { (length (file_of drives.old side).reads < 2 ^ 63) × (step_size step.now < 2 ^ 63) }
     ensures plan { plan.new ≡ after_call plan.old }
@@ -324,7 +320,7 @@ fn carry_out(
     ensures cause { OnErr result (HasRisen plan.old.faults plan.new.faults) }
     ensures most { plan.new.faults ≤ COUNT_END }
     ensures fails { IsErr result ↔ IsTrue (fails_next plan.old) }
-    ensures recorded { IsPushed calls.old calls.new (next_call plan.old side (change_of step.now)) (step_size step.now) }
+    ensures recorded { IsPushed undos.old undos.new (undo_for (counted_up plan.old.calls) side step.now (not (fails_next plan.old)) (file_of drives.old side).reads) }
     ensures takes { (s : Which) → Takes (file_of drives.old s) (file_of drives.new s) (step_size step.now) }
     ensures this { (file_of drives.new side).reads ≡ (if fails_next plan.old then (file_of drives.old side).reads else reads_after step.now (file_of drives.old side).reads) }
     ensures other { file_of drives.new (other_side side) ≡ file_of drives.old (other_side side) }
@@ -336,7 +332,7 @@ fn carry_out(
         step: *step,
         is_made: outcome.is_ok(),
     };
-    calls.push(&call);
+    undos.push(&call, drives.bytes(side));
     if call.is_made {
         drives.change(side, step);
     }
@@ -346,38 +342,38 @@ fn carry_out(
 /// Makes room for one more call with so many bytes, if there is a number for it.
 fn make_room(
     drives: &mut Drives,
-    calls: &mut CallRecord,
+    undos: &mut UndoRecord,
     plan: &FaultPlan,
     side: Side,
     bytes: usize,
 ) -> Result<(), NoMemory>
-    ensures ok { OnOk result (IsReady drives.new calls.new plan.now side bytes) }
-    ensures err { OnErr result (IsReady drives.old calls.old plan.now side bytes → ⊥) }
+    ensures ok { OnOk result (IsReady drives.new undos.new plan.now side bytes) }
+    ensures err { OnErr result (IsReady drives.old undos.old plan.now side bytes → ⊥) }
     ensures kept { AreReserved drives.old drives.new }
-    ensures spared { IsSpared calls.old calls.new }
+    ensures spared { IsSpared undos.old undos.new }
     ensures small { OnOk result (length (file_of drives.new side).reads < 2 ^ 63) }
 {
     if plan.calls() == u64::MAX {
         return Err(NoMemory);
     }
     drives.reserve(side, bytes)?;
-    calls.reserve(1, bytes)
+    undos.reserve(1, drives.size() + bytes)
 }
 
 /// Makes room for so many calls, and for so many bytes of each kind.
 fn make_all_room(
     drives: &mut Drives,
-    calls: &mut CallRecord,
+    undos: &mut UndoRecord,
     entrance: &mut HomeOpening,
     more_calls: usize,
     bytes: usize,
 ) -> Result<(), NoMemory>
-    ensures ok { OnOk result (HasPlace drives.new.zero bytes × HasPlace drives.new.one bytes × HasSpare calls.new more_calls bytes × (bytes ≤ entrance.new.room)) }
+    ensures ok { OnOk result ((bytes ≤ drives.new.zero.room) × (bytes ≤ drives.new.one.room) × HasSpare undos.new more_calls (size_of drives.new + bytes) × (bytes ≤ entrance.new.room)) }
     ensures kept { AreReserved drives.old drives.new }
-    ensures spared { IsSpared calls.old calls.new }
+    ensures spared { IsSpared undos.old undos.new }
     ensures opening { (entrance.new.opening ≡ entrance.old.opening) × (entrance.new.fails ≡ entrance.old.fails) × (entrance.old.room ≤ entrance.new.room) }
 {
-    drives.reserve_both(bytes)?;
-    calls.reserve(more_calls, bytes)?;
+    drives.prepare_both(bytes)?;
+    undos.reserve(more_calls, drives.size() + bytes)?;
     entrance.reserve(bytes)
 }

@@ -1,4 +1,4 @@
-//! What a file was at some moment, from the record of the calls.
+//! What a file was at some moment, from what it held at first and the calls.
 ghost use Rattle.std.specs.Prelude.{◌≡◌, ◌+◌, ◌<◌, ◌≤◌, ◌^◌, length, IfOk, OnOk};
 ghost use Rattle.dk_disk.specs.Disk.{settled};
 ghost use Rattle.dk_disk.specs.Record.{Write, Cut, Sync, changed, after_one, replayed};
@@ -56,7 +56,7 @@ impl Replay {
         side: Side,
         moment: u64,
     ) -> Result<Replay, NoMemory>
-        ensures { IfOk result (λ replay. replay ≡ replayed moment side calls.now.calls (settled first.now)) }
+        ensures { IfOk result (λ replay. replay ≡ replayed moment side calls.now (settled first.now)) }
     {
         let mut replay = Replay::begin(alloc, first)?;
         'calls: for at in 0..calls.count() {

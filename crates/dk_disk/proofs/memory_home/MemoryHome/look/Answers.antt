@@ -7,14 +7,14 @@ use Rattle.dk_disk.proofs.memory_home.MemoryHome.look.Goals as goal
 pub invariant_of-self : goal.invariant_of-self
 invariant_of-self c =
     let later : c.self.inside.plan.calls ≤ counted_up c.self.inside.plan.calls = rw c.call.ensures.plan at c.call.ensures.later in
-    rw c.call.ensures.plan (looked_consistent (memory_of c.self.inside.drives c.self.inside.calls c.self.inside.plan c.self.inside.entrance) c.self.inside.drives later c.self.invariant)
+    rw c.call.ensures.plan (looked_consistent (memory_of c.self.inside.drives c.self.inside.undos c.self.inside.plan c.self.inside.entrance) c.self.inside.drives later c.self.invariant)
 
 pub returns-clause-files : goal.returns-clause-files
 returns-clause-files c =
     let later : c.self.inside.plan.calls ≤ counted_up c.self.inside.plan.calls = rw c.call.ensures.plan at c.call.ensures.later in
-    rw (← c.self.view_is, c.call.ensures.plan) (looked_elapses (memory_of c.self.inside.drives c.self.inside.calls c.self.inside.plan c.self.inside.entrance) later c.self.invariant.numbered).1
+    rw (← c.self.view_is, c.call.ensures.plan) (looked_elapses (memory_of c.self.inside.drives c.self.inside.undos c.self.inside.plan c.self.inside.entrance) later c.self.invariant.numbered).1
 
 pub returns-clause-time : goal.returns-clause-time
 returns-clause-time c =
     let later : c.self.inside.plan.calls ≤ counted_up c.self.inside.plan.calls = rw c.call.ensures.plan at c.call.ensures.later in
-    rw (← c.self.view_is, c.call.ensures.plan) (looked_elapses (memory_of c.self.inside.drives c.self.inside.calls c.self.inside.plan c.self.inside.entrance) later c.self.invariant.numbered).0
+    rw (← c.self.view_is, c.call.ensures.plan) (looked_elapses (memory_of c.self.inside.drives c.self.inside.undos c.self.inside.plan c.self.inside.entrance) later c.self.invariant.numbered).0
