@@ -1,6 +1,7 @@
 -- The lists that a walk over the stores copies.
-use Rattle.std.proofs.Common.{◌≡◌, ℕ, refl, sym, ap, ◌∙◌, List, [], ◌∷◌, ◌++◌, map}
+use Rattle.std.proofs.Common.{◌≡◌, ℕ, refl, sym, ap, ◌∙◌, subst, List, [], ◌∷◌, ◌++◌, map, IsPermutation}
 use Rattle.std.proofs.lemmas.List.{append-nil}
+use Rattle.std.proofs.lemmas.List.Sorted.{IsPermutation-map}
 use Rattle.std.specs.FinMap.{FinMap, entries}
 use Rattle.std.specs.declared.cmp.Ordering.{Ordering}
 use Rattle.dk_map.specs.Values.{values_with}
@@ -19,3 +20,10 @@ pub bare_entries : {A K X : Type 0} {R : K → K → Ordering} (both : A → K �
     → map (λ e. ((both e).0, (both e).1.0)) es ≡ entries (values_with (λ s. s.0) m)
 bare_entries both es m e =
     sym (map-map (λ (p : _ × (_ × ℕ)). (p.0, p.1.0)) both es) ∙ ap (map (λ (p : _ × (_ × ℕ)). (p.0, p.1.0))) e ∙ sym (entries_values (λ (s : _ × ℕ). s.0) m)
+
+-- and entries in no order are those of that map in no order
+pub bare_permuted : {A K X : Type 0} {R : K → K → Ordering} (both : A → K × (X × ℕ)) (es : List A) (m : FinMap R (X × ℕ)) → IsPermutation (map both es) (entries m)
+    → IsPermutation (map (λ e. ((both e).0, (both e).1.0)) es) (entries (values_with (λ s. s.0) m))
+bare_permuted both es m p =
+    let bare = IsPermutation-map (λ (q : _ × (_ × ℕ)). (q.0, q.1.0)) (map both es) (entries m) p in
+    subst (λ l. IsPermutation l (entries (values_with (λ s. s.0) m))) (map-map (λ (q : _ × (_ × ℕ)). (q.0, q.1.0)) both es) (subst (IsPermutation _) (sym (entries_values (λ (s : _ × ℕ). s.0) m)) bare)

@@ -5,11 +5,13 @@
 //! what, and when, is the business of the core.
 
 pub use conflicts::Conflict;
+pub use copies::WorldCopy;
 pub use look::WorldLook;
 pub use world::StampedWorld;
 
 pub mod commits;
 pub mod conflicts;
+pub mod copies;
 pub mod listing;
 pub mod look;
 mod publish;

@@ -9,7 +9,7 @@
 pub use answers::{ClaimRefused, ConnectRefused, PrepareRefused};
 pub use claimed::Claimed;
 pub use dk_connections::{Handed, PostRefused};
-pub use durable::{Conflict, WorldLook};
+pub use durable::{Conflict, WorldCopy, WorldLook};
 pub use prepared::Prepared;
 pub use world::Core;
 

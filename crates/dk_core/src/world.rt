@@ -11,7 +11,7 @@ ghost use Rattle.dk_types.specs.declared.limits.TheConstants.{NUMBERS_END};
 ghost use Rattle.dk_core.specs.Numbers.{HasNumbers, HasNumbers-prop};
 
 use crate::claims::Claims;
-use crate::durable::{StampedWorld, WorldLook};
+use crate::durable::{StampedWorld, WorldCopy, WorldLook};
 use crate::opening::open_connections;
 use dk_connections::Connections;
 use dk_types::{Durable, Item, NoMemory, Read, RunNo};
@@ -107,10 +107,17 @@ impl Core {
         self.world.look()
     }
 
+    /// A copy of the durable world, whose objects are in no order yet: who holds a lock meanwhile puts them in order behind it.
+    pub fn copy(&self) -> Result<WorldCopy, NoMemory>
+        ensures { IfOk result (λ copy. copy ≡ listed (world_of self.now).durable) }
+    {
+        self.world.copy(self.alloc)
+    }
+
     /// A copy of the durable world as lists.
     pub fn durable(&self) -> Result<Durable, NoMemory>
         ensures { IfOk result (λ durable. durable ≡ listed (world_of self.now).durable) }
     {
-        self.world.durable(self.alloc)
+        self.copy()?.in_order()
     }
 }

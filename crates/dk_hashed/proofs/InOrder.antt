@@ -67,7 +67,7 @@ module _ {K V : Type 0} {R : K → K → Ordering} (o : IsTotalOrder R) where
         (λ q. find-in_order fs q ∙ sym (lookup_find fs q) ∙ h q ∙ (λ i. cond (turned o eq by k q i) None (lookup_in_order es q i)) ∙ sym (find-without o (in_order R es) (ordered-in_order R es) k q))
 
     -- a key that is equal to none is not found
-    apart : (k : K) (es : List (K × V)) → AllByRecursion (λ y. eq k y ≡ false) (keys_of es) → find R k es ≡ None
+    pub apart : (k : K) (es : List (K × V)) → AllByRecursion (λ y. eq k y ≡ false) (keys_of es) → find R k es ≡ None
     apart k [] h = refl
     apart k (e ∷ es) h = (λ i. cond ((sym (by k e.0) ∙ h.0) i) (Some e.1) (find R k es)) ∙ apart k es h.1
 

@@ -1,7 +1,6 @@
 // The map that finds its entries by a hash of their keys, and how many more it has promised room for.
 ghost use Rattle.std.specs.Prelude.{◌≡◌, ◌+◌, ◌^◌, ◌<◌, ◌≤◌, [], length, map as list_map, None, IfSome, IfOk, OnErr, OnOk, is_some, IsTrue, ◌↔◌, if◌then◌else◌, Ok, Some};
-ghost use Rattle.std.specs.List.{All};
-ghost use Rattle.std.specs.HashMap.{get};
+ghost use Rattle.std.specs.List.Sorted.{IsPermutation};
 ghost use Rattle.std.specs.Option.{option_map, option_copied};
 ghost use Rattle.std.specs.FinMap.{IsAntisymmetric};
 ghost use Rattle.std.specs.declared.cmp.Ordering.TheVariants.{Equal};
@@ -103,12 +102,18 @@ impl<K: Ord + Hash, V> HashedMap<K, V> {
         list.sort_by_key(|entry| entry.0)?;
         Ok(list)
     }
+
+    /// References to all entries in no order, as the table has them. Only the list itself takes memory.
+    pub fn unordered(&self, alloc: Global) -> Result<Vec<(&K, &V)>, AllocError>
+        ensures { IfOk result (λ list. IsPermutation (list_map (λ e. (e.0.now, e.1.now)) list.items) self.now.entries) }
+    {
+        shown(&self.map, alloc)
+    }
 }
 
 /// References to all entries of a table, as they stand there.
 fn shown<K: Ord + Hash, V>(map: &Table<K, V>, alloc: Global) -> Result<Vec<(&K, &V)>, AllocError>
-    ensures shown { IfOk result (λ list. list_map (λ e. (e.0.now, e.1.now)) list.items ≡ map.now.entries) }
-    ensures found { All (λ e. get K.eq map.now e.0 ≡ Some e.1) map.now.entries }
+    ensures { IfOk result (λ list. list_map (λ e. (e.0.now, e.1.now)) list.items ≡ map.now.entries) }
 {
     map.iter().collect(alloc)
 }

@@ -1,6 +1,7 @@
 //! Managed objects, by id.
 ghost use Rattle.std.specs.Prelude.{◌≡◌, ◌+◌, ◌^◌, ◌<◌, ◌≤◌, map as list_map, None, Ok, IfOk, OnOk, OnErr, if◌then◌else◌};
 ghost use Rattle.std.specs.FinMap as map;
+ghost use Rattle.std.specs.List.Sorted.{IsPermutation};
 ghost use Rattle.std.specs.Option.{option_map};
 ghost use Rattle.dk_objects.specs.StampedObjects.{restamped};
 
@@ -108,5 +109,12 @@ impl Objects {
         ensures { IfOk result (λ list. list_map (λ e. (e.0.now, e.1.now)) list.items ≡ map.entries self.now.objects) }
     {
         Ok(self.objects.entries(alloc)?)
+    }
+
+    /// All objects in no order. Only the list itself takes memory.
+    pub fn unordered(&self, alloc: Global) -> Result<Vec<(&ObjectId, &(Object, u64))>, NoMemory>
+        ensures { IfOk result (λ list. IsPermutation (list_map (λ e. (e.0.now, e.1.now)) list.items) (map.entries self.now.objects)) }
+    {
+        Ok(self.objects.unordered(alloc)?)
     }
 }

@@ -1,5 +1,6 @@
 //! The world from a list of what it holds, and back.
 ghost use Rattle.std.specs.Prelude.{◌≡◌, false, Some, IfOk, map as list_map};
+ghost use Rattle.std.specs.List.Sorted.{IsPermutation};
 ghost use Rattle.std.specs.FinMap.{entries as entries_of, get as get_of};
 ghost use Rattle.dk_types.specs.declared.number.TaskKey.{TaskKey as Key};
 ghost use Rattle.dk_model.specs.Effects.{pending_of};
@@ -9,20 +10,21 @@ ghost use Rattle.dk_tasks.specs.Tasks.{Kept, durable_tasks};
 ghost use Rattle.dk_core.specs.StampedWorlds.{durable_of, HasStamps};
 ghost use Rattle.dk_core.specs.Listings.{world_of, listed};
 
+use crate::durable::copies::WorldCopy;
 use crate::durable::publish::{add_tasks, bind_names, set_objects};
 use crate::durable::world::StampedWorld;
 use dk_names::Names;
 use dk_objects::Objects;
 use dk_tasks::Tasks;
-use dk_types::{Durable, Listed, Name, NoMemory, Object, ObjectId, Pending};
+use dk_types::{Durable, Name, NoMemory, Object, ObjectId, Pending};
 use std::alloc::Global;
 
-/// A copy of the objects in the order of their ids.
+/// A copy of the objects in no order.
 fn list_objects(objects: &Objects, alloc: Global) -> Result<Vec<(ObjectId, Object)>, NoMemory>
-    ensures { IfOk result (λ list. list.items ≡ entries_of (objects_of objects.now.objects)) }
+    ensures { IfOk result (λ list. IsPermutation list.items (entries_of (objects_of objects.now.objects))) }
 {
     let mut list = Vec::new(alloc);
-    for (id, stamped) in objects.entries(alloc)? {
+    for (id, stamped) in objects.unordered(alloc)? {
         list.push((*id, stamped.0.clone()?))?;
     }
     Ok(list)
@@ -78,19 +80,16 @@ impl StampedWorld {
         self.names.entries(alloc)
     }
 
-    /// A copy of the world as a list.
-    pub fn durable(&self, alloc: Global) -> Result<Durable, NoMemory>
-        ensures { IfOk result (λ durable. durable ≡ listed (durable_of self.now)) }
+    /// A copy of the world, whose objects are in no order yet.
+    pub fn copy(&self, alloc: Global) -> Result<WorldCopy, NoMemory>
+        ensures { IfOk result (λ copy. copy ≡ listed (durable_of self.now)) }
     {
-        let objects = list_objects(&self.objects, alloc)?;
-        let names = list_names(&self.names, alloc)?;
-        let tasks = list_tasks(&self.tasks, alloc)?;
-        Ok(Durable {
+        Ok(WorldCopy {
             commits: self.commits,
             last: self.last,
-            objects: Listed::from_vec(objects),
-            names: Listed::from_vec(names),
-            tasks: Listed::from_vec(tasks),
+            objects: list_objects(&self.objects, alloc)?,
+            names: list_names(&self.names, alloc)?,
+            tasks: list_tasks(&self.tasks, alloc)?,
         })
     }
 }
