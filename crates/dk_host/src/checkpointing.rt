@@ -16,6 +16,7 @@ use crate::refused::CheckpointRefused;
 use crate::steps::{CopyLast, CopyWorld, Glance};
 use crate::store::CommitStore;
 use dk_checkpoint::{CheckpointRefused as NotWritten, checkpoint};
+use dk_core::WorldCopy;
 use dk_disk::Home;
 use dk_journal::Journal;
 use dk_turn::{Naming, Pass, Turn};
@@ -53,17 +54,18 @@ impl<W: Hosting, J: Naming, M: Home> CommitStore<W, J, M> {
             world.with(rt, pass, Glance);
             return Err(CheckpointRefused::Stopped { faults });
         }
-        let durable = self.copy(rt, world, pass)?;
+        let durable = self.copy(rt, world, pass)?.in_order()?;
         self.write_anew(&durable)
     }
 
-    // A copy of the durable world, after all commits: the store has seen them when it is made.
+    // A copy of the durable world, after all commits: the store has seen them when it is made. Who asks for it puts it in
+    // order, without the world's lock.
     fn copy<R: Wait>(
         &mut self,
         rt: &R,
         world: &Turn<WorldBook<W>, J>,
         pass: &mut Pass<WorldBook<W>, J>,
-    ) -> Result<Durable, NoMemory>
+    ) -> Result<WorldCopy, NoMemory>
         requires none_waits { self.old.waiting ≡ None }
         ensures number { pass.new.number ≡ pass.old.number }
         ensures entered { Entered W.opened pass.old.number [] pass.old.front pass.new.front }
@@ -136,7 +138,7 @@ impl<W: Hosting, J: Naming, M: Home> Host<W, J, M> {
         ensures world { IfOk result (λ durable. world_of durable ≡ (world_after W.opened pass.new.front).durable) }
         ensures named { All (λ e. pass_of e < J.name.passes) pass.new.front }
     {
-        self.world.with(rt, pass, CopyWorld)
+        self.world.with(rt, pass, CopyWorld)?.in_order()
     }
 
     /// Writes the store anew from its world, with the next epoch: the journal begins again behind an image of the world.

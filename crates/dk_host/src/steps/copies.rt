@@ -3,8 +3,9 @@
 use crate::book::WorldBook;
 use crate::hosting::Hosting;
 use crate::right::CommitRight;
+use dk_core::WorldCopy;
 use dk_turn::Step;
-use dk_types::{Durable, NoMemory};
+use dk_types::NoMemory;
 
 /// A look at the history as it is.
 #[derive(Drop)]
@@ -36,17 +37,17 @@ pub(crate) struct CopyWorld;
 impl<W: Hosting> Step<WorldBook<W>> for CopyWorld {
     ghost use Rattle.dk_host.specs.Steps.{Copies};
 
-    type Reply = Result<Durable, NoMemory>;
+    type Reply = Result<WorldCopy, NoMemory>;
 
     ghost may = { λ _ _ _. Unit {0} };
 
     ghost gives = { λ s pass before reply added. Copies W.opened before reply added };
 
-    fn apply(self, _pass: u32, book: &mut WorldBook<W>) -> Result<Durable, NoMemory> {
-        book.core.durable()
+    fn apply(self, _pass: u32, book: &mut WorldBook<W>) -> Result<WorldCopy, NoMemory> {
+        book.core.copy()
     }
 
-    fn wakes(_reply: &Result<Durable, NoMemory>) -> bool {
+    fn wakes(_reply: &Result<WorldCopy, NoMemory>) -> bool {
         false
     }
 }
@@ -60,7 +61,7 @@ impl<W: Hosting> Step<WorldBook<W>> for CopyLast<W> {
     ghost use Rattle.std.specs.Prelude.{◌≡◌};
     ghost use Rattle.dk_host.specs.Steps.{IsWhole, CopiesLast};
 
-    type Reply = (CommitRight<W>, Result<Durable, NoMemory>);
+    type Reply = (CommitRight<W>, Result<WorldCopy, NoMemory>);
 
     ghost may = { λ s _ _. IsWhole s.right.commits.parts s.right.places.parts };
 
@@ -73,13 +74,13 @@ impl<W: Hosting> Step<WorldBook<W>> for CopyLast<W> {
         self,
         _pass: u32,
         book: &mut WorldBook<W>,
-    ) -> (CommitRight<W>, Result<Durable, NoMemory>) {
+    ) -> (CommitRight<W>, Result<WorldCopy, NoMemory>) {
         let CopyLast { mut right } = self;
         right.audit(&mut book.commits, &mut book.places);
-        (right, book.core.durable())
+        (right, book.core.copy())
     }
 
-    fn wakes(_reply: &(CommitRight<W>, Result<Durable, NoMemory>)) -> bool {
+    fn wakes(_reply: &(CommitRight<W>, Result<WorldCopy, NoMemory>)) -> bool {
         false
     }
 }

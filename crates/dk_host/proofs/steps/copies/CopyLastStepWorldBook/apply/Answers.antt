@@ -26,6 +26,6 @@ returns g c =
         c.audit.ensures.commits.1,
         c.audit.ensures.places.1,
         c.audit.ensures.whole,
-        record { sees = record { adds = adds_none o now c.book.inside.core _ _ k; counted = sym (c.audit.ensures.commits.0 ∙ k.2) }; copied = (copies o now c.book.inside.core _ _ k c.durable.result c.durable.ensures).copied },
+        record { sees = record { adds = adds_none o now c.book.inside.core _ _ k; counted = sym (c.audit.ensures.commits.0 ∙ k.2) }; copied = (copies o now c.book.inside.core _ _ k c.copy.result c.copy.ensures).copied },
       ),
     )

@@ -12,5 +12,5 @@ returns g c =
       [],
       sym (append-nil c.args.book.now),
       (nothing_of c.args._pass).by,
-      copies o c.args.book.now c.book.inside.core _ _ k c.durable.result c.durable.ensures,
+      copies o c.args.book.now c.book.inside.core _ _ k c.copy.result c.copy.ensures,
     )
