@@ -118,7 +118,6 @@ impl<W: Hosting, J: Naming, M: Home> FreeStore<W, J, M> {
         ensures named { All (λ e. pass_of e < J.name.passes) pass.new.front }
         ensures leaves { Leaves self.old.store self.new.store result }
     {
-        self.store
-            .commit(rt, world, pass, claimed, finished, draft)
+        self.store.commit(rt, world, pass, claimed, finished, draft)
     }
 }
