@@ -3,7 +3,7 @@
 use dk_core::Conflict;
 use dk_core::durable::StampedWorld;
 use dk_txn::{Finished, Txn, View};
-use dk_types::{Blob, Item, Job, Name, ObjectId, Read, RunNo, Seen, TaskKey};
+use dk_types::{Blob, Durable, Item, Job, Name, NoMemory, ObjectId, Read, RunNo, Seen, TaskKey};
 use std::alloc::Global;
 use std::process::Abort;
 use std::test::Fail;
@@ -268,14 +268,19 @@ fn a_stale_read_is_told(rt: HostRuntime) -> Result<(), Fail> {
     Ok(())
 }
 
+/// A copy of the world, put in order.
+fn listed(alloc: Global, world: &StampedWorld) -> Result<Durable, NoMemory> {
+    world.copy(alloc)?.in_order()
+}
+
 /// A world that is opened with what another lists.
 fn opened_again(alloc: Global, world: &StampedWorld) -> Result<StampedWorld, Fail> {
-    let list = world.durable(alloc).ok().ok_or("a list")?;
+    let list = listed(alloc, world).ok().ok_or("a list")?;
     Ok(StampedWorld::open(alloc, list).ok().ok_or("a world")?)
 }
 
 fn is_same(alloc: Global, one: &StampedWorld, other: &StampedWorld) -> bool {
-    one.durable(alloc) == other.durable(alloc)
+    listed(alloc, one) == listed(alloc, other)
 }
 
 /// A world after the first two rows.
