@@ -10,6 +10,8 @@ pub mod Storing
 pub mod Looked
 pub mod Published
 pub mod Refusing
+pub mod Noticed
+pub mod Filling
 pub mod Settling
 pub mod Answered
 pub mod Begun

@@ -1,5 +1,5 @@
 -- What a refused commit leaves.
-use Rattle.std.proofs.Common.{◌≡◌, ℕ, ◌<◌, ◌^◌, List, [], ◌∷◌, ◌++◌, Some, None, Result, Ok, Err, refl, sym, ap, subst, ◌∙◌}
+use Rattle.std.proofs.Common.{◌≡◌, ℕ, ◌<◌, ◌^◌, List, [], ◌++◌, Err, refl, sym, ap, subst, ◌∙◌}
 use Rattle.std.proofs.lemmas.List.{append-nil}
 use Rattle.dk_types.specs.declared.event.Event.{Event}
 use Rattle.dk_model.specs.Lawful.{AreLawful}
@@ -17,12 +17,11 @@ use Rattle.dk_core.specs.declared.claimed.Claimed.{Claimed}
 use Rattle.dk_core.specs.declared.prepared.Prepared.{Prepared}
 use Rattle.dk_core.specs.declared.answers.PrepareRefused.{PrepareRefused}
 use Rattle.dk_core.specs.declared.answers.PrepareRefused.TheVariants as prepare_refused
-use Rattle.dk_turn.specs.Fronts.{Known, Watched, own}
+use Rattle.dk_turn.specs.Fronts.{Known, own}
 use Rattle.dk_host.specs.declared.refused.Why.{Why}
 use Rattle.dk_host.specs.Calls.{Entered, IsClaimOf, IsHonestAt}
-use Rattle.dk_host.specs.Refusals.{IsRetry, IsCauseAt, IsLeftBy, IsFree, IsWhyOfLook, IsWhyOfAppend}
-use Rattle.dk_core.specs.Rooms.{places_of}
-use Rattle.dk_host.specs.Stores.{Stored, Appends, FindsNext, IsNextCommit, WaitsOf}
+use Rattle.dk_host.specs.Refusals.{IsRetry, IsCauseAt, IsWhyOfLook, IsWhyOfAppend}
+use Rattle.dk_host.specs.Stores.{Stored, Appends, FindsNext}
 use Rattle.dk_host.proofs.Stepping.{all_none}
 
 -- a call that enters nothing and sees nothing
@@ -71,10 +70,6 @@ pub look_cause : (o : Opened) (front : List Event) (claimed : Claimed) (f : Fini
 look_cause o front claimed f room (prepare_refused.Retry c) w lawful honest finds is = subst (IsCauseAt o front claimed f) (sym is) (retry o front claimed f (stale_of c) lawful honest finds)
 look_cause o front claimed f room prepare_refused.NoMemory w lawful honest finds is = subst (IsCauseAt o front claimed f) (sym is) tt
 
-pub look_left : (old new : Stored) (refused : PrepareRefused) (w : Why) → IsWhyOfLook refused w → old.faults ≡ None → new.faults ≡ None → IsLeftBy w old new
-look_left old new (prepare_refused.Retry c) w is before now = subst (λ x. IsLeftBy x old new) (sym is) (before, now)
-look_left old new prepare_refused.NoMemory w is before now = subst (λ x. IsLeftBy x old new) (sym is) (before, now)
-
 -- the cause of an append that was refused
 pub append_cause : (o : Opened) (front : List Event) (claimed : Claimed) (f : Finished) (refused : JournalRefused) (w : Why) → IsAppendFault refused → IsWhyOfAppend refused w → ((n : ℕ) → refused ≡ journal_refused.Full n → 2 ^ 40 < n) → IsCauseAt o front claimed f w
 append_cause o front claimed f journal_refused.DiskFault w may is long = subst (IsCauseAt o front claimed f) (sym is) tt
@@ -83,15 +78,6 @@ append_cause o front claimed f (journal_refused.NotAStore at) w may is long = ab
 append_cause o front claimed f (journal_refused.Damaged at) w may is long = absurd may
 append_cause o front claimed f journal_refused.NoMemory w may is long = absurd may
 
-pub append_left : (old new : Stored) (p : Prepared) (refused : JournalRefused) (w : Why) → Appends old new p (Err refused) → IsWhyOfAppend refused w → old.faults ≡ None → old.waiting ≡ None → IsLeftBy w old new × IsFree new
-append_left old new p journal_refused.DiskFault w h is running none =
-    (subst (λ x. IsLeftBy x old new) (sym is) (running, h.0, h.1), λ stopped. let no : Some new.counted ≡ None = sym h.0 ∙ stopped in absurd cc)
-append_left old new p (journal_refused.Full n) w h is running none =
-    (subst (λ x. IsLeftBy x old new) (sym is) (running, ap (λ (v : Stored). v.faults) h ∙ running), λ _. ap (λ (v : Stored). v.waiting) h ∙ none)
-append_left old new p (journal_refused.NotAStore at) w h is running none = absurd h
-append_left old new p (journal_refused.Damaged at) w h is running none = absurd h
-append_left old new p journal_refused.NoMemory w h is running none = absurd h
-
 -- an append is refused for its own causes alone
 pub append_fault : (old new : Stored) (p : Prepared) (refused : JournalRefused) → Appends old new p (Err refused) → IsAppendFault refused
 append_fault old new p journal_refused.DiskFault h = tt
@@ -99,12 +85,3 @@ append_fault old new p (journal_refused.Full n) h = tt
 append_fault old new p (journal_refused.NotAStore at) h = absurd h
 append_fault old new p (journal_refused.Damaged at) h = absurd h
 append_fault old new p journal_refused.NoMemory h = absurd h
-
--- after an append the record waits
-pub append_waits : (o : Opened) (old new : Stored) (claimed : Claimed) (f : Finished) (p : Prepared) (r : Result (Unit {0}) JournalRefused) (x : Unit {0}) → r ≡ Ok x → Appends old new p r → new.watcher ≡ old.watcher → new.room ≡ old.room
-    → IsNextCommit o old.watcher.front claimed f p × (old.room ≡ places_of f.effects) → WaitsOf o new claimed f
-append_waits o old new claimed f p r x is h watcher room next =
-    (p, ((subst (Appends old new p) is h).0, (subst (λ (q : Watched Event). IsNextCommit o q.front claimed f p) (sym watcher) next.0, room ∙ next.1)))
-
-pub append_runs : (old new : Stored) (p : Prepared) (r : Result (Unit {0}) JournalRefused) (x : Unit {0}) → r ≡ Ok x → Appends old new p r → new.faults ≡ None
-append_runs old new p r x is h = (subst (Appends old new p) is h).1

@@ -10,6 +10,8 @@ pub mod Steps
 pub mod Logs
 pub mod Stores
 pub mod Refusals
+pub mod Notices
+pub mod Fulls
 pub mod Looks
 pub mod Checkpoints
 pub mod Tails

@@ -40,17 +40,17 @@ abbrev pub IsBackAt : Opened → List Event → Claimed → Finished → Result 
 IsBackAt o front claimed f (Ok seq) = Unit {0}
 IsBackAt o front claimed f (Err refused) = (refused.claimed ≡ claimed) × IsCauseAt o front claimed f refused.why
 
--- what a refusal leaves of the store: it is stopped by a fault of the disk alone, with the home's count, and says so from then on
+-- what a refusal leaves of the store: it is stopped by a fault of the disk alone, with the home's count, and says so from then on. Every other refusal leaves that count
 abbrev pub IsLeftBy : Why → Stored → Stored → Type 0
 IsLeftBy (why.Stopped faults) old new = (old.faults ≡ Some faults) × (new ≡ old)
-IsLeftBy (why.Retry item found now) old new = (old.faults ≡ None) × (new.faults ≡ None)
-IsLeftBy (why.JournalFull length) old new = (old.faults ≡ None) × (new.faults ≡ None)
+IsLeftBy (why.Retry item found now) old new = (old.faults ≡ None) × (new.faults ≡ None) × (new.counted ≡ old.counted)
+IsLeftBy (why.JournalFull length) old new = (old.faults ≡ None) × (new.faults ≡ None) × (new.counted ≡ old.counted)
 IsLeftBy why.DiskFault old new = (old.faults ≡ None) × (new.faults ≡ Some new.counted) × HasRisen old.counted new.counted
-IsLeftBy why.NoMemory old new = (old.faults ≡ None) × (new.faults ≡ None)
+IsLeftBy why.NoMemory old new = (old.faults ≡ None) × (new.faults ≡ None) × (new.counted ≡ old.counted)
 
 -- what a commit leaves of the store: at Ok it goes on
 abbrev pub Leaves : Stored → Stored → Result ℕ CommitRefused → Type 0
-Leaves old new (Ok seq) = (old.faults ≡ None) × (new.faults ≡ None)
+Leaves old new (Ok seq) = (old.faults ≡ None) × (new.faults ≡ None) × (new.counted ≡ old.counted)
 Leaves old new (Err refused) = IsLeftBy refused.why old new
 
 -- a store whose lock is free has no record that waits, unless it is stopped

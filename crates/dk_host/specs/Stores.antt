@@ -106,10 +106,14 @@ pub record IsKeptOn (side : Side) (journal : Journal) (base : Option ℕ) (begun
   pub later : begun ≤ journal.epoch
   pub most : (n : ℕ) → base ≡ Some n → n ≤ NUMBERS_END
 
+-- a fault was counted since the count was so much
+abbrev pub HasRisenSince : ℕ → ℕ → Type 0
+HasRisenSince begun now = (before : ℕ) × ((begun ≤ before) × HasRisen before now)
+
 -- the home's count of faults, which was so much as the host was opened: it did not fall, and where the store is stopped it rose
 abbrev pub CountsOn : ℕ → Option ℕ → ℕ → Type 0
 CountsOn begun None now = begun ≤ now
-CountsOn begun (Some n) now = (before : ℕ) × ((begun ≤ before) × HasRisen before now)
+CountsOn begun (Some n) now = HasRisenSince begun now
 
 -- the home is the one that was handed in: how it was opened stays, and its faults are counted on
 pub record IsSameHome (begun : ℕ) (was : Opening) (faults : Option ℕ) (now : ℕ) (opening : Opening) : Type 0 where

@@ -1,10 +1,12 @@
 //! The calls by a pass.
-ghost use Rattle.std.specs.Prelude.{◌≡◌, ◌≤◌, ◌<◌, ◌∷◌, [], length, IsTrue, OnErr};
+ghost use Rattle.std.specs.Prelude.{◌≡◌, ◌≤◌, ◌<◌, ◌∷◌, [], length, IfErr, IsTrue, OnErr};
 ghost use Rattle.std.specs.List.{All};
 ghost use Rattle.dk_types.specs.declared.event.Event.TheVariants as event;
 ghost use Rattle.dk_model.specs.Lawful.{IsInput};
 ghost use Rattle.dk_model.specs.Events.{is_open};
 ghost use Rattle.dk_model.specs.Legal.{pass_of, world_after};
+ghost use Rattle.dk_host.specs.Fulls.{IsFullBy};
+ghost use Rattle.dk_host.specs.Notices.{commit_shows, plain};
 ghost use Rattle.dk_host.specs.Refusals.{IsBackAt, commit_events};
 ghost use Rattle.dk_host.specs.Calls.{AreShort, Entered, Grants, IsClaimOf, IsHonestAt, IsSpared, ReadsAt, claim_events, connect_events, hand_events, post_events, tick_events};
 
@@ -12,6 +14,7 @@ use crate::book::WorldBook;
 use crate::host::Host;
 use crate::hosting::Hosting;
 use crate::refused::CommitRefused;
+use crate::shown::Shown;
 use crate::steps::{Claim, Connect, CountKept, Hand, Post, ReadItem, Release, Tick};
 use dk_core::{ClaimRefused, Claimed, ConnectRefused, Handed, PostRefused};
 use dk_disk::Home;
@@ -151,20 +154,22 @@ impl<W: Hosting, J: Naming, M: Home> Host<W, J, M> {
     }
 
     /// Commits a finished run where all its reads stand: first its record is on the disk, and then its event is entered.
-    /// Where it is refused the claim comes back, and nothing is entered. The record is written in memory before the commit
-    /// lock is taken, so that commits wait for one another no longer than for the disk.
+    /// Where it is refused the claim comes back, and nothing is entered; a notice shows whether a fault of the disk had
+    /// stopped the host. The record is spelled in memory before the commit lock is taken.
     pub fn commit<R: Wait>(
         &self,
         rt: &R,
         pass: &mut Pass<WorldBook<W>, J>,
         claimed: Claimed,
         finished: Finished,
-    ) -> Result<u64, CommitRefused>
+    ) -> Result<u64, Shown<CommitRefused>>
         requires claim { IsClaimOf W.opened pass.old claimed }
         requires honest { IsHonestAt W.opened pass.old.front claimed finished }
         ensures number { pass.new.number ≡ pass.old.number }
-        ensures entered { Entered W.opened pass.old.number (commit_events pass.old.number claimed finished result) pass.old.front pass.new.front }
-        ensures back { IsBackAt W.opened pass.new.front claimed finished result }
+        ensures entered { Entered W.opened pass.old.number (commit_events pass.old.number claimed finished (plain result)) pass.old.front pass.new.front }
+        ensures back { IsBackAt W.opened pass.new.front claimed finished (plain result) }
+        ensures full { IsTrue M.tells → IfErr (plain result) (λ refused. IsFullBy W.opened pass.new.front claimed finished refused.why) }
+        ensures shows { IfErr result (λ e. commit_shows W.board W.counted e.refused.why e.notice) }
         ensures named { All (λ e. pass_of e < J.name.passes) pass.new.front }
     {
         let draft = CommitDraft::new(self.alloc, claimed.run(), finished.effects());

@@ -1,18 +1,19 @@
 //! The store of a host, written anew.
-ghost use Rattle.std.specs.Prelude.{◌≡◌, ◌<◌, ◌≤◌, ℕ, None, [], IfOk};
+ghost use Rattle.std.specs.Prelude.{◌≡◌, ◌<◌, ◌≤◌, ℕ, None, [], IfErr, IfOk};
 ghost use Rattle.std.specs.List.{All};
 ghost use Rattle.dk_model.specs.Images.{world_lists};
 ghost use Rattle.dk_model.specs.Legal.{pass_of, world_after};
 ghost use Rattle.dk_core.specs.Listings.{world_of};
 ghost use Rattle.dk_host.specs.Calls.{Entered, IsCopyAt};
 ghost use Rattle.dk_host.specs.Checkpoints.{AnswersAt, GoesOn, Rewrites, faults_after};
+ghost use Rattle.dk_host.specs.Notices.{checkpoint_shows, plain};
 ghost use Rattle.dk_host.specs.Refusals.{IsFree};
 
 use crate::book::WorldBook;
-use crate::commit::FreeStore;
 use crate::host::Host;
 use crate::hosting::Hosting;
 use crate::refused::CheckpointRefused;
+use crate::shown::Shown;
 use crate::steps::{CopyLast, CopyWorld, Glance};
 use crate::store::CommitStore;
 use dk_checkpoint::{CheckpointRefused as NotWritten, checkpoint};
@@ -107,24 +108,6 @@ impl<W: Hosting, J: Naming, M: Home> CommitStore<W, J, M> {
     }
 }
 
-impl<W: Hosting, J: Naming, M: Home> FreeStore<W, J, M> {
-    pub(crate) fn checkpoint<R: Wait>(
-        &mut self,
-        rt: &R,
-        world: &Turn<WorldBook<W>, J>,
-        pass: &mut Pass<WorldBook<W>, J>,
-    ) -> Result<(), CheckpointRefused>
-        ensures number { pass.new.number ≡ pass.old.number }
-        ensures entered { Entered W.opened pass.old.number [] pass.old.front pass.new.front }
-        ensures named { All (λ e. pass_of e < J.name.passes) pass.new.front }
-        ensures since { W.first ≤ self.old.store.epoch }
-        ensures answers { AnswersAt W.opened pass.new.front self.old.store.epoch result }
-        ensures rewrites { Rewrites self.old.store self.new.store result }
-    {
-        self.store.checkpoint(rt, world, pass)
-    }
-}
-
 impl<W: Hosting, J: Naming, M: Home> Host<W, J, M> {
     /// A copy of the durable world at the new front. Nothing is entered.
     pub fn durable<R: Wait>(
@@ -142,15 +125,17 @@ impl<W: Hosting, J: Naming, M: Home> Host<W, J, M> {
     }
 
     /// Writes the store anew from its world, with the next epoch: the journal begins again behind an image of the world.
-    /// Nothing is entered. All memory is taken before the first write; a fault of the disk stops the host.
+    /// Nothing is entered. All memory is taken before the first write; a fault of the disk stops the host, which a notice
+    /// shows.
     pub fn checkpoint<R: Wait>(
         &self,
         rt: &R,
         pass: &mut Pass<WorldBook<W>, J>,
-    ) -> Result<(), CheckpointRefused>
+    ) -> Result<(), Shown<CheckpointRefused>>
         ensures number { pass.new.number ≡ pass.old.number }
         ensures entered { Entered W.opened pass.old.number [] pass.old.front pass.new.front }
-        ensures answers { (epoch : ℕ) × (W.first ≤ epoch) × AnswersAt W.opened pass.new.front epoch result }
+        ensures answers { (epoch : ℕ) × (W.first ≤ epoch) × AnswersAt W.opened pass.new.front epoch (plain result) }
+        ensures shows { IfErr result (λ e. checkpoint_shows W.board W.counted e.refused e.notice) }
         ensures named { All (λ e. pass_of e < J.name.passes) pass.new.front }
     {
         self.store.lock(rt).checkpoint(rt, &self.world, pass)

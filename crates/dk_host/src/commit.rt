@@ -1,10 +1,11 @@
 //! A commit: a look, a record, and its event.
-ghost use Rattle.std.specs.Prelude.{◌≡◌, ◌<◌, None, IfOk};
+ghost use Rattle.std.specs.Prelude.{◌≡◌, ◌<◌, None, IfErr, IfOk, IsTrue};
 ghost use Rattle.std.specs.List.{All};
 ghost use Rattle.dk_entry.specs.Drafts.{IsDraft};
 ghost use Rattle.dk_model.specs.Legal.{pass_of};
 ghost use Rattle.dk_core.specs.Rooms.{places_of};
 ghost use Rattle.dk_host.specs.Calls.{Entered, IsClaimOf, IsHonestAt};
+ghost use Rattle.dk_host.specs.Fulls.{IsFullBy};
 ghost use Rattle.dk_host.specs.Refusals.{commit_events, IsBackAt, IsFree, Leaves};
 ghost use Rattle.dk_host.specs.Stores.{IsNextCommit};
 
@@ -40,6 +41,7 @@ impl<W: Hosting, J: Naming, M: Home> CommitStore<W, J, M> {
         ensures number { pass.new.number ≡ pass.old.number }
         ensures entered { Entered W.opened pass.old.number (commit_events pass.old.number claimed finished result) pass.old.front pass.new.front }
         ensures back { IsBackAt W.opened pass.new.front claimed finished result }
+        ensures full { IsTrue M.tells → IfErr result (λ refused. IsFullBy W.opened pass.new.front claimed finished refused.why) }
         ensures named { All (λ e. pass_of e < J.name.passes) pass.new.front }
         ensures leaves { Leaves self.old self.new result }
         ensures free { IsFree self.new }
@@ -71,6 +73,7 @@ impl<W: Hosting, J: Naming, M: Home> CommitStore<W, J, M> {
     ) -> Result<u64, CommitRefused>
         requires none_waits { self.old.waiting ≡ None }
         requires running { self.old.faults ≡ None }
+        requires same { self.old.watcher.front ≡ pass.old.front }
         requires next { IsNextCommit W.opened self.old.watcher.front claimed finished commit.prepared × (self.old.room ≡ places_of finished.effects) }
         requires claim { IsClaimOf W.opened pass.old claimed }
         requires honest { IsHonestAt W.opened pass.old.front claimed finished }
@@ -78,6 +81,7 @@ impl<W: Hosting, J: Naming, M: Home> CommitStore<W, J, M> {
         ensures number { pass.new.number ≡ pass.old.number }
         ensures entered { Entered W.opened pass.old.number (commit_events pass.old.number claimed finished result) pass.old.front pass.new.front }
         ensures back { IsBackAt W.opened pass.new.front claimed finished result }
+        ensures full { IsTrue M.tells → IfErr result (λ refused. IsFullBy W.opened pass.new.front claimed finished refused.why) }
         ensures named { All (λ e. pass_of e < J.name.passes) pass.new.front }
         ensures leaves { Leaves self.old self.new result }
         ensures free { IsFree self.new }
@@ -89,35 +93,5 @@ impl<W: Hosting, J: Naming, M: Home> CommitStore<W, J, M> {
                 why: why_of_append(refused),
             }),
         }
-    }
-}
-
-/// A store whose lock is free: no record waits, unless the disk did not take it.
-#[derive(Drop)]
-pub(crate) struct FreeStore<W: Hosting, J: Naming, M: Home> {
-    pub(crate) store: CommitStore<W, J, M>,
-    pub(crate) ghost free: { IsFree store },
-}
-
-impl<W: Hosting, J: Naming, M: Home> FreeStore<W, J, M> {
-    pub(crate) fn commit<R: Wait>(
-        &mut self,
-        rt: &R,
-        world: &Turn<WorldBook<W>, J>,
-        pass: &mut Pass<WorldBook<W>, J>,
-        claimed: Claimed,
-        finished: Finished,
-        draft: Result<CommitDraft, NoMemory>,
-    ) -> Result<u64, CommitRefused>
-        requires claim { IsClaimOf W.opened pass.old claimed }
-        requires honest { IsHonestAt W.opened pass.old.front claimed finished }
-        requires draft { IfOk draft (IsDraft claimed.run finished.effects) }
-        ensures number { pass.new.number ≡ pass.old.number }
-        ensures entered { Entered W.opened pass.old.number (commit_events pass.old.number claimed finished result) pass.old.front pass.new.front }
-        ensures back { IsBackAt W.opened pass.new.front claimed finished result }
-        ensures named { All (λ e. pass_of e < J.name.passes) pass.new.front }
-        ensures leaves { Leaves self.old.store self.new.store result }
-    {
-        self.store.commit(rt, world, pass, claimed, finished, draft)
     }
 }

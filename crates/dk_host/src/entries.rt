@@ -1,5 +1,5 @@
 //! The commits of a host, read back from its store.
-ghost use Rattle.std.specs.Prelude.{◌≡◌, ◌+◌, ◌-◌, ◌<◌, ◌≤◌, ℕ, List, None, Some, [], length, IfOk, IsErrOf, IsTrue};
+ghost use Rattle.std.specs.Prelude.{◌≡◌, ◌+◌, ◌-◌, ◌<◌, ◌≤◌, ℕ, List, None, Some, [], length, IfErr, IfOk, IsErrOf, IsTrue};
 ghost use Rattle.std.specs.List.{All};
 ghost use Rattle.dk_types.specs.Faults.{HasRisen};
 ghost use Rattle.dk_types.specs.declared.limits.TheConstants.{NUMBERS_END};
@@ -14,15 +14,17 @@ ghost use Rattle.dk_commit_log.specs.Logs.{BeginsWith, IsStoreFile};
 ghost use Rattle.dk_commit_log.specs.Ranges.{AreNumbered};
 ghost use Rattle.dk_commit_log.specs.declared.refused.LogRefused.TheVariants.{Damaged as LogDamaged, DiskFault as LogFault};
 ghost use Rattle.dk_host.specs.Calls.{Entered};
+ghost use Rattle.dk_host.specs.Notices.{plain, reading_shows};
 ghost use Rattle.dk_host.specs.Refusals.{IsFree};
+ghost use Rattle.dk_host.specs.Stores.{CountsOn};
 ghost use Rattle.dk_host.specs.Tails.{IsLogPart, BeginsAt, LeavesRead, last_wanted};
 ghost use Rattle.dk_host.specs.declared.refused.TailRefused.TheVariants.{Damaged as DamagedAt, Older as IsOlder};
 
 use crate::book::WorldBook;
-use crate::commit::FreeStore;
 use crate::host::Host;
 use crate::hosting::Hosting;
 use crate::refused::TailRefused;
+use crate::shown::Shown;
 use crate::steps::{CountLast, Glance};
 use crate::store::CommitStore;
 use dk_commit_log::{LogRefused, commits_before, read_commits};
@@ -75,6 +77,7 @@ impl<W: Hosting, J: Naming, M: Home> CommitStore<W, J, M> {
         ensures older { (n : ℕ) → IsErrOf result (IsOlder n) → after + 1 < n }
         ensures begins { IsTrue M.tells → (n : ℕ) → IsErrOf result (IsOlder n) → BeginsAt W.opened pass.new.front n }
         ensures leaves { LeavesRead self.old self.new result }
+        ensures counts { CountsOn W.counted self.old.faults self.old.counted }
         ensures free { IsFree self.new }
     {
         if let Some(faults) = self.faults {
@@ -131,48 +134,27 @@ impl<W: Hosting, J: Naming, M: Home> CommitStore<W, J, M> {
     }
 }
 
-impl<W: Hosting, J: Naming, M: Home> FreeStore<W, J, M> {
-    pub(crate) fn entries_after<R: Wait>(
-        &mut self,
-        rt: &R,
-        world: &Turn<WorldBook<W>, J>,
-        pass: &mut Pass<WorldBook<W>, J>,
-        after: u64,
-        most: u32,
-    ) -> Result<Vec<Entry>, TailRefused>
-        ensures number { pass.new.number ≡ pass.old.number }
-        ensures entered { Entered W.opened pass.old.number [] pass.old.front pass.new.front }
-        ensures named { All (λ e. pass_of e < J.name.passes) pass.new.front }
-        ensures numbered { IfOk result (λ entries. AreNumbered (after + 1) entries.items × (length entries.items ≡ last_wanted W.opened pass.new.front after most - after)) }
-        ensures read { IsTrue M.tells → IfOk result (λ entries. IsLogPart W.opened pass.new.front after (last_wanted W.opened pass.new.front after most) entries.items) }
-        ensures undamaged { IsTrue M.tells → (at : ℕ) → IsErrOf result (DamagedAt at) → ⊥ }
-        ensures older { (n : ℕ) → IsErrOf result (IsOlder n) → after + 1 < n }
-        ensures begins { IsTrue M.tells → (n : ℕ) → IsErrOf result (IsOlder n) → BeginsAt W.opened pass.new.front n }
-        ensures leaves { LeavesRead self.old.store self.new.store result }
-    {
-        self.store.entries_after(rt, world, pass, after, most)
-    }
-}
-
 impl<W: Hosting, J: Naming, M: Home> Host<W, J, M> {
     /// The entries of the commits behind the one of the number `after`, up to `most` of them, in order, as they stand in
-    /// the journal. Nothing is entered and nothing is written; a fault of the disk does not stop the host.
+    /// the journal. Nothing is entered and nothing is written; a fault of the disk does not stop the host, and a notice shows
+    /// that it was counted.
     pub fn entries_after<R: Wait>(
         &self,
         rt: &R,
         pass: &mut Pass<WorldBook<W>, J>,
         after: u64,
         most: u32,
-    ) -> Result<Vec<Entry>, TailRefused>
+    ) -> Result<Vec<Entry>, Shown<TailRefused>>
         requires some { 1 ≤ most }
         ensures number { pass.new.number ≡ pass.old.number }
         ensures entered { Entered W.opened pass.old.number [] pass.old.front pass.new.front }
         ensures named { All (λ e. pass_of e < J.name.passes) pass.new.front }
         ensures numbered { IfOk result (λ entries. AreNumbered (after + 1) entries.items × (length entries.items ≡ last_wanted W.opened pass.new.front after most - after)) }
         ensures read { IsTrue M.tells → IfOk result (λ entries. IsLogPart W.opened pass.new.front after (last_wanted W.opened pass.new.front after most) entries.items) }
-        ensures undamaged { IsTrue M.tells → (at : ℕ) → IsErrOf result (DamagedAt at) → ⊥ }
-        ensures older { (n : ℕ) → IsErrOf result (IsOlder n) → after + 1 < n }
-        ensures begins { IsTrue M.tells → (n : ℕ) → IsErrOf result (IsOlder n) → BeginsAt W.opened pass.new.front n }
+        ensures undamaged { IsTrue M.tells → (at : ℕ) → IsErrOf (plain result) (DamagedAt at) → ⊥ }
+        ensures older { (n : ℕ) → IsErrOf (plain result) (IsOlder n) → after + 1 < n }
+        ensures begins { IsTrue M.tells → (n : ℕ) → IsErrOf (plain result) (IsOlder n) → BeginsAt W.opened pass.new.front n }
+        ensures shows { IfErr result (λ e. reading_shows W.board W.counted e.refused e.notice) }
     {
         self.store
             .lock(rt)

@@ -3,6 +3,7 @@ ghost use Rattle.std.specs.Prelude.{◌≡◌, ◌<◌, ◌≤◌, false, [], If
 ghost use Rattle.std.specs.List.{All};
 ghost use Rattle.std.specs.FinMap as map;
 ghost use Rattle.dk_model.specs.Lawful.{AreLawful};
+ghost use Rattle.dk_notice.specs.Notices.{nothing_told, said_on};
 ghost use Rattle.dk_model.specs.Legal.{world_after, pass_of, IsFront, IsLegal};
 ghost use Rattle.dk_turn.specs.Fronts.{IsDealt};
 ghost use Rattle.dk_core.specs.Listings.{world_of};
@@ -10,8 +11,8 @@ ghost use Rattle.dk_host.specs.declared.fault.OpenFault.TheVariants.{NoMemory as
 ghost use Rattle.dk_host.specs.Stores.{EndsAs, IsSameHome};
 
 use crate::book::WorldBook;
-use crate::commit::FreeStore;
 use crate::fault::OpenRefused;
+use crate::free::FreeStore;
 use crate::history::History;
 use crate::hosting::{CommitLedger, Hosting, PlaceLedger};
 use crate::opened::OpenedStore;
@@ -20,6 +21,7 @@ use crate::standing::Stood;
 use crate::store::CommitStore;
 use dk_core::Core;
 use dk_disk::Home;
+use dk_notice::NoticeBoard;
 use dk_turn::{GhostList, Naming, Pass, Turn, TurnBuilder};
 use dk_types::Event;
 use std::alloc::Global;
@@ -51,6 +53,8 @@ pub struct Closed<M> {
     pub first: u64,
     /// Unless the store was stopped, the epoch of the store as it stands.
     pub epoch: u64,
+    /// What was told of faults of the home: it confirms each notice that was given with a refusal.
+    pub board: NoticeBoard,
 }
 
 impl<W: Hosting, J: Naming, M: Home> Host<W, J, M> {
@@ -61,6 +65,7 @@ impl<W: Hosting, J: Naming, M: Home> Host<W, J, M> {
         blank: TurnBuilder<WorldBook<W>>,
         commits: ledger::Blank,
         places: ledger::Blank,
+        board: NoticeBoard,
         store: OpenedStore<M>,
         budget: Option<u64>,
         keep: bool,
@@ -68,6 +73,7 @@ impl<W: Hosting, J: Naming, M: Home> Host<W, J, M> {
         requires name { blank ≡ J.name }
         requires commits { (commits.name ≡ W.commits) × (commits.parts ≡ 1) }
         requires places { (places.name ≡ W.places) × (places.parts ≡ 1) }
+        requires board { board ≡ said_on W.board nothing_told }
         requires lawful { AreLawful W.opened.rules }
         requires durable { world_of store.durable ≡ W.opened.durable }
         requires budget { budget ≡ W.opened.budget }
@@ -105,7 +111,7 @@ impl<W: Hosting, J: Naming, M: Home> Host<W, J, M> {
         };
         let right = CommitRight::new(commit_share, place_share);
         let store = CommitStore::new(home, game, side, journal, watcher, right, alloc);
-        let store = Mutex::new(FreeStore { store });
+        let store = Mutex::new(FreeStore::new(store, board));
         Ok((
             Host {
                 world,
@@ -126,6 +132,7 @@ impl<W: Hosting, J: Naming, M: Home> Host<W, J, M> {
         ensures none_kept { W.keeps ≡ false → result.events.items ≡ [] }
         ensures ended { IsTrue M.tells → EndsAs W.opened W.began (M.past result.home) result.history result.faults result.epoch }
         ensures same_home { IsSameHome W.counted W.opening result.faults (M.counted result.home) (M.opening result.home) }
+        ensures told { result.board ≡ said_on W.board record { counted = M.counted result.home; stopped = result.faults } }
         ensures commits { result.commits ≡ (world_after W.opened result.history).durable.commits }
         ensures first { (result.first ≡ W.first) × (W.first ≤ result.epoch) }
         ensures tasks { result.tasks ≡ map.len (world_after W.opened result.history).durable.tasks }
@@ -135,7 +142,8 @@ impl<W: Hosting, J: Naming, M: Home> Host<W, J, M> {
             store,
             alloc: _,
         } = self;
-        let FreeStore { store } = store.into_inner();
+        let free = store.into_inner();
+        let FreeStore { store, board } = free;
         let CommitStore {
             home,
             game: _,
@@ -166,6 +174,7 @@ impl<W: Hosting, J: Naming, M: Home> Host<W, J, M> {
             tasks: core.pending_len(),
             first,
             epoch: journal.epoch(),
+            board,
         }
     }
 }

@@ -3,12 +3,13 @@ ghost use Rattle.std.specs.Prelude.{ℕ, Bool, false};
 ghost use Rattle.dk_disk.specs.DiskHistories.{DiskHistory};
 ghost use Rattle.dk_disk.specs.Opening.{Opening, NotCalled};
 ghost use Rattle.dk_model.specs.Legal.{Opened};
+ghost use Rattle.dk_notice.specs.Notices.{BoardName, no_board};
 ghost use Rattle.dk_host.specs.Openings.{nothing_opened, empty_files};
 
 use std::marker::{Brand, PhantomData};
 use std::sync::ledger::Ledger;
 
-/// What a host was opened with, on which files, and its two ledgers. A program picks it once, when it opens the host.
+/// What a host was opened with, on which files, its two ledgers, and its board. A program picks it once, when it opens the host.
 pub trait Hosting {
     ghost opened: { Opened };
 
@@ -32,6 +33,9 @@ pub trait Hosting {
 
     // The name of the ledger of the room that is kept for its next commit.
     ghost places: { ℕ };
+
+    // The board on which the faults of its home are told.
+    ghost board: { BoardName };
 }
 
 impl Hosting for Brand {
@@ -50,6 +54,8 @@ impl Hosting for Brand {
     ghost commits = { 0 };
 
     ghost places = { 0 };
+
+    ghost board = { no_board };
 }
 
 /// The ledger of a host's commits: one share. No value of it is made.

@@ -10,8 +10,10 @@ ghost use Rattle.dk_model.specs.Legal.{pass_of};
 ghost use Rattle.dk_model.specs.Validity.{IsValid};
 ghost use Rattle.dk_journal.specs.declared.refused.JournalRefused.TheVariants.{Full};
 ghost use Rattle.dk_host.specs.Calls.{Entered, IsClaimOf, IsHonestAt};
+ghost use Rattle.dk_host.specs.Fulls.{IsFullFor};
+ghost use Rattle.dk_host.specs.Notices.{told_of};
 ghost use Rattle.dk_host.specs.Refusals.{IsFree};
-ghost use Rattle.dk_host.specs.Stores.{Appends, FindsNext, HasRecovered, HoldsNow, IsReady, LooksNext, WaitsOf, faults_after, waiting_after};
+ghost use Rattle.dk_host.specs.Stores.{Appends, CountsOn, FindsNext, HasRecovered, HoldsNow, IsReady, LooksNext, WaitsOf, faults_after, waiting_after};
 
 use crate::book::WorldBook;
 use crate::hosting::Hosting;
@@ -22,6 +24,7 @@ use dk_core::{Claimed, PrepareRefused, Prepared};
 use dk_disk::Home;
 use dk_entry::CommitDraft;
 use dk_journal::{Journal, JournalRefused};
+use dk_notice::Told;
 use dk_turn::{Naming, Pass, Turn, Watcher};
 use dk_txn::Finished;
 use dk_types::{GameId, NoMemory, Side};
@@ -130,6 +133,17 @@ impl<W: Hosting, J: Naming, M: Home> CommitStore<W, J, M> {
         }
     }
 
+    // What there is of faults of the home.
+    pub(crate) fn told(&self) -> Told
+        ensures told { result ≡ told_of self.now }
+        ensures counts { CountsOn W.counted self.now.faults self.now.counted }
+    {
+        Told {
+            counted: self.home.faults(),
+            stopped: self.faults,
+        }
+    }
+
     /// Looks whether all reads of a finished run stand, and makes what its commit needs. Nothing is entered.
     pub fn prepare<R: Wait>(
         &mut self,
@@ -224,6 +238,7 @@ impl<W: Hosting, J: Naming, M: Home> CommitStore<W, J, M> {
         ensures watcher { (self.new.watcher ≡ self.old.watcher) × (self.new.room ≡ self.old.room) × (self.new.epoch ≡ self.old.epoch) }
         ensures appends { Appends self.old self.new commit.prepared result }
         ensures full { (n : ℕ) → IsErrOf result (Full n) ↔ ((n ≡ min (self.old.journal_length + (5 + length commit.payload)) COUNT_END) × (2 ^ 40 < n)) }
+        ensures log { IsTrue M.tells → (n : ℕ) → IsErrOf result (Full n) → IsFullFor W.opened self.old.watcher.front commit.prepared n }
     {
         let PreparedCommit { prepared, payload } = commit;
         let answer = self.journal.append(&mut self.home, &payload);

@@ -37,7 +37,7 @@ pub returns-clause-ended : goal.returns-clause-ended
 returns-clause-ended g c = λ tells.
     subst (λ (es : List Event). EndsAs g.W.Hosting.opened g.W.Hosting.began (g.M.Home.past c.store.inside.home) es c.store.inside.faults c.epoch.result) (sym c.into_parts-history.ensures.history)
     (subst (EndsAs g.W.Hosting.opened g.W.Hosting.began (g.M.Home.past c.store.inside.home) c.core.inside.history.events c.store.inside.faults) (sym c.epoch.ensures)
-    (ends g.W.Hosting.opened g.W.Hosting.began _ _ _ _ _ _ _ _ _ _ _ c.store.invariant.3 (λ running. ap (λ (v : Stored). v.waiting) c.store.view_is ∙ c.into_inner-store.result.free (ap (λ (v : Stored). v.faults) (sym c.store.view_is) ∙ running)) c.core.inside.history.events
+    (ends g.W.Hosting.opened g.W.Hosting.began _ _ _ _ _ _ _ _ _ _ _ c.store.invariant.3 (λ running. ap (λ (v : Stored). v.waiting) c.store.view_is ∙ c.free.invariant.0 (ap (λ (v : Stored). v.faults) (sym c.store.view_is) ∙ running)) c.core.inside.history.events
     (subst (λ (es : List Event). Begins c.store.inside.watcher.front es) (sym c.core.view_is) c.close_with.ensures.watcher) (c.audit.ensures.commits.0 ∙ c.core.invariant.2) tells))
 
 pub returns-clause-same_home : goal.returns-clause-same_home

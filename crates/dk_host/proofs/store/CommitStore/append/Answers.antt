@@ -2,6 +2,9 @@ use Rattle.std.proofs.Common.{◌≡◌, ◌+◌, ◌<◌, ◌^◌, ◌↔◌, m
 use Rattle.dk_types.specs.Faults.{COUNT_END}
 use Rattle.dk_journal.specs.declared.refused.JournalRefused.TheVariants.{Full}
 use Rattle.dk_host.specs.Stores.{Stored, IsNextCommit}
+use Rattle.dk_host.specs.Commits.{IsPreparedAt}
+use Rattle.dk_host.specs.Fulls.{IsFullAt}
+use Rattle.dk_host.proofs.Filling.{full_there}
 use Rattle.dk_host.proofs.Homes.{as_stopped, appended_home}
 use Rattle.dk_host.proofs.Storing.{as_waiting, as_faults, kept_still, store_settled}
 use Rattle.dk_host.proofs.store.CommitStore.append.Goals as goal
@@ -29,3 +32,13 @@ invariant_of-self g c =
 pub returns-clause-full : goal.returns-clause-full
 returns-clause-full g c = λ n.
     subst (λ long. IsErrOf c.append-answer.result (Full n) ↔ ((n ≡ min (long + (5 + length c.args.commit.payload)) COUNT_END) × (2 ^ 40 < n))) (ap (λ (v : Stored). v.journal_length) c.self.view_is) (c.append-answer.ensures.full n)
+
+pub returns-clause-log : goal.returns-clause-log
+returns-clause-log g c tells n told claimed f next =
+    let o = g.W.Hosting.opened in
+    let none : c.self.inside.waiting ≡ None = ap (λ (v : Stored). v.waiting) c.self.view_is ∙ c.requires.none_waits in
+    let running : c.self.inside.faults ≡ None = ap (λ (v : Stored). v.faults) c.self.view_is ∙ c.requires.running in
+    let front = ap (λ (v : Stored). v.watcher.front) c.self.view_is in
+    subst (λ es. IsFullAt o es claimed f n) front
+    (full_there o _ _ _ _ _ _ _ _ _ _ (as_faults _ _ running (as_waiting _ _ none c.self.invariant.3)) tells claimed f c.args.commit.prepared
+    (subst (λ es. IsPreparedAt o es claimed f c.args.commit.prepared) (sym front) next.prepared) c.args.commit.payload c.args.commit.spelled n ((c.append-answer.ensures.full n).0 told).0)

@@ -2,6 +2,7 @@ use Rattle.std.proofs.Common.{refl, subst}
 use Rattle.dk_host.specs.Calls.{Entered}
 use Rattle.dk_host.specs.Refusals.{commit_events}
 use Rattle.dk_host.specs.Stores.{FindsNext}
+use Rattle.dk_host.proofs.Filling.{look_full}
 use Rattle.dk_host.proofs.Refusing.{entered_none, entered_then, claim_on, honest_still, look_cause}
 use Rattle.dk_host.proofs.store.CommitStore.commit.Goals as goal
 
@@ -26,3 +27,6 @@ returns-in-Err-clause-back g c = (
       (honest_still g.W.Hosting.opened c.args.pass.now c.prepare_drafted.new.pass c.args.claimed c.args.finished c.prepare_drafted.ensures.number c.prepare_drafted.ensures.entered c.requires.claim c.requires.honest)
       (subst (FindsNext g.W.Hosting.opened c.prepare_drafted.new.pass.front c.args.claimed c.args.finished c.prepare_drafted.new.self.room) c.in-Err.is c.prepare_drafted.ensures.finds) c.why_of_look.ensures,
 )
+
+pub returns-in-Err-clause-full : goal.returns-in-Err-clause-full
+returns-in-Err-clause-full g c = λ tells. look_full g.W.Hosting.opened c.prepare_drafted.new.pass.front c.args.claimed c.args.finished c.in-Err.refused _ c.why_of_look.ensures
