@@ -5,6 +5,7 @@
 //! together is the one history of the host; how many links were given and how many sessions have ended, a ledger ties.
 ghost use Rattle.std.specs.Prelude.{◌≡◌, ◌⊎◌, ◌+◌, ◌≤◌, false};
 ghost use Rattle.dk_edge.specs.Listening.{IsUncalled};
+ghost use Rattle.dk_notice.specs.Notices.{nothing_told, said_on};
 ghost use Rattle.darkstar.specs.Served.{IsServedOn, IsUnserved, links_of, served_on};
 
 mod closing;
@@ -19,6 +20,7 @@ use dk_disk::Home;
 use dk_edge::{Clock, Link, Listener, Sink, Source, Spawner};
 use dk_game::Game;
 use dk_host::{Hosting, OpenedStore};
+use dk_notice::NoticeBoard;
 use dk_pump::Tally;
 use dk_turn::TurnBuilder;
 use dk_workers::Gate;
@@ -88,6 +90,7 @@ fn serve_on_ledgers<
     alloc: Global,
     commits: ledger::Blank,
     places: ledger::Blank,
+    board: NoticeBoard,
     game: &G,
     store: OpenedStore<M>,
     before: u64,
@@ -100,6 +103,7 @@ fn serve_on_ledgers<
     requires unbound { IsUncalled (L.listening net.old) }
     requires commits { (commits.name ≡ W.commits) × (commits.parts ≡ 1) }
     requires places { (places.name ≡ W.places) × (places.parts ≡ 1) }
+    requires board { board ≡ said_on W.board nothing_told }
     requires opened { W.opened ≡ served_on (G.rules game.now) store.durable }
     requires began { M.past store.home ≡ W.began }
     requires first { store.journal.epoch ≡ W.first }
@@ -112,8 +116,8 @@ fn serve_on_ledgers<
 {
     match TurnBuilder::new(alloc, terms.passes()) {
         Ok(blank) => serve_on_turn::<W, Brand, M, K, _, _, L, C, P, G, T, R>(
-            rt, alloc, blank, commits, places, game, store, before, net, clock, spawner, gate,
-            terms,
+            rt, alloc, blank, commits, places, board, game, store, before, net, clock, spawner,
+            gate, terms,
         ),
         Err(_) => Served {
             home: store.into_home(),
@@ -154,7 +158,14 @@ pub fn serve_store<
 {
     let commits = ledger::Blank::new(1);
     let places = ledger::Blank::new(1);
+    let Ok(board) = NoticeBoard::new(alloc) else {
+        return Served {
+            home: store.into_home(),
+            outcome: Err(ServeFault::NoMemory),
+            served: Tally::new(),
+        };
+    };
     serve_on_ledgers::<Brand, M, K, _, _, L, C, P, G, T, R>(
-        rt, alloc, commits, places, game, store, before, net, clock, spawner, gate, terms,
+        rt, alloc, commits, places, board, game, store, before, net, clock, spawner, gate, terms,
     )
 }

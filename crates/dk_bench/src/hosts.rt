@@ -1,6 +1,7 @@
 //! Work on a shared host, which is opened for it on a new store.
 ghost use Rattle.std.specs.Prelude.{◌≡◌, ◌<◌, false};
 ghost use Rattle.dk_disk.specs.Opening.{NotCalled};
+ghost use Rattle.dk_notice.specs.Notices.{nothing_told, said_on};
 ghost use Rattle.dk_bench.specs.Hosts.{opened_for};
 
 use crate::desk::Desk;
@@ -10,6 +11,7 @@ use dk_demos::Counters;
 use dk_disk::{HoldingHome, Home, MemoryHome};
 use dk_game::Game;
 use dk_host::{Host, Hosting, OpenedStore, WorldBook, open_store};
+use dk_notice::NoticeBoard;
 use dk_turn::{Naming, Pass, TurnBuilder};
 use std::alloc::Global;
 use std::marker::Brand;
@@ -151,7 +153,8 @@ fn in_home<G: Game + Sync, M: Home + Send + Drop, R: AllocGlobal + Clock + Threa
     let store = open_store(rt.alloc(), home, &game.id()).ok()?;
     let commits = ledger::Blank::new(1);
     let places = ledger::Blank::new(1);
-    on_ledgers::<G, Brand, M, R>(rt, game, commits, places, store, order)
+    let board = NoticeBoard::new(rt.alloc()).ok()?;
+    on_ledgers::<G, Brand, M, R>(rt, game, commits, places, board, store, order)
 }
 
 fn on_ledgers<
@@ -164,11 +167,13 @@ fn on_ledgers<
     game: &G,
     commits: ledger::Blank,
     places: ledger::Blank,
+    board: NoticeBoard,
     store: OpenedStore<M>,
     order: &Order<'_>,
 ) -> Option<u64>
     requires commits { (commits.name ≡ W.commits) × (commits.parts ≡ 1) }
     requires places { (places.name ≡ W.places) × (places.parts ≡ 1) }
+    requires board { board ≡ said_on W.board nothing_told }
     requires opened { W.opened ≡ opened_for (G.rules game.now) store.durable }
     requires began { M.past store.home ≡ W.began }
     requires first { store.journal.epoch ≡ W.first }
@@ -177,7 +182,7 @@ fn on_ledgers<
     requires keeps { W.keeps ≡ false }
 {
     let blank = TurnBuilder::new(rt.alloc(), passes_for(order.work)).ok()?;
-    on_turn::<G, W, Brand, M, R>(rt, game, blank, commits, places, store, order)
+    on_turn::<G, W, Brand, M, R>(rt, game, blank, commits, places, board, store, order)
 }
 
 fn on_turn<
@@ -192,12 +197,14 @@ fn on_turn<
     blank: TurnBuilder<WorldBook<W>>,
     commits: ledger::Blank,
     places: ledger::Blank,
+    board: NoticeBoard,
     store: OpenedStore<M>,
     order: &Order<'_>,
 ) -> Option<u64>
     requires name { blank ≡ J.name }
     requires commits { (commits.name ≡ W.commits) × (commits.parts ≡ 1) }
     requires places { (places.name ≡ W.places) × (places.parts ≡ 1) }
+    requires board { board ≡ said_on W.board nothing_told }
     requires opened { W.opened ≡ opened_for (G.rules game.now) store.durable }
     requires began { M.past store.home ≡ W.began }
     requires first { store.journal.epoch ≡ W.first }
@@ -206,7 +213,7 @@ fn on_turn<
     requires keeps { W.keeps ≡ false }
 {
     let alloc = rt.alloc();
-    let opened = Host::<W, J, M>::open(alloc, blank, commits, places, store, None, false);
+    let opened = Host::<W, J, M>::open(alloc, blank, commits, places, board, store, None, false);
     let Ok((host, mut passes)) = opened else {
         return None;
     };

@@ -36,7 +36,7 @@ impl<G: Game, W: Hosting, J: Naming, M: Home, R: Wait> Stage<'_, G, W, J, M, R> 
     {
         match self.host.commit(self.rt, pass, claimed, finished) {
             Ok(seq) => Ok(seq),
-            Err(refused) => Err(refused),
+            Err(shown) => Err(shown.refused),
         }
     }
 

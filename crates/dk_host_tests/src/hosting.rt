@@ -1,11 +1,13 @@
 //! A host of a play: it is opened on a store, asked, and closed.
 ghost use Rattle.std.specs.Prelude.{◌≡◌, false};
+ghost use Rattle.dk_notice.specs.Notices.{nothing_told, said_on};
 ghost use Rattle.dk_host_tests.specs.Hosts.{opened_on};
 
 use crate::stage::Stage;
 use dk_disk::Home;
 use dk_game::Game;
 use dk_host::{Closed, Host, Hosting, OpenedStore, WorldBook};
+use dk_notice::NoticeBoard;
 use dk_turn::{Naming, TurnBuilder};
 use std::alloc::Global;
 use std::marker::Brand;
@@ -31,7 +33,8 @@ pub fn host<G: Game + Sync, M: Home + Send + Drop, R: Threads + Wait + Sync>(
 ) -> Option<Ended<M>> {
     let commits = ledger::Blank::new(1);
     let places = ledger::Blank::new(1);
-    on_ledgers::<G, Brand, M, R>(rt, alloc, game, word, commits, places, store, rows)
+    let board = NoticeBoard::new(alloc).ok()?;
+    on_ledgers::<G, Brand, M, R>(rt, alloc, game, word, commits, places, board, store, rows)
 }
 
 fn on_ledgers<
@@ -46,11 +49,13 @@ fn on_ledgers<
     word: &AtomicU64,
     commits: ledger::Blank,
     places: ledger::Blank,
+    board: NoticeBoard,
     store: OpenedStore<M>,
     rows: &[String],
 ) -> Option<Ended<M>>
     requires commits { (commits.name ≡ W.commits) × (commits.parts ≡ 1) }
     requires places { (places.name ≡ W.places) × (places.parts ≡ 1) }
+    requires board { board ≡ said_on W.board nothing_told }
     requires opened { W.opened ≡ opened_on (G.rules game.now) store.durable }
     requires began { M.past store.home ≡ W.began }
     requires first { store.journal.epoch ≡ W.first }
@@ -61,7 +66,9 @@ fn on_ledgers<
     let Ok(blank) = TurnBuilder::new(alloc, 2) else {
         return None;
     };
-    on_turn::<G, W, Brand, M, R>(rt, alloc, game, word, blank, commits, places, store, rows)
+    on_turn::<G, W, Brand, M, R>(
+        rt, alloc, game, word, blank, commits, places, board, store, rows,
+    )
 }
 
 fn on_turn<
@@ -78,12 +85,14 @@ fn on_turn<
     blank: TurnBuilder<WorldBook<W>>,
     commits: ledger::Blank,
     places: ledger::Blank,
+    board: NoticeBoard,
     store: OpenedStore<M>,
     rows: &[String],
 ) -> Option<Ended<M>>
     requires name { blank ≡ J.name }
     requires commits { (commits.name ≡ W.commits) × (commits.parts ≡ 1) }
     requires places { (places.name ≡ W.places) × (places.parts ≡ 1) }
+    requires board { board ≡ said_on W.board nothing_told }
     requires opened { W.opened ≡ opened_on (G.rules game.now) store.durable }
     requires began { M.past store.home ≡ W.began }
     requires first { store.journal.epoch ≡ W.first }
@@ -91,7 +100,7 @@ fn on_turn<
     requires counted { M.counted store.home ≡ W.counted }
     requires keeps { W.keeps ≡ false }
 {
-    let opened = Host::<W, J, M>::open(alloc, blank, commits, places, store, None, false);
+    let opened = Host::<W, J, M>::open(alloc, blank, commits, places, board, store, None, false);
     let Ok((host, mut passes)) = opened else {
         return None;
     };

@@ -127,7 +127,10 @@ impl<G: Game, W: Hosting, J: Naming, M: Home, R: Wait> Stage<'_, G, W, J, M, R> 
 
     /// `checkpoint`
     pub(crate) fn checkpoint(&self, pass: &mut Pass<WorldBook<W>, J>) -> Option<String> {
-        let answer = self.host.checkpoint(self.rt, pass);
+        let answer = match self.host.checkpoint(self.rt, pass) {
+            Ok(()) => Ok(()),
+            Err(shown) => Err(shown.refused),
+        };
         format!(in self.alloc; "{answer:?}").ok()
     }
 
@@ -148,7 +151,10 @@ impl<G: Game, W: Hosting, J: Naming, M: Home, R: Wait> Stage<'_, G, W, J, M, R> 
         let (after, most) = (call.number()?, call.small()?);
         match self.host.entries_after(self.rt, pass, after, most.max(1)) {
             Ok(entries) => of_entries(self.alloc, &entries),
-            Err(refused) => format!(in self.alloc; "{refused:?}").ok(),
+            Err(shown) => {
+                let refused = shown.refused;
+                format!(in self.alloc; "{refused:?}").ok()
+            }
         }
     }
 }

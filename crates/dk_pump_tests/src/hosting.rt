@@ -1,11 +1,13 @@
 //! A host of a test's own, on which a scene is played.
 ghost use Rattle.std.specs.Prelude.{◌≡◌};
 ghost use Rattle.dk_disk.specs.Memory.{past_of};
+ghost use Rattle.dk_notice.specs.Notices.{nothing_told, said_on};
 ghost use Rattle.dk_pump_tests.specs.Hosts.{opened_for};
 
 use dk_disk::{Home, MemoryHome};
 use dk_game::Game;
 use dk_host::{Host, Hosting, OpenedStore, WorldBook, open_store};
+use dk_notice::NoticeBoard;
 use dk_turn::{Naming, Pass, TurnBuilder};
 use dk_types::GameId;
 use dk_workers::{OpenGate, work};
@@ -71,7 +73,10 @@ pub(crate) fn play<S: Scene, G: Game, R: Wait>(
     let store = new_store(alloc, &game.id())?;
     let commits = ledger::Blank::new(1);
     let places = ledger::Blank::new(1);
-    on_ledgers::<S, G, Brand, R>(rt, alloc, game, commits, places, store, keep, scene)
+    let Ok(board) = NoticeBoard::new(alloc) else {
+        return Err(Fail::from("a board"));
+    };
+    on_ledgers::<S, G, Brand, R>(rt, alloc, game, commits, places, board, store, keep, scene)
 }
 
 // A store that has just been made.
@@ -93,12 +98,14 @@ fn on_ledgers<S: Scene, G: Game, W: Hosting, R: Wait>(
     game: &G,
     commits: ledger::Blank,
     places: ledger::Blank,
+    board: NoticeBoard,
     store: OpenedStore<MemoryHome>,
     keep: bool,
     scene: S,
 ) -> Result<S::Told, Fail>
     requires commits { (commits.name ≡ W.commits) × (commits.parts ≡ 1) }
     requires places { (places.name ≡ W.places) × (places.parts ≡ 1) }
+    requires board { board ≡ said_on W.board nothing_told }
     requires opened { W.opened ≡ opened_for (G.rules game.now) store.durable }
     requires began { past_of store.home ≡ W.began }
     requires keep { W.keeps ≡ keep }
@@ -109,7 +116,9 @@ fn on_ledgers<S: Scene, G: Game, W: Hosting, R: Wait>(
     let Ok(blank) = TurnBuilder::new(alloc, PASSES_COUNT) else {
         return Err(Fail::from("a turn"));
     };
-    on_host::<S, G, W, Brand, R>(rt, alloc, game, blank, commits, places, store, keep, scene)
+    on_host::<S, G, W, Brand, R>(
+        rt, alloc, game, blank, commits, places, board, store, keep, scene,
+    )
 }
 
 fn on_host<S: Scene, G: Game, W: Hosting, J: Naming, R: Wait>(
@@ -119,6 +128,7 @@ fn on_host<S: Scene, G: Game, W: Hosting, J: Naming, R: Wait>(
     blank: TurnBuilder<WorldBook<W>>,
     commits: ledger::Blank,
     places: ledger::Blank,
+    board: NoticeBoard,
     store: OpenedStore<MemoryHome>,
     keep: bool,
     scene: S,
@@ -126,6 +136,7 @@ fn on_host<S: Scene, G: Game, W: Hosting, J: Naming, R: Wait>(
     requires name { blank ≡ J.name }
     requires commits { (commits.name ≡ W.commits) × (commits.parts ≡ 1) }
     requires places { (places.name ≡ W.places) × (places.parts ≡ 1) }
+    requires board { board ≡ said_on W.board nothing_told }
     requires opened { W.opened ≡ opened_for (G.rules game.now) store.durable }
     requires began { past_of store.home ≡ W.began }
     requires keep { W.keeps ≡ keep }
@@ -133,7 +144,9 @@ fn on_host<S: Scene, G: Game, W: Hosting, J: Naming, R: Wait>(
     requires opening { store.home.opening ≡ W.opening }
     requires counted { store.home.plan.faults ≡ W.counted }
 {
-    let opened = Host::<W, J, MemoryHome>::open(alloc, blank, commits, places, store, None, keep);
+    let opened = Host::<W, J, MemoryHome>::open(
+        alloc, blank, commits, places, board, store, None, keep,
+    );
     let Ok((host, passes)) = opened else {
         return Err(Fail::from("a host"));
     };

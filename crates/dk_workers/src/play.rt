@@ -7,6 +7,7 @@ ghost use Rattle.std.specs.Prelude.{◌≡◌, ◌⊎◌, ◌<◌, true};
 ghost use Rattle.std.specs.FinSet as sets;
 ghost use Rattle.dk_types.specs.declared.limits.TheConstants.{PASSES_MOST_COUNT};
 ghost use Rattle.dk_model.specs.Scripts.{AllStand};
+ghost use Rattle.dk_notice.specs.Notices.{nothing_told, said_on};
 ghost use Rattle.dk_workers.specs.Played.{IsPlayOn, IsUnopened, opened_on};
 
 mod closing;
@@ -25,6 +26,7 @@ use dk_disk::Home;
 use dk_game::Game;
 use dk_host::{Hosting, OpenedStore};
 use dk_model::Line;
+use dk_notice::NoticeBoard;
 use dk_script::Script;
 use dk_turn::TurnBuilder;
 use dk_types::{Blob, Listed};
@@ -55,6 +57,7 @@ fn play_on_ledgers<
     alloc: Global,
     commits: ledger::Blank,
     places: ledger::Blank,
+    board: NoticeBoard,
     game: &G,
     script: &[Listed<Line>],
     store: OpenedStore<M>,
@@ -67,6 +70,7 @@ fn play_on_ledgers<
     requires workers { workers < PASSES_MOST_COUNT }
     requires commits { (commits.name ≡ W.commits) × (commits.parts ≡ 1) }
     requires places { (places.name ≡ W.places) × (places.parts ≡ 1) }
+    requires board { board ≡ said_on W.board nothing_told }
     requires opened { W.opened ≡ opened_on (G.rules game.now) store.durable budget }
     requires began { M.past store.home ≡ W.began }
     requires first { store.journal.epoch ≡ W.first }
@@ -80,8 +84,8 @@ fn play_on_ledgers<
 {
     match TurnBuilder::new(alloc, workers + 1) {
         Ok(blank) => play_on_turn::<W, Brand, G, M, T, R>(
-            rt, alloc, blank, commits, places, game, script, store, workers, budget, asked, before,
-            gate,
+            rt, alloc, blank, commits, places, board, game, script, store, workers, budget, asked,
+            before, gate,
         ),
         Err(_) => Played {
             home: store.into_home(),
@@ -112,11 +116,18 @@ pub fn play_store<G: Game + Sync, M: Home + Send, T: Gate + Sync, R: Threads + W
 {
     let commits = ledger::Blank::new(1);
     let places = ledger::Blank::new(1);
+    let Ok(board) = NoticeBoard::new(alloc) else {
+        return Played {
+            home: store.into_home(),
+            text: Err(PlayFault::NoMemory),
+        };
+    };
     play_on_ledgers::<Brand, G, M, T, R>(
         rt,
         alloc,
         commits,
         places,
+        board,
         game,
         script.phases.as_slice(),
         store,

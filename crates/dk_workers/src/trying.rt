@@ -56,7 +56,7 @@ pub(crate) fn try_run<G: Game, W: Hosting, J: Naming, M: Home, T: Gate, R: Wait>
             gate.after_commit(worker, run, &recipients);
             Tried::Committed
         }
-        Err(refused) => after_refusal(rt, host, pass, refused),
+        Err(shown) => after_refusal(rt, host, pass, shown.refused),
     }
 }
 

@@ -1,6 +1,7 @@
 //! A server on a host that is opened for it, and closed behind it.
 ghost use Rattle.std.specs.Prelude.{◌≡◌, ◌⊎◌, ◌+◌, None, false};
 ghost use Rattle.dk_edge.specs.Listening.{IsUncalled};
+ghost use Rattle.dk_notice.specs.Notices.{nothing_told, said_on};
 ghost use Rattle.dk_core.specs.Listings.{world_of};
 ghost use Rattle.darkstar.specs.Served.{IsOutcome, IsServedOn, IsSound, IsUnserved, links_of};
 
@@ -11,6 +12,7 @@ use dk_disk::Home;
 use dk_edge::{Clock, Link, Listener, Sink, Source, Spawner};
 use dk_game::Game;
 use dk_host::{Host, Hosting, OpenedStore, WorldBook};
+use dk_notice::NoticeBoard;
 use dk_pump::Tally;
 use dk_turn::{Naming, TurnBuilder};
 use dk_workers::Gate;
@@ -57,6 +59,7 @@ pub(crate) fn serve_on_turn<
     blank: TurnBuilder<WorldBook<W>>,
     commits: ledger::Blank,
     places: ledger::Blank,
+    board: NoticeBoard,
     game: &G,
     store: OpenedStore<M>,
     before: u64,
@@ -71,6 +74,7 @@ pub(crate) fn serve_on_turn<
     requires unbound { IsUncalled (L.listening net.old) }
     requires commits { (commits.name ≡ W.commits) × (commits.parts ≡ 1) }
     requires places { (places.name ≡ W.places) × (places.parts ≡ 1) }
+    requires board { board ≡ said_on W.board nothing_told }
     requires rules { W.opened.rules ≡ G.rules game.now }
     requires durable { world_of store.durable ≡ W.opened.durable }
     requires budget { W.opened.budget ≡ None }
@@ -83,7 +87,7 @@ pub(crate) fn serve_on_turn<
     ensures serves { IsUnserved store.home result.home result.served result.outcome ⊎ IsServedOn W.opened M.tells W.began (M.past result.home) before (M.counted result.home) (L.counted net.old) (L.counted net.new) (P.counted spawner.old) (P.counted spawner.new) terms.port (links_of terms.sessions) (L.listening net.old) (L.listening net.new) result.served result.outcome }
     ensures opening { M.opening result.home ≡ W.opening }
 {
-    let opened = Host::<W, J, M>::open(alloc, blank, commits, places, store, None, false);
+    let opened = Host::<W, J, M>::open(alloc, blank, commits, places, board, store, None, false);
     let (host, passes) = match opened {
         Ok(opened) => opened,
         Err(refused) => {

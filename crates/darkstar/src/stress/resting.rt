@@ -2,6 +2,7 @@
 ghost use Rattle.std.specs.Prelude.{◌≡◌, ◌+◌, ◌<◌, ◌≤◌, [], None, false, length, IfOk};
 ghost use Rattle.dk_types.specs.declared.limits.TheConstants.{PASSES_MOST_COUNT, TASKS_MOST_COUNT};
 ghost use Rattle.dk_model.specs.DurableWorlds.{empty_world};
+ghost use Rattle.dk_notice.specs.Notices.{nothing_told, said_on};
 ghost use Rattle.dk_play_laws.specs.Seen.{AreBehind, AreNumbered};
 ghost use Rattle.dk_core.specs.Listings.{world_of};
 ghost use Rattle.dk_demos.specs.CountersTotals.{AreOfCounters};
@@ -12,6 +13,7 @@ use super::tallies::read_counters;
 use dk_demos::Counters;
 use dk_disk::Home;
 use dk_host::{Host, Hosting, OpenedStore, WorldBook};
+use dk_notice::NoticeBoard;
 use dk_turn::{Naming, Pass, TurnBuilder};
 use dk_types::NoMemory;
 use dk_workers::{Gate, drain};
@@ -72,6 +74,7 @@ fn run_on_turn<
     blank: TurnBuilder<WorldBook<W>>,
     commits: ledger::Blank,
     places: ledger::Blank,
+    board: NoticeBoard,
     game: &Counters,
     store: OpenedStore<M>,
     gate: &T,
@@ -80,6 +83,7 @@ fn run_on_turn<
     requires passes { 0 < J.name.passes }
     requires commits { (commits.name ≡ W.commits) × (commits.parts ≡ 1) }
     requires places { (places.name ≡ W.places) × (places.parts ≡ 1) }
+    requires board { board ≡ said_on W.board nothing_told }
     requires counters { AreOfCounters game.now.seed game.now.tasks W.opened }
     requires durable { world_of store.durable ≡ W.opened.durable }
     requires budget { W.opened.budget ≡ None }
@@ -91,7 +95,7 @@ fn run_on_turn<
     ensures commits { IfOk result (λ totals. totals.commits ≡ game.now.tasks + 1) }
     ensures counts { IfOk result (λ totals. totals.counts.items ≡ plain_counts game.now.seed game.now.tasks) }
 {
-    let opened = Host::<W, J, M>::open(alloc, blank, commits, places, store, None, false);
+    let opened = Host::<W, J, M>::open(alloc, blank, commits, places, board, store, None, false);
     let (host, mut passes) = match opened {
         Ok(opened) => opened,
         Err(_) => return Err(NoMemory),
@@ -128,6 +132,7 @@ fn run_on_ledgers<
     alloc: Global,
     commits: ledger::Blank,
     places: ledger::Blank,
+    board: NoticeBoard,
     game: &Counters,
     store: OpenedStore<M>,
     workers: u32,
@@ -138,6 +143,7 @@ fn run_on_ledgers<
     requires empty { world_of store.durable ≡ empty_world }
     requires commits { (commits.name ≡ W.commits) × (commits.parts ≡ 1) }
     requires places { (places.name ≡ W.places) × (places.parts ≡ 1) }
+    requires board { board ≡ said_on W.board nothing_told }
     requires opened { W.opened ≡ counters_on game.now.seed game.now.tasks store.durable }
     requires began { M.past store.home ≡ W.began }
     requires first { store.journal.epoch ≡ W.first }
@@ -150,7 +156,7 @@ fn run_on_ledgers<
     let Ok(blank) = TurnBuilder::new(alloc, workers + 1) else {
         return Err(NoMemory);
     };
-    run_on_turn::<W, Brand, M, T, R>(rt, alloc, blank, commits, places, game, store, gate)
+    run_on_turn::<W, Brand, M, T, R>(rt, alloc, blank, commits, places, board, game, store, gate)
 }
 
 /// Runs the game on a store of the empty world, with so many workers, until nothing is left to run.
@@ -170,5 +176,10 @@ pub(crate) fn run_store<M: Home + Drop + Send, T: Gate + Sync, R: Threads + Wait
 {
     let commits = ledger::Blank::new(1);
     let places = ledger::Blank::new(1);
-    run_on_ledgers::<Brand, M, T, R>(rt, alloc, commits, places, game, store, workers, gate)
+    let Ok(board) = NoticeBoard::new(alloc) else {
+        return Err(NoMemory);
+    };
+    run_on_ledgers::<Brand, M, T, R>(
+        rt, alloc, commits, places, board, game, store, workers, gate,
+    )
 }

@@ -36,14 +36,16 @@ pub(crate) fn save<W: Hosting, J: Naming, M: Home, R: Wait>(
     ensures named { All (λ e. pass_of e < J.name.passes) pass.new.front }
     ensures fault { IfErr result IsWorkFault }
 {
-    match host.checkpoint(rt, pass) {
-        Ok(()) => Ok(Saved::Anew),
-        Err(CheckpointRefused::TooLarge { .. }) => Ok(Saved::TooLarge),
-        Err(CheckpointRefused::EpochEnd { .. }) => Ok(Saved::AtEnd),
-        Err(CheckpointRefused::Stopped { .. } | CheckpointRefused::DiskFault) => {
+    let Err(shown) = host.checkpoint(rt, pass) else {
+        return Ok(Saved::Anew);
+    };
+    match shown.refused {
+        CheckpointRefused::TooLarge { .. } => Ok(Saved::TooLarge),
+        CheckpointRefused::EpochEnd { .. } => Ok(Saved::AtEnd),
+        CheckpointRefused::Stopped { .. } | CheckpointRefused::DiskFault => {
             Err(PlayFault::DiskFault)
         }
-        Err(CheckpointRefused::NoMemory) => Err(PlayFault::NoMemory),
+        CheckpointRefused::NoMemory => Err(PlayFault::NoMemory),
     }
 }
 

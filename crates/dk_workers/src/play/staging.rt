@@ -3,6 +3,7 @@ ghost use Rattle.std.specs.Prelude.{◌≡◌, ◌⊎◌, ◌+◌, ◌<◌, [], 
 ghost use Rattle.std.specs.FinSet as sets;
 ghost use Rattle.dk_model.specs.Lawful.{AreLawful};
 ghost use Rattle.dk_model.specs.Scripts.{AllStand};
+ghost use Rattle.dk_notice.specs.Notices.{nothing_told, said_on};
 ghost use Rattle.dk_core.specs.Listings.{world_of};
 ghost use Rattle.dk_play_laws.specs.Seen.{AreBehind, AreNumbered};
 ghost use Rattle.dk_workers.specs.Played.{IsPlayOn, IsStaged, IsUnopened};
@@ -17,6 +18,7 @@ use dk_disk::Home;
 use dk_game::Game;
 use dk_host::{Host, Hosting, OpenedStore, WorldBook};
 use dk_model::Line;
+use dk_notice::NoticeBoard;
 use dk_turn::{Naming, Pass, TurnBuilder};
 use dk_types::Listed;
 use std::alloc::Global;
@@ -83,6 +85,7 @@ pub(crate) fn play_on_turn<
     blank: TurnBuilder<WorldBook<W>>,
     commits: ledger::Blank,
     places: ledger::Blank,
+    board: NoticeBoard,
     game: &G,
     script: &[Listed<Line>],
     store: OpenedStore<M>,
@@ -96,6 +99,7 @@ pub(crate) fn play_on_turn<
     requires passes { J.name.passes ≡ workers + 1 }
     requires commits { (commits.name ≡ W.commits) × (commits.parts ≡ 1) }
     requires places { (places.name ≡ W.places) × (places.parts ≡ 1) }
+    requires board { board ≡ said_on W.board nothing_told }
     requires rules { W.opened.rules ≡ G.rules game.now }
     requires durable { world_of store.durable ≡ W.opened.durable }
     requires budget { W.opened.budget ≡ Some budget }
@@ -109,7 +113,16 @@ pub(crate) fn play_on_turn<
     ensures play { IsUnopened store.home result.home result.text ⊎ IsPlayOn W.opened workers asked script.now M.tells W.began (M.past result.home) W.first before (M.counted result.home) result.text }
     ensures opening { M.opening result.home ≡ W.opening }
 {
-    let opened = Host::<W, J, M>::open(alloc, blank, commits, places, store, Some(budget), true);
+    let opened = Host::<W, J, M>::open(
+        alloc,
+        blank,
+        commits,
+        places,
+        board,
+        store,
+        Some(budget),
+        true,
+    );
     let (host, mut passes) = match opened {
         Ok(opened) => opened,
         Err(refused) => {

@@ -13,4 +13,5 @@ ghosts-serve_on_ledgers g a = record {
   keeps = false;
   commits = a.commits.name;
   places = a.places.name;
+  board = a.board.board;
 }

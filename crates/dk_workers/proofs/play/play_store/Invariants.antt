@@ -12,4 +12,5 @@ ghosts-play_on_ledgers g a = record {
   keeps = true;
   commits = a.commits.name;
   places = a.places.name;
+  board = a.board.board;
 }

@@ -7,11 +7,11 @@ returns-in_default-clause-ends g c =
 
 pub after_refusal-requires-clause-claim : goal.after_refusal-requires-clause-claim
 after_refusal-requires-clause-claim g c =
-    refused_claim g.W.Hosting.opened c.args.claimed c.in-Ok.finished c.run_claimed.new.pass c.commit.new.pass c.in-Err.ensures.number c.in-Ok.ensures.claim c.in-Ok.ensures.honest c.in-Err.refused c.in-Err.ensures.entered c.in-Err.ensures.back
+    refused_claim g.W.Hosting.opened c.args.claimed c.in-Ok.finished c.run_claimed.new.pass c.commit.new.pass c.in-Err.ensures.number c.in-Ok.ensures.claim c.in-Ok.ensures.honest c.in-Err.shown.refused c.in-Err.ensures.entered c.in-Err.ensures.back
 
 pub after_refusal-requires-clause-cause : goal.after_refusal-requires-clause-cause
 after_refusal-requires-clause-cause g c =
-    refused_cause g.W.Hosting.opened c.args.claimed c.in-Ok.finished c.run_claimed.new.pass c.commit.new.pass c.in-Err.ensures.number c.in-Ok.ensures.claim c.in-Ok.ensures.honest c.in-Err.refused c.in-Err.ensures.entered c.in-Err.ensures.back
+    refused_cause g.W.Hosting.opened c.args.claimed c.in-Ok.finished c.run_claimed.new.pass c.commit.new.pass c.in-Err.ensures.number c.in-Ok.ensures.claim c.in-Ok.ensures.honest c.in-Err.shown.refused c.in-Err.ensures.entered c.in-Err.ensures.back
 
 pub returns-in-Ok-commit-clause-ends : goal.returns-in-Ok-commit-clause-ends
 returns-in-Ok-commit-clause-ends g c =
@@ -19,5 +19,5 @@ returns-in-Ok-commit-clause-ends g c =
 
 pub returns-in-Err-clause-ends : goal.returns-in-Err-clause-ends
 returns-in-Err-clause-ends g c =
-    refused_ends g.W.Hosting.opened c.args.claimed c.in-Ok.finished c.run_claimed.new.pass c.commit.new.pass c.in-Err.ensures.number c.in-Ok.ensures.claim c.in-Ok.ensures.honest c.in-Err.refused c.in-Err.ensures.entered c.in-Err.ensures.back
+    refused_ends g.W.Hosting.opened c.args.claimed c.in-Ok.finished c.run_claimed.new.pass c.commit.new.pass c.in-Err.ensures.number c.in-Ok.ensures.claim c.in-Ok.ensures.honest c.in-Err.shown.refused c.in-Err.ensures.entered c.in-Err.ensures.back
     c.args.pass.now c.after_refusal.new.pass c.in-Ok.ensures.number c.in-Ok.ensures.front c.after_refusal.result c.after_refusal.ensures.ends

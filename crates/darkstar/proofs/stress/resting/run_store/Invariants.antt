@@ -12,4 +12,5 @@ ghosts-run_on_ledgers g a = record {
   keeps = false;
   commits = a.commits.name;
   places = a.places.name;
+  board = a.board.board;
 }
