@@ -1,5 +1,6 @@
 -- What the board of a host says of its store, and what a notice of it shows of a refusal.
-use Rattle.std.specs.Prelude.{◌≡◌, ℕ, None, Some, Result, Ok, Err}
+use Rattle.std.specs.Prelude.{◌≡◌, ◌⊎◌, ℕ, ◌<◌, true, None, Some, Result, Ok, Err}
+use Rattle.dk_types.specs.Faults.{COUNT_END}
 use Rattle.dk_notice.specs.declared.told.Told.{Told}
 use Rattle.dk_notice.specs.Notices.{BoardName, Said}
 use Rattle.dk_host.specs.declared.refused.CheckpointRefused.{CheckpointRefused}
@@ -19,6 +20,16 @@ plain (Err shown) = Err shown.refused
 -- what is told of a store: its home's count of faults, and the one at which it was stopped
 abbrev pub told_of : Stored → Told
 told_of s = record { counted = s.counted; stopped = s.faults }
+
+-- a notice that was given with a refusal: it says what is told of the store now, and is that of its count where that was not told before
+pub record IsNoticeOf (board : BoardName) (before : Told) (now : Stored) (notice : Said) : Type 0 where
+  pub named : notice.board ≡ board
+  pub told : notice.told ≡ told_of now
+  pub first : before.counted < now.counted → notice.first ≡ true
+
+-- THE FAULT WAS COUNTED IN THIS CALL: of all notices of its count this one alone is that of the count; but a count that has come to its end tells no more faults apart
+abbrev pub IsOfThisCall : Said → Type 0
+IsOfThisCall notice = (notice.first ≡ true) ⊎ (notice.told.counted ≡ COUNT_END)
 
 -- THE HOST IS STOPPED, at this count: its board says so, and the home had failed since the host was opened, when its count was so much
 pub record ShowsStop (board : BoardName) (begun n : ℕ) (notice : Said) : Type 0 where
@@ -42,13 +53,13 @@ abbrev pub commit_shows : BoardName → ℕ → Why → Said → Type 0
 commit_shows board begun (why.Stopped faults) notice = ShowsStop board begun faults notice
 commit_shows board begun (why.Retry item found now) notice = ShowsNone board notice
 commit_shows board begun (why.JournalFull length) notice = ShowsNone board notice
-commit_shows board begun why.DiskFault notice = (n : ℕ) × ShowsStop board begun n notice
+commit_shows board begun why.DiskFault notice = IsOfThisCall notice × ((n : ℕ) × ShowsStop board begun n notice)
 commit_shows board begun why.NoMemory notice = ShowsNone board notice
 
 -- with that of a checkpoint
 abbrev pub checkpoint_shows : BoardName → ℕ → CheckpointRefused → Said → Type 0
 checkpoint_shows board begun (checkpoint.Stopped faults) notice = ShowsStop board begun faults notice
-checkpoint_shows board begun checkpoint.DiskFault notice = (n : ℕ) × ShowsStop board begun n notice
+checkpoint_shows board begun checkpoint.DiskFault notice = IsOfThisCall notice × ((n : ℕ) × ShowsStop board begun n notice)
 checkpoint_shows board begun (checkpoint.TooLarge length) notice = ShowsNone board notice
 checkpoint_shows board begun (checkpoint.EpochEnd epoch) notice = ShowsNone board notice
 checkpoint_shows board begun checkpoint.NoMemory notice = ShowsNone board notice
@@ -57,6 +68,6 @@ checkpoint_shows board begun checkpoint.NoMemory notice = ShowsNone board notice
 abbrev pub reading_shows : BoardName → ℕ → TailRefused → Said → Type 0
 reading_shows board begun (tail.Stopped faults) notice = ShowsStop board begun faults notice
 reading_shows board begun (tail.Older first) notice = ShowsNone board notice
-reading_shows board begun tail.DiskFault notice = ShowsFault board begun notice
+reading_shows board begun tail.DiskFault notice = IsOfThisCall notice × ShowsFault board begun notice
 reading_shows board begun tail.NoMemory notice = ShowsNone board notice
 reading_shows board begun (tail.Damaged at) notice = ShowsNone board notice

@@ -8,7 +8,7 @@ ghost use Rattle.dk_notice.specs.Notices.{GoesOn, nothing_told, said_on};
 ghost use Rattle.dk_host.specs.Calls.{Entered, IsClaimOf, IsHonestAt};
 ghost use Rattle.dk_host.specs.Checkpoints.{AnswersAt, Rewrites};
 ghost use Rattle.dk_host.specs.Fulls.{IsFullBy};
-ghost use Rattle.dk_host.specs.Notices.{checkpoint_shows, commit_shows, plain, reading_shows, told_of};
+ghost use Rattle.dk_host.specs.Notices.{IsNoticeOf, checkpoint_shows, commit_shows, plain, reading_shows, told_of};
 ghost use Rattle.dk_host.specs.Refusals.{commit_events, IsBackAt, IsFree, Leaves};
 ghost use Rattle.dk_host.specs.Stores.{CountsOn};
 ghost use Rattle.dk_host.specs.Tails.{BeginsAt, IsLogPart, LeavesRead, last_wanted};
@@ -62,14 +62,13 @@ fn shown<A, E, W: Hosting, J: Naming, M: Home>(
     requires same { OnOk answer (told_of store.now ≡ board.old.told) }
     ensures plain { plain result ≡ answer }
     ensures told { board.new ≡ said_on board.old.board (told_of store.now) }
-    ensures notice { IfErr result (λ e. e.notice ≡ said_on board.old.board (told_of store.now)) }
+    ensures notice { IfErr result (λ e. IsNoticeOf board.old.board board.old.told store.now e.notice) }
     ensures counts { IfErr result (λ e. CountsOn W.counted store.now.faults store.now.counted) }
 {
     match answer {
         Ok(value) => Ok(value),
         Err(refused) => {
-            board.tell(store.told());
-            let notice = board.notice();
+            let notice = board.tell(store.told());
             Err(Shown { refused, notice })
         }
     }
@@ -82,7 +81,7 @@ impl<W: Hosting, J: Naming, M: Home> FreeStore<W, J, M> {
         requires board { board ≡ said_on W.board nothing_told }
     {
         let mut board = board;
-        board.tell(store.told());
+        let _ = board.tell(store.told());
         FreeStore { store, board }
     }
 

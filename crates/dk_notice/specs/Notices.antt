@@ -1,5 +1,5 @@
 -- What a board and its notices say.
-use Rattle.std.specs.Prelude.{◌≡◌, ℕ, ◌≤◌, [], None, Some}
+use Rattle.std.specs.Prelude.{◌≡◌, ℕ, ◌≤◌, Bool, [], None, Some}
 use Rattle.atomic_table.specs.Seated.{TableId}
 use Rattle.dk_notice.specs.declared.told.Told.{Told}
 
@@ -20,11 +20,21 @@ BoardName = TableId
 abbrev pub no_board : BoardName
 no_board = record { words = 0; slots = 0; views_name = 0; atom = 0; block = 0; offset = 0; slot_names = [] }
 
--- what contracts see of a board and of a notice: which board it is, and what is said
-pub record Said : Type 0 where
+-- what contracts see of a board: which it is, and what it says
+pub record Says : Type 0 where
   pub board : BoardName
   pub told : Told
 
 -- these two together
-abbrev pub said_on : BoardName → Told → Said
+abbrev pub said_on : BoardName → Told → Says
 said_on board told = record { board = board; told = told }
+
+-- what contracts see of a notice: which board it is of, what that said, and whether it is the notice of that count, which one alone is
+pub record Said : Type 0 where
+  pub board : BoardName
+  pub told : Told
+  pub first : Bool
+
+-- these together
+abbrev pub notice_of : BoardName → Told → Bool → Said
+notice_of board told first = record { board = board; told = told; first = first }

@@ -1,17 +1,21 @@
 //! The rule of the table: what each seat knows of the one truth.
-ghost use Rattle.dk_notice.specs.Boards.{IsAgreed, told_so, compared};
+ghost use Rattle.dk_notice.specs.Boards.{IsAgreed, IsCompared, first_of, keeper_of, told_so};
 
 use crate::told::Told;
-use atomic_table::{Join, Play, Seat, Split, TableRule};
+use atomic_table::{Join, Play, Seat, Shared, Split, TableRule};
 
 /// What a seat knows. No value of it is made.
 pub struct View {
     /// What was told when it was taken; at the board's seat, all that was told.
     pub known: Told,
-    /// There, what a notice said that was held beside it.
+    /// What another knows that was held beside it.
     pub heard: Told,
     /// Whether it is the board's.
     pub keeps: bool,
+    /// Whether it is the first of its count.
+    pub first: bool,
+    /// Whether the one that was held beside it is the first of its count.
+    pub other: bool,
 }
 
 pub(crate) struct Agreed;
@@ -25,11 +29,18 @@ impl TableRule<Told, View, ()> for Agreed {
     ghost first = { λ _. keeper_of nothing_told };
 }
 
-// More is told.
+// This is told, of a count that was told before.
 pub(crate) struct Tells;
 
 impl Play<Told, View> for Tells {
-    ghost then = { λ step me _ after. told_so step.said me.0 after.0 };
+    ghost then = { λ step _ _ after. told_so keeper_of step.said after.0 };
+}
+
+// This is told, of a greater count than before.
+pub(crate) struct TellsMore;
+
+impl Play<Told, View> for TellsMore {
+    ghost then = { λ step _ _ after. told_so first_of step.said after.0 };
 }
 
 // A seat gets what another knows.
@@ -43,7 +54,18 @@ impl Split<View> for Copies {
     ghost right = { copy_of };
 }
 
-// The board's seat hears what another knows.
+// A seat gets what another knows, and is the first of its count instead.
+pub(crate) struct Gives;
+
+impl Split<View> for Gives {
+    ghost use Rattle.dk_notice.specs.Boards.{later_of, taker_of};
+
+    ghost left = { later_of };
+
+    ghost right = { taker_of };
+}
+
+// A seat hears what another knows.
 pub(crate) struct Hears;
 
 impl Join<View> for Hears {
@@ -54,11 +76,15 @@ impl Join<View> for Hears {
     ghost spent = { nobody };
 }
 
-// The board's seat knows all that it heard.
+// A seat knows how what it heard stands to what it knows.
 pub(crate) struct Compares;
 
 impl Play<Told, View> for Compares {
-    ghost then = { λ _ me _ after. compared me.0 after.0 };
+    ghost use Rattle.std.specs.Prelude.{◌≡◌};
+
+    ghost then = { λ _ me _ after. IsCompared me.0 after.0 × (after.1 ≡ me.1) };
 }
 
 pub(crate) type Place = Seat<Told, View>;
+
+pub(crate) type Words = Shared<Told, View, (), Agreed>;
