@@ -14,7 +14,7 @@ use Rattle.dk_model.specs.declared.script.Line.TheVariants as line
 use Rattle.dk_model.specs.Legal.{pass_of}
 use Rattle.dk_turn.specs.Fronts.{Known}
 use Rattle.dk_play_laws.specs.AloneLaw.{AreNamed}
-use Rattle.dk_play_laws.specs.BegunLaw.{entered_by, HasEntered, HaveOnlyWorked, HasWorkers, HaveEntered, HaveBegun, HasBegunPhase, NothingIsEntered, PhasesAreEntered, BegunPhasesAreFirst, AllPhasesAreFirst, BegunIsSeen}
+use Rattle.dk_play_laws.specs.BegunLaw.{entered_by, HasEntered, HaveOnlyWorked, HasWorkers, HaveEntered, HaveBegun, HasBegunPhase, NothingIsEntered, PhasesAreEntered, BegunPhasesAreFirst, AllPhasesAreFirst, BegunStandsOn, BegunIsSeen}
 use Rattle.dk_play_laws.specs.FirstParts.{is_scripted, scripted_of, ArePhaseEvents, AreScriptEvents, IsFirstPart}
 use Rattle.dk_play_laws.specs.LineEvents.{Said, nothing_said, IsLineEvent, AreLineEvents, AreHandEvents}
 use Rattle.dk_play_laws.specs.Phased.{GoesOn, HasMet, HaveMet, HasWorkedOn, IsDrain, IsPhase}
@@ -255,6 +255,14 @@ all_first script s workers main h = record {
     is_begun = refl;
   };
 }
+
+pub begun_on : BegunStandsOn
+begun_on script workers after old new h w =
+    let same : entered_by new ≡ entered_by old = w.main.own_events ∙ append-nil (entered_by old) in
+    record {
+      passes = workers_still workers after old new w.each w.main.number h.passes;
+      first = subst (λ (k : ℕ). IsFirstPart k script (entered_by new)) (sym w.main.number) (subst (λ (es : List Event). IsFirstPart old.number script es) (sym same) h.first);
+    }
 
 -- ---- the whole history
 

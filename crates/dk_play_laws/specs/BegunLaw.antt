@@ -69,6 +69,11 @@ BegunPhasesAreFirst =
 abbrev pub AllPhasesAreFirst : Type 0
 AllPhasesAreFirst = (script : List (List Line)) (s : Said) (workers : List (Known Event)) (main : Known Event) → HaveEntered script s workers main → HaveBegun script workers main
 
+-- what was begun stands while passes enter claims, commits and releases alone
+abbrev pub BegunStandsOn : Type 0
+BegunStandsOn =
+    (script : List (List Line)) (workers after : List (Known Event)) (old new : Known Event) → HaveBegun script workers old → HaveOnlyWorked workers after old new → HaveBegun script after new
+
 -- at the end, what the history has beside claims, commits and releases is the main pass's, a first part of the script
 abbrev pub BegunIsSeen : Type 0
 BegunIsSeen =

@@ -1,6 +1,6 @@
 //! Plays by several passes.
 ghost use Rattle.dk_play_laws.specs.AloneLaw.{OnePassIsAlone};
-ghost use Rattle.dk_play_laws.specs.BegunLaw.{AllPhasesAreFirst, BegunIsSeen, BegunPhasesAreFirst, NothingIsEntered, PhasesAreEntered};
+ghost use Rattle.dk_play_laws.specs.BegunLaw.{AllPhasesAreFirst, BegunIsSeen, BegunPhasesAreFirst, BegunStandsOn, NothingIsEntered, PhasesAreEntered};
 ghost use Rattle.dk_play_laws.specs.WorkedLaw.{OneWorkerIsInTurn, WorkersLeaveNoClaim};
 ghost use Rattle.dk_play_laws.specs.BudgetLaw.{NumbersEndAtOne, SpentBudgetsAreCommitted};
 ghost use Rattle.dk_play_laws.specs.PhasedLaw.{DrainsEndTheirClaims, NothingIsPlayed, PhasesFollow, PlaysAreSeen, PlaysStandOn, SpentIsSeen, SpentPhasesEnd};
@@ -89,6 +89,11 @@ pub fn begun_phases_are_first()
 /// All phases are a first part of their script.
 pub fn all_phases_are_first()
     ensures { AllPhasesAreFirst }
+{}
+
+/// What was begun stands while passes enter claims, commits and releases alone.
+pub fn begun_stands_on()
+    ensures { BegunStandsOn }
 {}
 
 /// At the end the events that are no claims, commits and releases are the main pass's, and a first part of the script.
