@@ -9,3 +9,4 @@ pub mod Unclaimed
 pub mod Phasing
 pub mod Budgets
 pub mod Begun
+pub mod FirstParts
