@@ -2,6 +2,7 @@
 use Rattle.std.proofs.Common.{◌≡◌, ◌⊎◌, ◌∙◌, ⊎_elim, inl, inr, ℕ, Bool, true, false, IsTrue, List, Result, Ok, Err, IsErrOf, refl, sym, ap, subst}
 use Rattle.dk_types.specs.declared.side.Side.TheVariants.{Zero, One}
 use Rattle.dk_disk.specs.DiskHistories.{DiskHistory}
+use Rattle.dk_model.specs.declared.script.Line.{Line}
 use Rattle.dk_model.specs.DurableWorlds.{DurableWorld}
 use Rattle.dk_model.specs.Lawful.{AreLawful}
 use Rattle.dk_model.specs.Recovered.{HasDurable, Holding, Recovers}
@@ -17,9 +18,9 @@ use Rattle.dk_status.specs.declared.status.Status.{Status}
 use Rattle.dk_status.specs.declared.status.Status.TheVariants as status
 use Rattle.darkstar.specs.Ends.{status_of_opening}
 use Rattle.darkstar.specs.Reports.{bytes_of}
-use Rattle.darkstar.specs.Runs.{IsPlayEnd, Keeps, PlayTerms, opened_with, passage}
+use Rattle.darkstar.specs.Runs.{IsPlayEnd, Keeps, KeepsScript, PlayTerms, opened_with, passage}
 use Rattle.darkstar.specs.Statuses.{IsOfOpened, IsOkOrLimit}
-use Rattle.darkstar.proofs.RunLaws.{runs_none}
+use Rattle.darkstar.proofs.RunLaws.{none_of_script, runs_none}
 
 -- a world that files hold is valid
 held_valid : (z o : List ℕ) (d : DurableWorld) → HasDurable z o d → IsValid d
@@ -46,6 +47,14 @@ module _ (terms : PlayTerms) (lawful : AreLawful terms.rules) (s : Status) (old 
       (faulty refl)
   faulty_keeps false faulty = inl (λ told. absurd cc)
 
+  faulty_begun : (script : List (List Line)) (tells : Bool) → (IsTrue tells → IsLeftFaulty old new) → KeepsScript terms (passage tells old new before after) s script
+  faulty_begun script true faulty = ⊎_elim
+      (λ (only : OnlyReads old new). inl (λ told. only))
+      (λ (w : (d : DurableWorld) × (HasDurable z o d × KeepsWorld d old new)).
+      inr (none_of_script terms lawful s script true old new before after w.0 (held_valid z o w.0 w.1.0) (λ told. w.1.0) (λ told. w.1.1)))
+      (faulty refl)
+  faulty_begun script false faulty = inl (λ told. absurd cc)
+
   module _ (tells : Bool) where
     -- nothing was written, or the world that the files held is kept
     pub refused_keeps : (f : OpenFault)
@@ -58,6 +67,18 @@ module _ (terms : PlayTerms) (lawful : AreLawful terms.rules) (s : Status) (old 
     refused_keeps (fault.Damaged side at) reads faulty = inl (λ told. (reads told tt).0)
     refused_keeps (fault.ImageTooLarge n) reads faulty = inl (λ told. (reads told tt).0)
     refused_keeps (fault.EpochEnd n) reads faulty = inl (λ told. (reads told tt).0)
+
+    -- and nothing of any script was entered
+    pub refused_begun : (script : List (List Line)) (f : OpenFault)
+        → (IsTrue tells → IsUnwritten z o (Err f) → OnlyReads old new × Settles old new)
+        → (IsTrue tells → IsErrOf {T = Stood} (Err f) fault.DiskFault → IsLeftFaulty old new) → KeepsScript terms (passage tells old new before after) s script
+    refused_begun script fault.NoMemory reads faulty = inl (λ told. (reads told tt).0)
+    refused_begun script fault.DiskFault reads faulty = faulty_begun script tells (λ told. faulty told refl)
+    refused_begun script (fault.NotAStore side at) reads faulty = inl (λ told. (reads told tt).0)
+    refused_begun script (fault.WrongGame found) reads faulty = inl (λ told. (reads told tt).0)
+    refused_begun script (fault.Damaged side at) reads faulty = inl (λ told. (reads told tt).0)
+    refused_begun script (fault.ImageTooLarge n) reads faulty = inl (λ told. (reads told tt).0)
+    refused_begun script (fault.EpochEnd n) reads faulty = inl (λ told. (reads told tt).0)
 
     -- why no store was opened is why the program ends so
     pub refused_end : (f : OpenFault) → (IsTrue tells → IsOpenAnswer z o terms.game (Err f)) → IsPlayEnd terms (passage tells old new before after) (status_of_opening f)

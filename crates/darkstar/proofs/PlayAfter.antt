@@ -19,9 +19,10 @@ use Rattle.dk_recover.specs.Files.{OnlyReads}
 use Rattle.dk_recover.specs.Recovery.{IsOurs, IsOfOther}
 use Rattle.dk_reports.proofs.Reading.{backward, onward, stays_then_reads}
 use Rattle.dk_host.specs.OpenedStores.{IsAtLastEpoch, IsImageTooLarge, MayBeAnew}
+use Rattle.dk_streams.specs.Sources.{IsReadScript}
 use Rattle.dk_status.specs.declared.status.Status.{Status}
 use Rattle.dk_status.specs.declared.status.Status.TheVariants as status
-use Rattle.darkstar.specs.Runs.{IsOpenable, IsOpenedEpoch, IsPlayEnd, IsSpent, IsReportedRun, IsWritten, IsWrittenAnew, Keeps, KeepsCommits, MayOpen, PlayTerms, RecoversFrom, Run, RunsOn, passage}
+use Rattle.darkstar.specs.Runs.{IsOpenable, IsOpenedEpoch, IsPlayEnd, IsSpent, IsReportedRun, IsWritten, IsWrittenAnew, Keeps, KeepsCommits, KeepsReadScript, KeepsScript, MayOpen, PlayTerms, RecoversFrom, Run, RunOf, RunsOn, passage}
 use Rattle.darkstar.proofs.RunLaws.{from_begun}
 
 module _ (tells : Bool) (old mid new : DiskHistory) (time : IsTrue tells → Elapses old mid) (stays : IsTrue tells → Stays old mid) where
@@ -77,6 +78,17 @@ module _ (tells : Bool) (old mid new : DiskHistory) (time : IsTrue tells → Ela
     keeps_run_before s = ⊎_elim
         (λ only. inl (λ told. stays_then_reads old mid new (time told) (stays told) (only told)))
         (λ run. inr (run_before s run))
+
+    -- so of a run of a script that was read before
+    run_of_before : (s : Status) (script : List (List Line)) → RunOf terms (passage tells mid new before after) s script → RunOf terms (passage tells old new begun after) s script
+    unfolding run_before runs_before
+    run_of_before s script r = record { run = run_before s r.run; begun = r.begun }
+
+    pub begun_before : (s : Status) (script : List (List Line)) (left left' : Option (List ℕ)) → IsReadScript left left' script → KeepsScript terms (passage tells mid new before after) s script
+        → KeepsReadScript terms (passage tells old new begun after) s left left'
+    begun_before s script left left' read = ⊎_elim
+        (λ only. inl (λ told. stays_then_reads old mid new (time told) (stays told) (only told)))
+        (λ run. inr (record { script = script; read = read; played = run_of_before s script run }))
 
     anew_before : IsTrue tells → (d : DurableWorld) → IsWrittenAnew mid new d → IsWrittenAnew old new d
     anew_before told d a = record {

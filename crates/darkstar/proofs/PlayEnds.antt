@@ -1,5 +1,5 @@
 -- What a play on an opened store leaves, and how the program ends after it.
-use Rattle.std.proofs.Common.{◌≡◌, ◌≢◌, ◌⊎◌, ◌∙◌, ⊎_elim, inl, inr, ℕ, Bool, IsTrue, List, Option, None, Result, Ok, Err, IfOk, IfErr, MatchResult, refl, sym, ap, subst}
+use Rattle.std.proofs.Common.{◌≡◌, ◌≢◌, ◌⊎◌, ◌∙◌, ⊎_elim, inl, inr, ℕ, Bool, IsTrue, List, [], ◌∷◌, Option, None, Result, Ok, Err, IfOk, IfErr, MatchResult, refl, sym, ap, subst}
 use Rattle.dk_types.specs.Faults.{HasRisen}
 use Rattle.dk_types.specs.declared.durable.Durable.{Durable}
 use Rattle.dk_types.specs.declared.event.Event.{Event}
@@ -24,6 +24,7 @@ use Rattle.dk_host.specs.OpenedStores.{IsLeft, IsOpenAnswer, KeepsWorld}
 use Rattle.dk_host.specs.Stores.{StandsAs}
 use Rattle.dk_host.specs.declared.standing.Stood.{Stood}
 use Rattle.dk_play_laws.specs.BudgetLaw.{IsBudgetSpent}
+use Rattle.dk_play_laws.specs.FirstParts.{scripted_of, IsFirstPart}
 use Rattle.dk_workers.specs.Played.{IsPlayCause, IsPlayOn, IsSaved, IsReportedPlay, IsUnopened}
 use Rattle.dk_workers.specs.declared.play.fault.PlayFault.{PlayFault}
 use Rattle.dk_workers.specs.declared.play.fault.PlayFault.TheVariants as fault
@@ -31,9 +32,9 @@ use Rattle.dk_status.specs.declared.status.Status.{Status}
 use Rattle.dk_status.specs.declared.status.Status.TheVariants as status
 use Rattle.darkstar.specs.Ends.{status_of_playing, status_of_put}
 use Rattle.darkstar.specs.Reports.{Holds, bytes_of}
-use Rattle.darkstar.specs.Runs.{IsNextEpoch, IsOpenable, IsOpenedEpoch, IsPlayEnd, IsSpent, IsStanding, IsReportedRun, IsWrittenAnew, Keeps, HoldsNone, Passage, PlayTerms, Run, opened_with, passage}
+use Rattle.darkstar.specs.Runs.{IsNextEpoch, IsOpenable, IsOpenedEpoch, IsPlayEnd, IsSpent, IsStanding, IsReportedRun, IsWrittenAnew, Keeps, KeepsScript, HoldsNone, Passage, PlayTerms, Run, RunOf, opened_with, passage}
 use Rattle.darkstar.specs.Statuses.{IsOfOpened, IsOkOrEnd, IsOkOrLimit}
-use Rattle.darkstar.proofs.RunLaws.{runs_history, runs_none, runs_on, runs_untailed}
+use Rattle.darkstar.proofs.RunLaws.{none_of_script, runs_history, runs_none, runs_on, runs_untailed}
 
 -- the epoch of a store that was opened
 pub opened_epoch : (there : Standing) (stood : Stood) → IsLeft there stood → IsOpenedEpoch there stood.journal.epoch
@@ -72,6 +73,10 @@ module _ (terms : PlayTerms) (lawful : AreLawful terms.rules) (s : Status) (scri
   same_history : p.history ≡ run_of.on.history
   unfolding run_of
   same_history = sym (runs_history o lawful terms.workers old s mid new before after p.history p.legal p.faults p.epoch p.counts alone tells keeps p.ended)
+
+  -- it is one of the script
+  pub begun_of : RunOf terms (passage tells old new before after) s script
+  begun_of = record { run = run_of; begun = subst (λ (es : List Event). IsFirstPart terms.workers ([] ∷ script) (scripted_of es)) same_history p.begun }
 
   pub openable : IsOpenable terms (passage tells old new before after)
   openable told = (ours told, (world_of durable, held told))
@@ -196,6 +201,9 @@ module _ {H : Type 0} (past : H → DiskHistory) (counted : H → ℕ) (terms : 
     pub text_keeps : Keeps terms gone s
     text_keeps = inr (run_of terms lawful s script tells old (past store) (past home) durable stood before (counted home) (Ok t) held ours left keeps the_play (λ is. absurd (not_faulty t fault.DiskFault is)))
 
+    pub text_begun : KeepsScript terms gone s script
+    text_begun = inr (begun_of terms lawful s script tells old (past store) (past home) durable stood before (counted home) (Ok t) held ours left keeps the_play (λ is. absurd (not_faulty t fault.DiskFault is)))
+
     pub text_openable : IsOpenable terms gone
     text_openable told = (ours told, (world_of durable, held told))
 
@@ -208,6 +216,14 @@ module _ {H : Type 0} (past : H → DiskHistory) (counted : H → ℕ) (terms : 
     fault_keeps = ⊎_elim
         (λ (u : IsUnopened store home (Err f)). subst (λ (h : H). Keeps terms (passage tells old (past h) before (counted h)) s) (sym u.0) (keeps_none terms s tells old (past store) before (counted store) durable lawful valid held keeps))
         (λ p. inr (run_of terms lawful s script tells old (past store) (past home) durable stood before (counted home) (Err f) held ours left keeps p ends_so))
+        played
+
+    pub fault_begun : KeepsScript terms gone s script
+    fault_begun = ⊎_elim
+        (λ (u : IsUnopened store home (Err f)).
+        subst (λ (h : H). KeepsScript terms (passage tells old (past h) before (counted h)) s script) (sym u.0)
+        (inr (none_of_script terms lawful s script tells old (past store) before (counted store) (world_of durable) valid held keeps)))
+        (λ p. inr (begun_of terms lawful s script tells old (past store) (past home) durable stood before (counted home) (Err f) held ours left keeps p ends_so))
         played
 
     pub fault_end : IsPlayEnd terms gone (status_of_playing f)

@@ -1,5 +1,5 @@
 -- A run, from how its store was opened and how its host ended.
-use Rattle.std.proofs.Common.{◌≡◌, ◌≢◌, ◌⊎◌, ⊎_elim, inl, inr, ◌∙◌, ℕ, ◌<◌, ◌≤◌, Bool, true, false, IsTrue, List, [], ◌++◌, Option, None, Some, refl, sym, ap, subst, arith}
+use Rattle.std.proofs.Common.{◌≡◌, ◌≢◌, ◌⊎◌, ⊎_elim, inl, inr, ◌∙◌, ℕ, ◌<◌, ◌≤◌, Bool, true, false, IsTrue, List, [], ◌∷◌, ◌++◌, Option, None, Some, refl, sym, ap, subst, arith}
 use Rattle.std.proofs.lemmas.Bool.{cases_lt}
 use Rattle.std.proofs.lemmas.List.{append-nil}
 use Rattle.dk_types.specs.Faults.{COUNT_END, HasRisen}
@@ -21,7 +21,11 @@ use Rattle.dk_host.specs.OpenedStores.{KeepsWorld}
 use Rattle.dk_host.specs.Stores.{CountsOn, EndsAs, HasRecovered}
 use Rattle.dk_status.specs.declared.status.Status.{Status}
 use Rattle.dk_status.specs.declared.status.Status.TheVariants as status
-use Rattle.darkstar.specs.Runs.{IsAfterSomeEnded, KeepsCommits, RecoversFrom, RunsOn, passage}
+use Rattle.dk_model.specs.declared.script.Line.{Line}
+use Rattle.dk_play_laws.specs.LineEvents.{nothing_said}
+use Rattle.dk_play_laws.proofs.FirstParts.{first_none}
+use Rattle.darkstar.specs.Reports.{Holds}
+use Rattle.darkstar.specs.Runs.{IsAfterSomeEnded, KeepsCommits, PlayTerms, RecoversFrom, RunOf, RunsOn, opened_with, passage}
 use Rattle.darkstar.proofs.EndedTasks.{legal_front, legal_tail, some_ended}
 
 -- files that are only read while nothing is pending leave to a stop what they left before
@@ -183,3 +187,22 @@ module _ (o : Opened) (lawful : AreLawful o.rules) where
       unfolding runs_on told untold
       runs_untailed true keeps ends running = (ends refl).whole running
       runs_untailed false keeps ends running = refl
+
+-- a store that was opened, and on which no event came, is a run of any script
+pub none_of_script : (terms : PlayTerms) (lawful : AreLawful terms.rules) (s : Status) (script : List (List Line)) (tells : Bool) (old new : DiskHistory) (before after : ℕ) (d : DurableWorld) → IsValid d
+    → (IsTrue tells → Holds old d) → (IsTrue tells → KeepsWorld d old new) → RunOf terms (passage tells old new before after) s script
+unfolding runs_none
+none_of_script terms lawful s script tells old new before after d valid held keeps = record {
+  run = record { world = d; held = held; on = runs_none (opened_with terms d) lawful terms.workers old s new before after valid tells keeps };
+  begun = record {
+    done = [];
+    left = [] ∷ script;
+    parts = refl;
+    said = nothing_said;
+    whole = [];
+    begun = [];
+    all = refl;
+    are_whole = (refl, refl);
+    is_begun = inl (first_none terms.workers nothing_said []);
+  };
+}

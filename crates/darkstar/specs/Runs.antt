@@ -33,6 +33,7 @@ use Rattle.dk_recover.specs.Files.{OnlyReads}
 use Rattle.dk_recover.specs.Recovery.{IsOurs, IsOfOther}
 use Rattle.dk_host.specs.OpenedStores.{IsAtLastEpoch, IsImageTooLarge, MayBeAnew}
 use Rattle.dk_play_laws.specs.BudgetLaw.{IsBudgetSpent}
+use Rattle.dk_play_laws.specs.FirstParts.{scripted_of, IsFirstPart}
 use Rattle.dk_command.specs.Games.{word_of}
 use Rattle.dk_command.specs.Requests.{Asks, Playing, Plays}
 use Rattle.dk_status.specs.declared.status.Status.{Status}
@@ -125,6 +126,25 @@ pub record Run (terms : PlayTerms) (home : Passage) (s : Status) : Type 0 where
 -- nothing was written to the store, or what a run did
 abbrev pub Keeps : PlayTerms → Passage → Status → Type 0
 Keeps terms home s = (IsTrue home.tells → OnlyReads home.old home.new) ⊎ Run terms home s
+
+-- A RUN OF A SCRIPT: the events of its history that are no claims, commits and releases are a first part of what the main pass enters for the script, whose first phase has no lines. The main pass is numbered behind the workers.
+pub record RunOf (terms : PlayTerms) (home : Passage) (s : Status) (script : List (List Line)) : Type 0 where
+  pub run : Run terms home s
+  pub begun : IsFirstPart terms.workers ([] ∷ script) (scripted_of run.on.history)
+
+-- nothing was written to the store, or what a run of the script did
+abbrev pub KeepsScript : PlayTerms → Passage → Status → List (List Line) → Type 0
+KeepsScript terms home s script = (IsTrue home.tells → OnlyReads home.old home.new) ⊎ RunOf terms home s script
+
+-- the source was read to its end as a script, and then a run of it was made
+pub record IsReadAndRun (terms : PlayTerms) (home : Passage) (s : Status) (left left' : Option (List ℕ)) : Type 0 where
+  pub script : List (List Line)
+  pub read : IsReadScript left left' script
+  pub played : RunOf terms home s script
+
+-- nothing was written to the store, or what a run of the script did that was read
+abbrev pub KeepsReadScript : PlayTerms → Passage → Status → Option (List ℕ) → Option (List ℕ) → Type 0
+KeepsReadScript terms home s left left' = (IsTrue home.tells → OnlyReads home.old home.new) ⊎ IsReadAndRun terms home s left left'
 
 -- the home's files hold no world: neither a store nor no store yet
 abbrev pub HoldsNone : DiskHistory → Type 0

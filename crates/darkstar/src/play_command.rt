@@ -13,7 +13,7 @@ ghost use Rattle.darkstar.specs.Asked.{terms_for};
 ghost use Rattle.darkstar.specs.Ends.{status_of_opening, status_of_playing, status_of_put, status_of_reading};
 ghost use Rattle.darkstar.specs.Games.{rules_of};
 ghost use Rattle.dk_streams.specs.Sources.{IsPlayable, ReadsFew};
-ghost use Rattle.darkstar.specs.Runs.{IsPlayEnd, IsReadAndWritten, IsWritten, Keeps, MayOpen, passage};
+ghost use Rattle.darkstar.specs.Runs.{IsPlayEnd, IsReadAndWritten, IsWritten, Keeps, KeepsReadScript, KeepsScript, MayOpen, passage};
 ghost use Rattle.darkstar.specs.Statuses.{ComesForBadLine, IfBadScript, IsOfOpened, IsOkOrLimit, IsUnread};
 
 use crate::ended::Ended;
@@ -60,6 +60,7 @@ impl Terms {
         ensures torn { result.status ≡ Status.WriteFault → IsReadAndWritten AppendsPrefix (terms_for self) (passage M.tells (M.past home) (M.past result.home) (M.counted home) (M.counted result.home)) result.status (S.remaining input.old) (S.remaining input.new) (K.contents out.old) (K.contents out.new) }
         ensures unwritten { result.status ≢ Status.Ok → result.status ≢ Status.WriteFault → out.new ≡ out.old }
         ensures keeps { Keeps (terms_for self) (passage M.tells (M.past home) (M.past result.home) (M.counted home) (M.counted result.home)) result.status }
+        ensures begun { KeepsReadScript (terms_for self) (passage M.tells (M.past home) (M.past result.home) (M.counted home) (M.counted result.home)) result.status (S.remaining input.old) (S.remaining input.new) }
         ensures end { IsPlayEnd (terms_for self) (passage M.tells (M.past home) (M.past result.home) (M.counted home) (M.counted result.home)) result.status }
         ensures complete { IsTrue M.tells → IsSomeAnd (S.remaining input.old) IsPlayable → (d : DurableWorld) → MayOpen (terms_for self) (M.past home) d → result.status ≢ Status.ReadFault → IsOkOrLimit result.status }
         ensures few_read { result.status ≡ Status.ReadFault → ReadsFew (S.remaining input.old) (S.remaining input.new) }
@@ -112,6 +113,7 @@ impl Terms {
         ensures torn { result.status ≡ Status.WriteFault → IsWritten AppendsPrefix (terms_for self) (passage M.tells (M.past home) (M.past result.home) before (M.counted result.home)) result.status script.now.phases (K.contents out.old) (K.contents out.new) }
         ensures unwritten { result.status ≢ Status.Ok → result.status ≢ Status.WriteFault → out.new ≡ out.old }
         ensures keeps { Keeps (terms_for self) (passage M.tells (M.past home) (M.past result.home) before (M.counted result.home)) result.status }
+        ensures begun { KeepsScript (terms_for self) (passage M.tells (M.past home) (M.past result.home) before (M.counted result.home)) result.status script.now.phases }
         ensures end { IsPlayEnd (terms_for self) (passage M.tells (M.past home) (M.past result.home) before (M.counted result.home)) result.status }
         ensures complete { IsTrue M.tells → (d : DurableWorld) → MayOpen (terms_for self) (M.past home) d → IsOkOrLimit result.status }
         ensures same_opening { M.opening result.home ≡ M.opening home }
@@ -158,6 +160,7 @@ impl Terms {
         ensures torn { result.status ≡ Status.WriteFault → IsWritten AppendsPrefix (terms_for self) (passage M.tells (M.past home) (M.past result.home) before (M.counted result.home)) result.status script.now.phases (K.contents out.old) (K.contents out.new) }
         ensures unwritten { result.status ≢ Status.Ok → result.status ≢ Status.WriteFault → out.new ≡ out.old }
         ensures keeps { Keeps (terms_for self) (passage M.tells (M.past home) (M.past result.home) before (M.counted result.home)) result.status }
+        ensures begun { KeepsScript (terms_for self) (passage M.tells (M.past home) (M.past result.home) before (M.counted result.home)) result.status script.now.phases }
         ensures end { IsPlayEnd (terms_for self) (passage M.tells (M.past home) (M.past result.home) before (M.counted result.home)) result.status }
         ensures complete { IsTrue M.tells → (d : DurableWorld) → MayOpen (terms_for self) (M.past home) d → IsOkOrLimit result.status }
         ensures same_opening { M.opening result.home ≡ M.opening home }

@@ -13,7 +13,7 @@ ghost use Rattle.dk_streams.specs.Sources.{IsPlayable, ReadsFew};
 ghost use Rattle.dk_command.specs.Commands.{IsCommandLine};
 ghost use Rattle.dk_command.specs.Requests.{Asks, Serves, Serving};
 ghost use Rattle.darkstar.specs.Reports.{AppendsOne, AppendsPart, ForReport, Holds, IsCauseOf, IsLine, IsOfGame};
-ghost use Rattle.darkstar.specs.Runs.{ForPlay, HoldsNone, IsPlayEnd, IsReadAndWritten, Keeps, MayOpen, passage, terms_of};
+ghost use Rattle.darkstar.specs.Runs.{ForPlay, HoldsNone, IsPlayEnd, IsReadAndWritten, Keeps, KeepsReadScript, MayOpen, passage, terms_of};
 ghost use Rattle.darkstar.specs.Serves.{ForServe, HasServedAll, IsServeEnd, IsServedOrEnd, service_of};
 ghost use Rattle.darkstar.specs.Statuses.{ComesForBadLine, IfBadScript, IsOkOrEnd, IsOkOrNoMemory, IsOkOrOfDevice, IsUnread, IsWrittenOrNoMemory};
 ghost use Rattle.darkstar.specs.StressText.{ForStress, stress_text};
@@ -83,9 +83,10 @@ pub fn run<
     ensures play_done { result.status ≡ Status.Ok → ForPlay words.now (λ play. IsReadAndWritten Appends (terms_of play) (passage M.tells (M.past home) (M.past result.home) (M.counted home) (M.counted result.home)) result.status (S.remaining input.old) (S.remaining input.new) (K.contents out.old) (K.contents out.new)) }
     ensures play_torn { result.status ≡ Status.WriteFault → ForPlay words.now (λ play. IsReadAndWritten AppendsPrefix (terms_of play) (passage M.tells (M.past home) (M.past result.home) (M.counted home) (M.counted result.home)) result.status (S.remaining input.old) (S.remaining input.new) (K.contents out.old) (K.contents out.new)) }
 
-    // However it ends, the store's files are only read, or what a stop leaves at each moment is a beginning of one legal history.
-    // Files that hold no world stay as they read.
+    // However it ends, the store's files are only read, or what a stop leaves at each moment is a beginning of one legal history,
+    // whose events beside claims, commits and releases are a first part of the script. Files that hold no world stay as they read.
     ensures play_keeps { ForPlay words.now (λ play. Keeps (terms_of play) (passage M.tells (M.past home) (M.past result.home) (M.counted home) (M.counted result.home)) result.status) }
+    ensures play_begun { ForPlay words.now (λ play. KeepsReadScript (terms_of play) (passage M.tells (M.past home) (M.past result.home) (M.counted home) (M.counted result.home)) result.status (S.remaining input.old) (S.remaining input.new)) }
     ensures play_spares { IsTrue M.tells → HoldsNone (M.past home) → ForPlay words.now (λ play. OnlyReads (M.past home) (M.past result.home)) }
 
     // The home is opened at most once, with the play's folder, and not before the script is read.

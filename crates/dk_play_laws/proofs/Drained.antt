@@ -23,13 +23,13 @@ pub prefix_then : (xs ys zs : List Event) → IsPrefix xs ys → IsPrefix ys zs 
 prefix_then xs ys zs f g = (f.0 ++ g.0, sym (append_assoc xs f.0 g.0) ∙ ap (λ (es : List Event). es ++ g.0) f.1 ∙ g.1)
 
 -- passes keep their numbers, and are as many as before
-paired_numbered : (R : Known Event → Known Event → Type 0) (n : ℕ) (before after : List (Known Event)) → ((p q : Known Event) → R p q → q.number ≡ p.number) → ArePaired R before after → AreNumbered n before → AreNumbered n after
+pub paired_numbered : (R : Known Event → Known Event → Type 0) (n : ℕ) (before after : List (Known Event)) → ((p q : Known Event) → R p q → q.number ≡ p.number) → ArePaired R before after → AreNumbered n before → AreNumbered n after
 paired_numbered R n [] [] same pairs numbered = tt
 paired_numbered R n (p ∷ before) (q ∷ after) same pairs numbered = (same p q pairs.0 ∙ numbered.0, paired_numbered R (n + 1) before after same pairs.1 numbered.1)
 paired_numbered R n [] (q ∷ after) same pairs numbered = absurd pairs
 paired_numbered R n (p ∷ before) [] same pairs numbered = absurd pairs
 
-paired_count : (R : Known Event → Known Event → Type 0) (before after : List (Known Event)) → ArePaired R before after → length after ≡ length before
+pub paired_count : (R : Known Event → Known Event → Type 0) (before after : List (Known Event)) → ArePaired R before after → length after ≡ length before
 paired_count R [] [] pairs = refl
 paired_count R (p ∷ before) (q ∷ after) pairs = let rest = paired_count R before after pairs.1 in omega (arith, rest)
 paired_count R [] (q ∷ after) pairs = absurd pairs

@@ -8,3 +8,5 @@ pub mod Drained
 pub mod Unclaimed
 pub mod Phasing
 pub mod Budgets
+pub mod Begun
+pub mod FirstParts

@@ -85,7 +85,7 @@ none_above n k [] named lt = refl
 none_above n k (e ∷ events) named lt = of_rest k e events (λ same. let below : pass_of e < n + 1 = named.0 in omega (arith, same, below, lt)) ∙ none_above n k events named.1 lt
 
 -- two lists of which none is left
-nothing_left : {A : Type 0} (xs ys : List A) → xs ++ ys ≡ [] → (xs ≡ []) × (ys ≡ [])
+pub nothing_left : {A : Type 0} (xs ys : List A) → xs ++ ys ≡ [] → (xs ≡ []) × (ys ≡ [])
 nothing_left [] ys e = (refl, e)
 nothing_left (x ∷ xs) ys e = absurd (cons_nil x (xs ++ ys) e)
 

@@ -7,3 +7,5 @@ pub mod LineEvents
 pub mod Phased
 pub mod PhasedLaw
 pub mod BudgetLaw
+pub mod FirstParts
+pub mod BegunLaw

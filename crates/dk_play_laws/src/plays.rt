@@ -1,5 +1,6 @@
 //! Plays by several passes.
 ghost use Rattle.dk_play_laws.specs.AloneLaw.{OnePassIsAlone};
+ghost use Rattle.dk_play_laws.specs.BegunLaw.{AllPhasesAreFirst, BegunIsSeen, BegunPhasesAreFirst, BegunStandsOn, NothingIsEntered, PhasesAreEntered};
 ghost use Rattle.dk_play_laws.specs.WorkedLaw.{OneWorkerIsInTurn, WorkersLeaveNoClaim};
 ghost use Rattle.dk_play_laws.specs.BudgetLaw.{NumbersEndAtOne, SpentBudgetsAreCommitted};
 ghost use Rattle.dk_play_laws.specs.PhasedLaw.{DrainsEndTheirClaims, NothingIsPlayed, PhasesFollow, PlaysAreSeen, PlaysStandOn, SpentIsSeen, SpentPhasesEnd};
@@ -68,4 +69,34 @@ pub fn spent_is_seen()
 /// No number is told to be left where numbers have come to their end.
 pub fn numbers_end_at_one()
     ensures { NumbersEndAtOne }
+{}
+
+/// Nothing is entered for a script at first.
+pub fn nothing_is_entered()
+    ensures { NothingIsEntered }
+{}
+
+/// One phase more is entered, whatever workers do between.
+pub fn phases_are_entered()
+    ensures { PhasesAreEntered }
+{}
+
+/// Phases, and then one that was begun, are a first part of a script.
+pub fn begun_phases_are_first()
+    ensures { BegunPhasesAreFirst }
+{}
+
+/// All phases are a first part of their script.
+pub fn all_phases_are_first()
+    ensures { AllPhasesAreFirst }
+{}
+
+/// What was begun stands while passes enter claims, commits and releases alone.
+pub fn begun_stands_on()
+    ensures { BegunStandsOn }
+{}
+
+/// At the end the events that are no claims, commits and releases are the main pass's, and a first part of the script.
+pub fn begun_is_seen()
+    ensures { BegunIsSeen }
 {}

@@ -10,6 +10,7 @@ pub mod Meanings
 pub mod Passing
 pub mod Meetings
 pub mod WorkedRuns
+pub mod Beginnings
 pub mod Draining
 pub mod Standing
 pub mod Playing

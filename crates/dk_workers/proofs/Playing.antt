@@ -12,9 +12,11 @@ use Rattle.dk_model.specs.Legal.{Opened, pass_of}
 use Rattle.dk_model.specs.Scripts.{LineNames, AllStand, names_through}
 use Rattle.dk_turn.specs.Fronts.{Known}
 use Rattle.dk_play_laws.specs.AloneLaw.{AreNamed}
+use Rattle.dk_play_laws.specs.BegunLaw.{HaveEntered, HaveBegun, HasBegunPhase}
 use Rattle.dk_play_laws.specs.LineEvents.{Said, nothing_said, AreLineEvents, AreHandEvents}
 use Rattle.dk_play_laws.specs.Phased.{IsBetween, IsDrain, IsPhaseTo, IsSpentAt}
 use Rattle.dk_play_laws.specs.Seen.{AreNumbered, AreBehind}
+use Rattle.dk_play_laws.proofs.Begun.{nothing_entered, phases_entered, begun_first}
 use Rattle.dk_play_laws.proofs.Phasing.{phases_follow, spent_phases, nothing_played}
 use Rattle.dk_workers.specs.Drains.{HasDrained, Drains}
 use Rattle.dk_workers.specs.Faults.{IsLineFault}
@@ -91,6 +93,7 @@ line_fault o count (fault.Exhausted next) lines s t marks marked workers after o
 -- phases that were played, and those that are left
 pub record IsPlayedTo (o : Opened) (size : ℕ) (done left : List (List Line)) (s : Said) (marks : List ℕ) (workers : List (Known Event)) (main : Known Event) : Type 0 where
   pub between : IsBetween o done marks s workers main
+  pub entered : HaveEntered done s workers main
   pub same_size : length workers ≡ size
   pub names : LineNames
   pub mean : AllMean names s.means
@@ -101,6 +104,7 @@ pub played_none : (o : Opened) (script : List (List Line)) (s : Said) (marks : L
     → main.front ≡ [] → AllStand sets.empty script → IsPlayedTo o (length workers) [] ([] ∷ script) s marks workers main
 played_none o script s marks workers main is unmarked numbered number behind fresh stand = record {
   between = subst (λ (ms : List ℕ). IsBetween o [] ms s workers main) (sym unmarked) (subst (λ (x : Said). IsBetween o [] [] x workers main) (sym is) (nothing_played o workers main numbered number behind fresh));
+  entered = subst (λ (x : Said). HaveEntered [] x workers main) (sym is) (nothing_entered workers main numbered number behind fresh);
   same_size = refl;
   names = sets.empty;
   mean = none_mean s.means;
@@ -124,11 +128,16 @@ module _ (o : Opened) (count size : ℕ) (done left : List (List Line)) (lines :
       let same : new.number ≡ main.number = one.phase.to_hands.number ∙ p.drain.last.goes.number ∙ p.drain.second.main.number ∙ p.drain.first.main.number ∙ p.to_lines.number ∙ p.to_mark.number in
       record {
         between = subst (λ (ms : List ℕ). IsBetween o (done ++ lines ∷ []) ms t after new) (sym one.is_marked) next;
+        entered = phases_entered done lines s t one.mark workers after main new to.entered one.phase;
         same_size = sym next.number ∙ same ∙ to.between.number ∙ to.same_size;
         names = names_through to.names lines;
         mean = mean_through main.number s t to.names lines p.line_events to.mean p.are_lines;
         stand = to.stand.1;
       }
+
+  -- or it was begun
+  pub played_begun : (after : List (Known Event)) (new : Known Event) → HasBegunPhase lines s workers after main new → HaveBegun (done ++ lines ∷ left) after new
+  played_begun after new b = begun_first done left lines s workers after main new to.entered b
 
   -- or the budget is spent
   pub played_spent : (most granted : ℕ) (after : List (Known Event)) (new : Known Event) → o.budget ≡ Some most → HasSpentAll o count granted lines s workers after main new → IsSpentAt o granted after new

@@ -10,6 +10,7 @@ use Rattle.dk_model.specs.declared.script.Line.{Line}
 use Rattle.dk_model.specs.Legal.{Opened}
 use Rattle.dk_turn.specs.Fronts.{Known}
 use Rattle.dk_host.specs.Passes.{Enters}
+use Rattle.dk_play_laws.specs.FirstParts.{AreFirstLines, AreFirstHands}
 use Rattle.dk_play_laws.specs.LineEvents.{Said, IsLineEvent, AreLineEvents, AreHandEvents}
 
 -- a pass of a host with so many passes keeps its number, and enters exactly these events
@@ -45,3 +46,15 @@ pub record HandsAll (o : Opened) (count : ℕ) (old new : Known Event) (conns : 
   pub events : List Event
   pub by : PassEnters o count events old new
   pub are_hands : AreHandEvents old.number conns events
+
+-- it enters some first lines, and perhaps a Connect to which no number was left
+pub record BeginsLines (o : Opened) (count : ℕ) (old new : Known Event) (s : Said) (lines : List Line) : Type 0 where
+  pub events : List Event
+  pub by : PassEnters o count events old new
+  pub are_first : AreFirstLines old.number s lines events
+
+-- it hands some first connections as many messages as may wait
+pub record BeginsHands (o : Opened) (count : ℕ) (old new : Known Event) (conns : List ConnNo) : Type 0 where
+  pub events : List Event
+  pub by : PassEnters o count events old new
+  pub are_first : AreFirstHands old.number conns events

@@ -1,5 +1,5 @@
 -- What a play of a script leaves, and why there is no transcript.
-use Rattle.std.specs.Prelude.{◌≡◌, ◌≢◌, ◌⊎◌, ℕ, ◌+◌, ◌<◌, ◌≤◌, ◌^◌, Bool, false, IsTrue, List, length, Option, Some, None, Result, Ok, Err, IfOk, IfErr}
+use Rattle.std.specs.Prelude.{◌≡◌, ◌≢◌, ◌⊎◌, ℕ, ◌+◌, ◌<◌, ◌≤◌, ◌^◌, Bool, false, IsTrue, List, [], ◌∷◌, length, Option, Some, None, Result, Ok, Err, IfOk, IfErr}
 use Rattle.std.specs.List.{AllByRecursion}
 use Rattle.dk_types.specs.Faults.{HasRisen}
 use Rattle.dk_types.specs.declared.limits.TheConstants.{NUMBERS_END}
@@ -16,6 +16,7 @@ use Rattle.dk_core.specs.Listings.{world_of}
 use Rattle.dk_turn.specs.Fronts.{Known}
 use Rattle.dk_host.specs.Stores.{CountsOn, EndsAs}
 use Rattle.dk_play_laws.specs.BudgetLaw.{IsBudgetSpent}
+use Rattle.dk_play_laws.specs.FirstParts.{scripted_of, IsFirstPart}
 use Rattle.dk_play_laws.specs.LineEvents.{Said}
 use Rattle.dk_play_laws.specs.Phased.{HavePlayed, IsBetween, IsSpentAt}
 use Rattle.dk_workers.specs.Faults.{IsWorkFault}
@@ -108,7 +109,8 @@ pub record IsTextOf (o : Opened) (workers : ℕ) (asked : Bool) (script : List (
   -- by one worker, where the store was stopped and its count rose, that is told
   pub alone : workers ≡ 1 → faults ≢ None → HasRisen before after → text ≡ Err fault.DiskFault
 
--- A PLAY ON A STORE: its one history is legal, what a stop leaves at each moment is a beginning of it or all of it and its tail, and the text tells it, or there is a cause why there is none
+-- A PLAY ON A STORE: its one history is legal, what a stop leaves at each moment is a beginning of it or all of it and its tail, and the text tells it, or there is a cause why there is none.
+-- However it ends, the events that are no claims, commits and releases are a first part of what the main pass enters for the script, whose first phase has no lines
 pub record IsPlayOn (o : Opened) (workers : ℕ) (asked : Bool) (script : List (List Line)) (tells : Bool) (began past : DiskHistory) (first before after : ℕ) (text : Result (List ℕ) PlayFault) : Type 0 where
   pub history : List Event
   pub faults : Option ℕ
@@ -116,6 +118,7 @@ pub record IsPlayOn (o : Opened) (workers : ℕ) (asked : Bool) (script : List (
   pub legal : IsLegal o history
   pub ended : IsTrue tells → EndsAs o began past history faults epoch
   pub counts : CountsOn before faults after
+  pub begun : IsFirstPart workers ([] ∷ script) (scripted_of history)
   pub text_of : IsTextOf o workers asked script history faults first epoch before after text
 
 -- or there was no memory to open the host, and the home is as it was

@@ -1,5 +1,6 @@
 //! Jobs run by workers until none is left.
 ghost use Rattle.std.specs.Prelude.{◌≡◌};
+ghost use Rattle.dk_play_laws.specs.BegunLaw.{HaveOnlyWorked};
 ghost use Rattle.dk_play_laws.specs.Phased.{HaveMet};
 ghost use Rattle.dk_workers.specs.Drains.{Drains};
 
@@ -48,7 +49,8 @@ pub fn drain<
     gate: &T,
 ) -> Result<(), PlayFault>
     requires rules { W.opened.rules ≡ G.rules game.now }
-    ensures { Drains W.opened J.name.passes result workers.old workers.new main.old main.new }
+    ensures drains { Drains W.opened J.name.passes result workers.old workers.new main.old main.new }
+    ensures only { HaveOnlyWorked workers.old workers.new main.old main.new }
 {
     meet_all(rt, host, main, workers);
     let worked = work_all(rt, alloc, host, workers, game, gate);

@@ -1,6 +1,6 @@
 //! Messages handed to the clients.
-ghost use Rattle.std.specs.Prelude.{◌≡◌, IfErr, OnOk};
-ghost use Rattle.dk_workers.specs.Lines.{HandsAll};
+ghost use Rattle.std.specs.Prelude.{◌≡◌, IfErr, OnErr, OnOk};
+ghost use Rattle.dk_workers.specs.Lines.{BeginsHands, HandsAll};
 ghost use Rattle.dk_workers.specs.declared.play.fault.PlayFault.TheVariants.{NoMemory as no_memory};
 
 use super::fault::PlayFault;
@@ -19,6 +19,7 @@ pub(crate) fn hand_all<W: Hosting, J: Naming, M: Home, R: Wait>(
     conns: &[ConnNo],
 ) -> Result<(), PlayFault>
     ensures handed { OnOk result (HandsAll W.opened J.name.passes pass.old pass.new conns.now) }
+    ensures begun { OnErr result (BeginsHands W.opened J.name.passes pass.old pass.new conns.now) }
     ensures fault { IfErr result (λ why. why ≡ no_memory) }
 {
     for conn in conns {

@@ -1,12 +1,12 @@
 //! The lines of a script, entered by a pass as connects, posts and ticks.
-ghost use Rattle.std.specs.Prelude.{◌≡◌, ◌∷◌, [], true, false, IfErr, OnOk};
+ghost use Rattle.std.specs.Prelude.{◌≡◌, ◌∷◌, [], true, false, IfErr, OnErr, OnOk};
 ghost use Rattle.std.specs.FinMap as maps;
 ghost use Rattle.dk_types.specs.declared.job.Input.TheVariants.{Disconnect};
 ghost use Rattle.dk_model.specs.declared.script.Line.TheVariants as line;
 ghost use Rattle.dk_model.specs.Lawful.{IsInput};
 ghost use Rattle.dk_workers.specs.Faults.{IsLineFault};
 ghost use Rattle.dk_workers.specs.Logins.{said_of, CanBeEntered, MayStandAll};
-ghost use Rattle.dk_workers.specs.Lines.{EntersLine, EntersLines, IsPostedBy, PostsFor};
+ghost use Rattle.dk_workers.specs.Lines.{BeginsLines, EntersLine, EntersLines, IsPostedBy, PassEnters, PostsFor};
 
 use super::fault::PlayFault;
 use super::logins::Logins;
@@ -27,6 +27,7 @@ fn login<W: Hosting, J: Naming, M: Home, R: Wait>(
     name: &Name,
 ) -> Result<(), PlayFault>
     ensures entered { OnOk result (EntersLine W.opened J.name.passes pass.old pass.new (said_of logins.old) (line.Login name.now) (said_of logins.new)) }
+    ensures begun { OnErr result (BeginsLines W.opened J.name.passes pass.old pass.new (said_of logins.old) (line.Login name.now ∷ [])) }
     ensures fault { IfErr result IsLineFault }
 {
     match host.connect(rt, pass, name) {
@@ -49,6 +50,7 @@ fn post<W: Hosting, J: Naming, M: Home, R: Wait>(
 ) -> Result<(), PlayFault>
     requires within { IsInput input }
     ensures posted { OnOk result (IsPostedBy W.opened J.name.passes pass.old pass.new conn input) }
+    ensures none { OnErr result (PassEnters W.opened J.name.passes [] pass.old pass.new) }
     ensures fault { IfErr result IsLineFault }
 {
     match host.post(rt, pass, conn, input) {
@@ -69,6 +71,7 @@ fn post_for<W: Hosting, J: Naming, M: Home, R: Wait>(
     requires within { IsInput input }
     requires meant { maps.contains_key (said_of logins.now).means name.now ≡ true }
     ensures posted { OnOk result (PostsFor W.opened J.name.passes pass.old pass.new (said_of logins.now) name.now input) }
+    ensures none { OnErr result (PassEnters W.opened J.name.passes [] pass.old pass.new) }
     ensures fault { IfErr result IsLineFault }
 {
     let Some(conn) = logins.conn(name) else {
@@ -88,6 +91,7 @@ fn send<W: Hosting, J: Naming, M: Home, R: Wait>(
 ) -> Result<(), PlayFault>
     requires { CanBeEntered (said_of logins.now) (line.Send name.now text.now) }
     ensures entered { OnOk result (EntersLine W.opened J.name.passes pass.old pass.new (said_of logins.now) (line.Send name.now text.now) (said_of logins.now)) }
+    ensures none { OnErr result (PassEnters W.opened J.name.passes [] pass.old pass.new) }
     ensures fault { IfErr result IsLineFault }
 {
     post_for(rt, host, pass, logins, name, Input::Message(text.clone()?))
@@ -105,6 +109,7 @@ fn send_on<W: Hosting, J: Naming, M: Home, R: Wait>(
 ) -> Result<(), PlayFault>
     requires { CanBeEntered (said_of logins.now) (line.Channel name.now channel.now text.now) }
     ensures entered { OnOk result (EntersLine W.opened J.name.passes pass.old pass.new (said_of logins.now) (line.Channel name.now channel.now text.now) (said_of logins.now)) }
+    ensures none { OnErr result (PassEnters W.opened J.name.passes [] pass.old pass.new) }
     ensures fault { IfErr result IsLineFault }
 {
     let channel = channel.clone()?;
@@ -132,6 +137,7 @@ fn leave<W: Hosting, J: Naming, M: Home, R: Wait>(
     ensures posted { OnOk result (PostsFor W.opened J.name.passes pass.old pass.new (said_of logins.old) name.now (Disconnect graceful)) }
     ensures means { (said_of logins.new).means ≡ maps.remove (said_of logins.old).means name.now }
     ensures opened { (said_of logins.new).opened ≡ (said_of logins.old).opened }
+    ensures none { OnErr result (PassEnters W.opened J.name.passes [] pass.old pass.new) }
     ensures fault { IfErr result IsLineFault }
 {
     let posted = post_for(rt, host, pass, logins, name, Input::Disconnect { graceful });
@@ -149,6 +155,7 @@ fn enter<W: Hosting, J: Naming, M: Home, R: Wait>(
 ) -> Result<(), PlayFault>
     requires { CanBeEntered (said_of logins.old) line.now }
     ensures entered { OnOk result (EntersLine W.opened J.name.passes pass.old pass.new (said_of logins.old) line.now (said_of logins.new)) }
+    ensures begun { OnErr result (BeginsLines W.opened J.name.passes pass.old pass.new (said_of logins.old) (line.now ∷ [])) }
     ensures fault { IfErr result IsLineFault }
 {
     match line {
@@ -178,6 +185,7 @@ pub(crate) fn enter_all<W: Hosting, J: Naming, M: Home, R: Wait>(
 ) -> Result<(), PlayFault>
     requires { MayStandAll (said_of logins.old) lines.now }
     ensures entered { OnOk result (EntersLines W.opened J.name.passes pass.old pass.new (said_of logins.old) lines.now (said_of logins.new)) }
+    ensures begun { OnErr result (BeginsLines W.opened J.name.passes pass.old pass.new (said_of logins.old) lines.now) }
     ensures fault { IfErr result IsLineFault }
 {
     for line in lines {

@@ -1,8 +1,9 @@
 //! The phases of a script, played one after another.
-ghost use Rattle.std.specs.Prelude.{◌≡◌, ◌+◌, [], ◌∷◌, ◌++◌, Some, ℕ, length, IsTrue, OnOk};
+ghost use Rattle.std.specs.Prelude.{◌≡◌, ◌+◌, [], ◌∷◌, ◌++◌, Some, ℕ, length, IsTrue, OnErr, OnOk};
 ghost use Rattle.std.specs.FinSet as sets;
 ghost use Rattle.dk_model.specs.Lawful.{AreLawful};
 ghost use Rattle.dk_model.specs.Scripts.{AllStand};
+ghost use Rattle.dk_play_laws.specs.BegunLaw.{HasBegunPhase, HaveBegun};
 ghost use Rattle.dk_play_laws.specs.Seen.{AreBehind, AreNumbered};
 ghost use Rattle.dk_workers.specs.Logins.{said_of, MayStandAll};
 ghost use Rattle.dk_workers.specs.Phases.{PlaysAll, PlaysOne};
@@ -55,7 +56,8 @@ fn play_phase<
     requires rules { W.opened.rules ≡ G.rules game.now }
     requires keeps { IsTrue W.keeps }
     requires stand { MayStandAll (said_of logins.old) lines.now }
-    ensures { PlaysOne W.opened J.name.passes result lines.now (said_of logins.old) (said_of logins.new) marks.old.items marks.new.items workers.old workers.new main.old main.new }
+    ensures plays { PlaysOne W.opened J.name.passes result lines.now (said_of logins.old) (said_of logins.new) marks.old.items marks.new.items workers.old workers.new main.old main.new }
+    ensures begun { OnErr result (HasBegunPhase lines.now (said_of logins.old) workers.old workers.new main.old main.new) }
 {
     let mark = host.kept_count(rt, main);
     put_mark(marks, mark)?;
@@ -93,7 +95,8 @@ pub(crate) fn play_phases<
     requires behind { AreBehind workers.old main.old.front }
     requires fresh { main.old.front ≡ [] }
     requires stand { AllStand sets.empty script.now }
-    ensures { PlaysAll W.opened ([] ∷ script.now) (λ marks. marks.items) result workers.new main.new }
+    ensures plays { PlaysAll W.opened ([] ∷ script.now) (λ marks. marks.items) result workers.new main.new }
+    ensures begun { HaveBegun ([] ∷ script.now) workers.new main.new }
 {
     let mut logins = Logins::none(alloc);
     let mut marks = Vec::new(alloc);

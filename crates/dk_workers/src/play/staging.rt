@@ -5,6 +5,7 @@ ghost use Rattle.dk_model.specs.Lawful.{AreLawful};
 ghost use Rattle.dk_model.specs.Scripts.{AllStand};
 ghost use Rattle.dk_notice.specs.Notices.{nothing_told, said_on};
 ghost use Rattle.dk_core.specs.Listings.{world_of};
+ghost use Rattle.dk_play_laws.specs.BegunLaw.{HaveBegun};
 ghost use Rattle.dk_play_laws.specs.Seen.{AreBehind, AreNumbered};
 ghost use Rattle.dk_workers.specs.Played.{IsPlayOn, IsStaged, IsUnopened};
 
@@ -55,6 +56,7 @@ fn stage<
     requires fresh { main.old.front ≡ [] }
     requires stand { AllStand sets.empty script.now }
     ensures staged { IsStaged asked W.opened ([] ∷ script.now) (λ s. s.marks.items) (λ s. s.saved) result workers.new main.new }
+    ensures begun { HaveBegun ([] ∷ script.now) workers.new main.new }
     ensures size { length workers.new ≡ length workers.old }
 {
     let marks = match play_phases(rt, alloc, host, main, workers, game, gate, script) {

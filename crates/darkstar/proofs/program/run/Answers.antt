@@ -13,7 +13,7 @@ use Rattle.dk_reports.specs.Causes.{IsOpenedAt}
 use Rattle.darkstar.specs.Asked.{asked, play_of, request_for, serving_of}
 use Rattle.dk_streams.specs.Sources.{IsPlayable}
 use Rattle.darkstar.specs.Reports.{AppendsOne, AppendsPart, ForReport, Holds, IsCauseOf, IsLine, IsOfGame}
-use Rattle.darkstar.specs.Runs.{ForPlay, IsPlayEnd, IsReadAndWritten, Keeps, MayOpen, passage, terms_of}
+use Rattle.darkstar.specs.Runs.{ForPlay, IsPlayEnd, IsReadAndWritten, Keeps, KeepsReadScript, MayOpen, passage, terms_of}
 use Rattle.darkstar.specs.Serves.{ForServe, HasServedAll, IsServeEnd, IsServedOrEnd, service_of}
 use Rattle.darkstar.specs.Statuses.{ComesForBadLine, IfBadScript, IsOkOrEnd, IsOkOrNoMemory, IsOkOrOfDevice, IsWrittenOrNoMemory}
 use Rattle.darkstar.specs.StressText.{ForStress, stress_text}
@@ -37,6 +37,7 @@ returns-in-Err-Usage g c =
       play_done = λ is. absurd cc;
       play_torn = λ is. absurd cc;
       play_keeps = λ play asks. absurd (play_not play asks);
+      play_begun = λ play asks. absurd (play_not play asks);
       play_spares = λ tells none play asks. absurd (play_not play asks);
       play_folder = λ play asks. absurd (play_not play asks);
       play_unread = λ unread play asks. absurd (play_not play asks);
@@ -84,6 +85,7 @@ returns-in-Err-NoMemory g c = record {
   play_done = λ is. absurd cc;
   play_torn = λ is. absurd cc;
   play_keeps = λ play asks. inl (λ tells. none_read (g.M.Home.past c.args.home));
+  play_begun = λ play asks. inl (λ tells. none_read (g.M.Home.past c.args.home));
   play_spares = λ tells none play asks. none_read (g.M.Home.past c.args.home);
   play_folder = λ play asks. subst (IsOpenedAt play.dir) (sym c.requires.unopened) tt;
   play_unread = λ unread play asks. refl;
@@ -151,6 +153,7 @@ returns-in-Play g c =
       play_done = λ ok. of_play (λ play. IsReadAndWritten Appends (terms_of play) home s left left' before after) (p.done ok);
       play_torn = λ torn. of_play (λ play. IsReadAndWritten AppendsPrefix (terms_of play) home s left left' before after) (p.torn torn);
       play_keeps = of_play (λ play. Keeps (terms_of play) home s) p.keeps;
+      play_begun = of_play (λ play. KeepsReadScript (terms_of play) home s left left') p.begun;
       play_spares = λ tells none play asked. spared (terms_of mine) home s p.keeps tells none;
       play_folder = of_play (λ play. IsOpenedAt play.dir opening) p.folder;
       play_unread = λ unread play asked. p.unread unread;
@@ -215,6 +218,7 @@ returns-in-Serve g c =
       play_done = λ ok play asks. absurd (play_not play asks);
       play_torn = λ torn play asks. absurd (play_not play asks);
       play_keeps = λ play asks. absurd (play_not play asks);
+      play_begun = λ play asks. absurd (play_not play asks);
       play_spares = λ tells none play asks. absurd (play_not play asks);
       play_folder = λ play asks. absurd (play_not play asks);
       play_unread = λ unread play asks. absurd (play_not play asks);
@@ -280,6 +284,7 @@ returns-in-Report g c =
       play_done = λ ok play asks. absurd (play_not play asks);
       play_torn = λ torn play asks. absurd (play_not play asks);
       play_keeps = λ play asks. absurd (play_not play asks);
+      play_begun = λ play asks. absurd (play_not play asks);
       play_spares = λ tells none play asks. absurd (play_not play asks);
       play_folder = λ play asks. absurd (play_not play asks);
       play_unread = λ unread play asks. absurd (play_not play asks);
@@ -341,6 +346,7 @@ returns-in-Stress g c =
       play_done = λ ok play asks. absurd (play_not play asks);
       play_torn = λ torn play asks. absurd (play_not play asks);
       play_keeps = λ play asks. absurd (play_not play asks);
+      play_begun = λ play asks. absurd (play_not play asks);
       play_spares = λ tells none play asks. absurd (play_not play asks);
       play_folder = λ play asks. absurd (play_not play asks);
       play_unread = λ unread play asks. absurd (play_not play asks);

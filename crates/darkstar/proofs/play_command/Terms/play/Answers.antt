@@ -7,7 +7,7 @@ use Rattle.dk_status.specs.declared.status.Status.{Status}
 use Rattle.dk_status.specs.declared.status.Status.TheVariants as status
 use Rattle.std.specs.Prelude.{IfSome}
 use Rattle.dk_model.specs.Scripts.{IsBadLine}
-use Rattle.darkstar.proofs.PlayAfter.{end_before, keeps_run_before, may_open_after, written_before}
+use Rattle.darkstar.proofs.PlayAfter.{begun_before, end_before, keeps_run_before, may_open_after, written_before}
 use Rattle.darkstar.proofs.ReadEnds.{never_told, unread_limit, unread_told}
 use Rattle.darkstar.proofs.Told.{told_read}
 use Rattle.darkstar.proofs.play_command.Terms.play.Goals as goal
@@ -43,6 +43,11 @@ pub returns-in-Ok-open-clause-keeps : goal.returns-in-Ok-open-clause-keeps
 returns-in-Ok-open-clause-keeps g c =
     keeps_run_before g.M.Home.tells (g.M.Home.past c.args.home) (g.M.Home.past c.open.new.self) (g.M.Home.past c.play_game.result.home) c.open.ensures.time c.open.ensures.files (g.M.Home.counted c.args.home) c.faults-before.result (g.M.Home.counted c.play_game.result.home) c.faults-before.ensures (terms_for c.args.self)
     c.play_game.result.status c.play_game.ensures.keeps
+
+pub returns-in-Ok-open-clause-begun : goal.returns-in-Ok-open-clause-begun
+returns-in-Ok-open-clause-begun g c =
+    begun_before g.M.Home.tells (g.M.Home.past c.args.home) (g.M.Home.past c.open.new.self) (g.M.Home.past c.play_game.result.home) c.open.ensures.time c.open.ensures.files (g.M.Home.counted c.args.home) c.faults-before.result (g.M.Home.counted c.play_game.result.home) c.faults-before.ensures (terms_for c.args.self)
+    c.play_game.result.status c.in-Ok.script.phases (g.S.Source.remaining c.args.input.now) (g.S.Source.remaining c.read_script.new.input) c.in-Ok.ensures.ok c.play_game.ensures.begun
 
 pub returns-in-Ok-open-clause-end : goal.returns-in-Ok-open-clause-end
 returns-in-Ok-open-clause-end g c =
