@@ -116,7 +116,7 @@ paired_each R S f (p ∷ before) (q ∷ after) pairs = (f p q pairs.0, paired_ea
 paired_each R S f [] (q ∷ after) pairs = absurd pairs
 paired_each R S f (p ∷ before) [] pairs = absurd pairs
 
-paired_same : (passes : List (Known Event)) → ArePaired (HasEntered []) passes passes
+pub paired_same : (passes : List (Known Event)) → ArePaired (HasEntered []) passes passes
 paired_same [] = tt
 paired_same (p ∷ passes) = (stands_entered p, paired_same passes)
 

@@ -1,5 +1,5 @@
 -- What a pass entered of lines, hands and phases that it did not bring to their end.
-use Rattle.std.proofs.Common.{◌≡◌, inl, inr, ℕ, List, [], ◌∷◌, ◌++◌, refl, sym, subst, ◌∙◌}
+use Rattle.std.proofs.Common.{◌≡◌, inl, inr, ℕ, List, [], ◌∷◌, ◌++◌, Result, Ok, Err, OnErr, refl, sym, subst, ◌∙◌}
 use Rattle.std.specs.FinMap as maps
 use Rattle.std.proofs.lemmas.List.{append-nil}
 use Rattle.dk_types.specs.declared.number.ConnNo.{ConnNo}
@@ -17,6 +17,11 @@ use Rattle.dk_play_laws.proofs.Begun.{entered_then, goes_entered, lines_scripted
 use Rattle.dk_play_laws.proofs.FirstParts.{first_none, first_one, first_refused, first_then, first_scripted, no_hands, first_hands_scripted}
 use Rattle.dk_workers.specs.Lines.{PassEnters, EntersLine, EntersLines, HandsAll, BeginsLines, BeginsHands}
 use Rattle.dk_workers.proofs.Passing.{passes_none, passes_then, goes_by}
+
+-- what holds of whatever comes holds of a fault
+pub on_err : {T E P : Type 0} (r : Result T E) → P → OnErr r P
+on_err (Ok x) p = tt
+on_err (Err why) p = p
 
 module _ (o : Opened) (count : ℕ) where
   -- nothing was entered of a line

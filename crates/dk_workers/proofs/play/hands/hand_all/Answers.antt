@@ -4,7 +4,7 @@ use Rattle.dk_types.specs.declared.number.ConnNo.{ConnNo}
 use Rattle.dk_types.specs.declared.event.Event.TheVariants as event
 use Rattle.dk_types.specs.declared.limits.TheConstants.{OUTS_MOST_COUNT}
 use Rattle.dk_workers.specs.Lines.{HandsAll}
-use Rattle.dk_workers.proofs.Beginnings.{hands_begun}
+use Rattle.dk_workers.proofs.Beginnings.{hands_begun, on_err}
 use Rattle.dk_workers.proofs.Passing.{no_hands, hands_then, passes_one}
 use Rattle.dk_workers.proofs.play.hands.hand_all.Goals as goal
 
@@ -39,4 +39,5 @@ returns-in_err-hand-clause-begun g c =
     let mid = c.loop-conn.pass in
     let new = c.hand.new.pass in
     let h = c.in_err-hand.ensures in
-    hands_begun o n c.args.pass.now mid new (take i conns) (drop i conns) conns (sym (take-append-drop i conns)) c.loop-conn.invariant (passes_one o n [] mid new h.number h.entered h.named)
+    on_err c.from_residual.result
+    (hands_begun o n c.args.pass.now mid new (take i conns) (drop i conns) conns (sym (take-append-drop i conns)) c.loop-conn.invariant (passes_one o n [] mid new h.number h.entered h.named))

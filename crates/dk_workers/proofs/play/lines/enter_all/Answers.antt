@@ -3,7 +3,7 @@ use Rattle.std.proofs.lemmas.List.{drop_more, take_more, take_all}
 use Rattle.dk_model.specs.declared.script.Line.{Line}
 use Rattle.dk_workers.specs.Lines.{EntersLines, BeginsLines}
 use Rattle.dk_workers.specs.Logins.{said_of, MayStandAll}
-use Rattle.dk_workers.proofs.Beginnings.{lines_begun}
+use Rattle.dk_workers.proofs.Beginnings.{lines_begun, on_err}
 use Rattle.dk_workers.proofs.Passing.{no_lines, lines_then}
 use Rattle.dk_workers.proofs.Standing.{can_first, stand_rest}
 use Rattle.dk_workers.proofs.play.lines.enter_all.Goals as goal
@@ -58,5 +58,6 @@ returns-in_err-enter-clause-begun g c =
     let t = said_of c.loop-line.logins in
     let parted : drop i lines ≡ l ∷ drop (i + 1) lines = drop_more lines i l c.loop-line-test.true ∙ ap (λ (x : Line). x ∷ drop (i + 1) lines) (sym c.line-item.is) in
     let all : take i lines ++ l ∷ drop (i + 1) lines ≡ lines = ap (λ ls. take i lines ++ ls) (sym parted) ∙ take-append-drop i lines in
-    subst (λ ls. BeginsLines o n old new s ls) all
-    (lines_begun o n old c.loop-line.pass new s t (take i lines) (l ∷ []) (drop (i + 1) lines) c.loop-line.invariant.entered c.in_err-enter.ensures.begun)
+    on_err c.from_residual.result
+    (subst (λ ls. BeginsLines o n old new s ls) all
+    (lines_begun o n old c.loop-line.pass new s t (take i lines) (l ∷ []) (drop (i + 1) lines) c.loop-line.invariant.entered c.in_err-enter.ensures.begun))

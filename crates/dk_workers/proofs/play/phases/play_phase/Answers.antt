@@ -2,7 +2,7 @@ use Rattle.std.proofs.Common.{[], OnErr, OnOk, subst}
 use Rattle.std.proofs.lemmas.Result.{err_from_is_err_and, on_err_weaker}
 use Rattle.dk_workers.specs.Lines.{BeginsHands, HandsAll}
 use Rattle.dk_workers.specs.Logins.{said_of}
-use Rattle.dk_workers.proofs.Beginnings.{mark_begun, phase_lines_begun, phase_drain_begun, phase_hands_begun}
+use Rattle.dk_workers.proofs.Beginnings.{on_err, mark_begun, phase_lines_begun, phase_drain_begun, phase_hands_begun}
 use Rattle.dk_workers.proofs.Passing.{passes_one}
 use Rattle.dk_workers.proofs.Playing.{one_played, drain_fault, hand_fault}
 use Rattle.dk_workers.proofs.play.phases.play_phase.Goals as goal
@@ -32,23 +32,26 @@ returns-in_err-put_mark-clause-begun g c =
     let o = g.W.Hosting.opened in
     let n = g.J.Naming.name.passes in
     let k = c.kept_count-mark in
-    mark_begun o n c.args.lines.now (said_of c.args.logins.now) c.args.workers.now c.args.main.now k.new.pass (passes_one o n [] c.args.main.now k.new.pass k.ensures.number k.ensures.entered k.ensures.named)
+    on_err c.from_residual.result
+    (mark_begun o n c.args.lines.now (said_of c.args.logins.now) c.args.workers.now c.args.main.now k.new.pass (passes_one o n [] c.args.main.now k.new.pass k.ensures.number k.ensures.entered k.ensures.named))
 
 pub returns-in_err-enter_all-clause-begun : goal.returns-in_err-enter_all-clause-begun
 returns-in_err-enter_all-clause-begun g c =
     let o = g.W.Hosting.opened in
     let n = g.J.Naming.name.passes in
     let k = c.kept_count-mark in
-    phase_lines_begun o n c.args.lines.now (said_of c.args.logins.now) c.args.workers.now c.args.main.now k.new.pass (passes_one o n [] c.args.main.now k.new.pass k.ensures.number k.ensures.entered k.ensures.named)
-    c.enter_all.new.pass c.in_err-enter_all.ensures.begun
+    on_err c.from_residual-in_err-enter_all.result
+    (phase_lines_begun o n c.args.lines.now (said_of c.args.logins.now) c.args.workers.now c.args.main.now k.new.pass (passes_one o n [] c.args.main.now k.new.pass k.ensures.number k.ensures.entered k.ensures.named)
+    c.enter_all.new.pass c.in_err-enter_all.ensures.begun)
 
 pub returns-in_err-drain-clause-begun : goal.returns-in_err-drain-clause-begun
 returns-in_err-drain-clause-begun g c =
     let o = g.W.Hosting.opened in
     let n = g.J.Naming.name.passes in
     let k = c.kept_count-mark in
-    phase_drain_begun o n c.args.lines.now (said_of c.args.logins.now) c.args.workers.now c.args.main.now k.new.pass (passes_one o n [] c.args.main.now k.new.pass k.ensures.number k.ensures.entered k.ensures.named)
-    (said_of c.enter_all.new.logins) c.drain.new.workers c.enter_all.new.pass c.drain.new.main c.in_ok-enter_all.ensures.entered c.drain.ensures.only
+    on_err c.from_residual-in_err-drain.result
+    (phase_drain_begun o n c.args.lines.now (said_of c.args.logins.now) c.args.workers.now c.args.main.now k.new.pass (passes_one o n [] c.args.main.now k.new.pass k.ensures.number k.ensures.entered k.ensures.named)
+    (said_of c.enter_all.new.logins) c.drain.new.workers c.enter_all.new.pass c.drain.new.main c.in_ok-enter_all.ensures.entered c.drain.ensures.only)
 
 pub returns-clause-begun : goal.returns-clause-begun
 returns-clause-begun g c =
