@@ -11,6 +11,7 @@ ghost use Rattle.dk_host.specs.Refusals.{IsBackAt, commit_events};
 ghost use Rattle.dk_host.specs.Calls.{AreShort, Entered, Grants, IsClaimOf, IsHonestAt, IsSpared, ReadsAt, claim_events, connect_events, hand_events, post_events, tick_events};
 
 use crate::book::WorldBook;
+use crate::free::FreeStore;
 use crate::host::Host;
 use crate::hosting::Hosting;
 use crate::refused::CommitRefused;
@@ -22,7 +23,12 @@ use dk_entry::CommitDraft;
 use dk_turn::{Naming, Pass, Turn};
 use dk_txn::Finished;
 use dk_types::{ConnNo, Input, Item, Name, NoMemory, Read};
-use std::sync::Wait;
+use std::hint::spin_loop;
+use std::sync::{MutexGuard, Wait};
+
+/// How often a commit looks whether the commit lock is free before its thread sleeps: about as long as four commits in memory
+/// take.
+const LOOKS_COUNT: u32 = 2_000;
 
 // What the world answers to an item at the new front, and what is seen of it there.
 pub(crate) fn read_item<W: Hosting, J: Naming, R: Wait>(
@@ -153,6 +159,18 @@ impl<W: Hosting, J: Naming, M: Home> Host<W, J, M> {
         self.world.with(rt, pass, CountKept)
     }
 
+    // The store, once no other commit is at it. In memory a commit takes less time than to sleep and to be woken, so it looks
+    // for a while first.
+    fn enter_store<R: Wait>(&self, rt: &R) -> MutexGuard<'_, FreeStore<W, J, M>> {
+        for _ in 0..LOOKS_COUNT {
+            if let Some(store) = self.store.try_lock() {
+                return store;
+            }
+            spin_loop();
+        }
+        self.store.lock(rt)
+    }
+
     /// Commits a finished run where all its reads stand: first its record is on the disk, and then its event is entered.
     /// Where it is refused the claim comes back, and nothing is entered; a notice shows whether a fault of the disk had
     /// stopped the host. The record is spelled in memory before the commit lock is taken.
@@ -173,8 +191,7 @@ impl<W: Hosting, J: Naming, M: Home> Host<W, J, M> {
         ensures named { All (λ e. pass_of e < J.name.passes) pass.new.front }
     {
         let draft = CommitDraft::new(self.alloc, claimed.run(), finished.effects());
-        self.store
-            .lock(rt)
+        self.enter_store(rt)
             .commit(rt, &self.world, pass, claimed, finished, draft)
     }
 }
