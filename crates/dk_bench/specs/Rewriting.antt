@@ -8,12 +8,12 @@ use Rattle.dk_types.specs.Fields.{id_spelling}
 use Rattle.dk_types.specs.Payload.{next_id}
 use Rattle.dk_model.specs.Records.{value_of}
 use Rattle.dk_model.specs.References.{get_for_update_as, save_as}
-use Rattle.dk_model.specs.Runs.{Act, give, and_then, create, schedule}
+use Rattle.dk_model.specs.Runs.{Act, give, and_then, create, schedule_periodic}
 use Rattle.dk_bench.specs.Sheet.{SHEET, sheet_bytes, sheet_of, blank, raised}
 
--- a blank sheet, and a task that is due at once; its argument is the sheet's id
+-- a blank sheet, and a task that is due at once and then each millisecond; its argument is the sheet's id
 unfoldable pub plan : Act (Unit {0})
-plan = and_then (create SHEET (sheet_bytes blank)) (λ id. and_then (schedule 1 (id_spelling id) 0) (λ _. give (Ok tt)))
+plan = and_then (create SHEET (sheet_bytes blank)) (λ id. and_then (schedule_periodic 1 (id_spelling id) 0 1) (λ _. give (Ok tt)))
 
 -- so many sheets, each with its task
 abbrev pub begin : ℕ → Act (Unit {0})

@@ -10,7 +10,7 @@ use Rattle.dk_model.specs.Lawful.{IsForGame, AreLawful}
 use Rattle.dk_model.specs.Records.{value_of}
 use Rattle.dk_model.proofs.Acts.{Anything, AreBytes, IsLawful, lawful_rules, lawful_then, lawful_done}
 use Rattle.dk_model.proofs.Bytes.{bytes_of_u64, bytes_of_id, bytes_of_list}
-use Rattle.dk_model.proofs.Operations.{lawful_create, lawful_schedule}
+use Rattle.dk_model.proofs.Operations.{lawful_create, lawful_schedule_periodic}
 use Rattle.dk_model.proofs.ReferenceActs.{lawful_get_for_update_as, lawful_save_as}
 use Rattle.dk_bench.specs.declared.sheet.Sheet.{Sheet}
 use Rattle.dk_bench.specs.Sheet.{SHEET, sheet_bytes, sheet_of, blank, raised}
@@ -28,7 +28,7 @@ lawful_plan : {Needs : Type 0} → IsLawful Needs Anything plan
 unfolding plan
 lawful_plan =
     lawful_then (lawful_create SHEET (sheet_bytes blank) (λ _. (lit< tt, bytes_of_sheet blank))) (λ id.
-    lawful_then (lawful_schedule 1 (id_spelling id) 0 (λ _. (lit< tt, bytes_of_id id))) (λ _.
+    lawful_then (lawful_schedule_periodic 1 (id_spelling id) 0 1 (λ _. (lit< tt, bytes_of_id id))) (λ _.
     lawful_done tt))
 
 lawful_begin : {Needs : Type 0} (sheets : ℕ) → IsLawful Needs Anything (begin sheets)

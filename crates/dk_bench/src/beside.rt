@@ -14,6 +14,9 @@ use std::sync::atomic::{AtomicBool, AtomicU64, Ordering};
 use std::thread::{Threads, join_mut};
 use std::time::{Clock, Instant};
 
+/// So many moments are timed at which each periodic task is due.
+pub(crate) const ROUNDS: u64 = 8;
+
 /// What each of two threads does with its pass, and the nanoseconds of it.
 trait Pair<X> {
     // What they ask for.
@@ -110,10 +113,34 @@ impl<
     {
         self.commit_next(passes.first_mut()?)?;
         let start = Instant::now(self.rt).ok()?;
+        self.work_due(passes)?;
+        nanoseconds(self.rt, &start)
+    }
+
+    /// All jobs that are due, by a worker for each pass.
+    fn work_due(&self, passes: &mut [Pass<WorldBook<W>, J>]) -> Option<()>
+        requires rules { W.opened.rules ≡ G.rules self.now.game.now }
+    {
         match work_all(self.rt, self.alloc, self.host, passes, self.game, &OpenGate) {
-            Worked::Idle => nanoseconds(self.rt, &start),
+            Worked::Idle => Some(()),
             _ => None,
         }
+    }
+
+    /// All jobs that are due at each of some moments, by a worker for each pass, behind those that are due at once.
+    pub(crate) fn rounds(&self, passes: &mut [Pass<WorldBook<W>, J>]) -> Option<u64>
+        requires rules { W.opened.rules ≡ G.rules self.now.game.now }
+    {
+        self.commit_next(passes.first_mut()?)?;
+        self.work_due(passes)?;
+        let start = Instant::now(self.rt).ok()?;
+        for moment in 0..ROUNDS {
+            self.host
+                .tick(self.rt, passes.first_mut()?, moment.saturating_add(1))
+                .ok()?;
+            self.work_due(passes)?;
+        }
+        nanoseconds(self.rt, &start)
     }
 
     /// So many reads by the other pass behind the first run, while the sync of a commit is held.

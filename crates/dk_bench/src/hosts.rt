@@ -4,6 +4,7 @@ ghost use Rattle.dk_disk.specs.Opening.{NotCalled};
 ghost use Rattle.dk_notice.specs.Notices.{nothing_told, said_on};
 ghost use Rattle.dk_bench.specs.Hosts.{opened_for};
 
+use crate::beside::ROUNDS;
 use crate::desk::Desk;
 use crate::filler::Filler;
 use crate::sheets::Sheets;
@@ -27,8 +28,8 @@ const LOGIN_OBJECTS: u32 = 1_000;
 /// names and tasks.
 const COMMIT_LOGINS: u32 = 1_000;
 
-/// So many bytes of a journal are enough for a sheet, which is written as it is made and once anew.
-const ROOM_BYTES: u64 = 40_000;
+/// So many bytes of a journal are enough for a sheet as it is made, and for each time that it is rewritten.
+const ROOM_BYTES: u64 = 20_000;
 
 /// A held sync looks so often whether it is let go.
 const HELD_TURNS: u64 = 1 << 34;
@@ -48,7 +49,7 @@ pub enum HostWork {
     HeldReads,
     /// The longest of the reads while a world of so many objects is written anew, in thousandths of a copy of that world.
     CheckpointRead,
-    /// So many tasks by one worker, each of which rewrites an object of 16 kB of its own.
+    /// So many tasks by one worker, each of which rewrites an object of 16 kB of its own at each of some moments.
     RewritesByOne,
     /// The same by four workers beside one another.
     RewritesByFour,
@@ -133,8 +134,11 @@ fn in_memory<G: Game + Sync, R: AllocGlobal + Clock + Threads + Wait + Sync>(
 fn room_for(order: &Order<'_>) -> (u64, u64) {
     match order.work {
         HostWork::RewritesByOne | HostWork::RewritesByFour => {
-            let sheets = order.number as u64;
-            (sheets.saturating_mul(8), sheets.saturating_mul(ROOM_BYTES))
+            let records = rewrites(order).saturating_add(order.number as u64);
+            (
+                records.saturating_mul(8),
+                records.saturating_mul(ROOM_BYTES),
+            )
         }
         _ => (0, 0),
     }
@@ -246,10 +250,8 @@ fn done<
 {
     let number = order.number;
     match order.work {
-        HostWork::Tasks
-        | HostWork::FolderTasks
-        | HostWork::RewritesByOne
-        | HostWork::RewritesByFour => desk.tasks(passes),
+        HostWork::Tasks | HostWork::FolderTasks => desk.tasks(passes),
+        HostWork::RewritesByOne | HostWork::RewritesByFour => desk.rounds(passes),
         HostWork::Reads => desk.reads_alone(passes.first_mut()?, number),
         HostWork::Commits => desk.commits(passes.first_mut()?, commit_logins(number)),
         HostWork::HeldReads => {
@@ -284,10 +286,13 @@ fn commit_logins(objects: u32) -> u32
 /// So many commits are made at least.
 fn least_commits(order: &Order<'_>) -> u64 {
     match order.work {
-        HostWork::Tasks
-        | HostWork::FolderTasks
-        | HostWork::RewritesByOne
-        | HostWork::RewritesByFour => (order.number as u64).saturating_add(1),
+        HostWork::Tasks | HostWork::FolderTasks => (order.number as u64).saturating_add(1),
+        HostWork::RewritesByOne | HostWork::RewritesByFour => rewrites(order).saturating_add(1),
         _ => 1,
     }
+}
+
+/// How often sheets are rewritten: each once before the rounds that are timed.
+fn rewrites(order: &Order<'_>) -> u64 {
+    (order.number as u64).saturating_mul(ROUNDS.saturating_add(1))
 }

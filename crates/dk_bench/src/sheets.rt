@@ -17,7 +17,7 @@ use std::alloc::Global;
 /// The kind of the tasks.
 const REWRITE: u16 = 1;
 
-/// The game. Its first run makes so many sheets, each with a task of its own that is due at once.
+/// The game. Its first run makes so many sheets, each with a task of its own that is due at once and then each millisecond.
 #[derive(Clone, Copy, Debug)]
 pub struct Sheets {
     pub sheets: u32,
@@ -30,7 +30,7 @@ fn plan<V: View>(alloc: Global, txn: &mut Txn<'_, V>) -> Result<(), Halt>
     let sheet = Sheet::blank(alloc)?;
     let place = ManagedRef::create(alloc, txn, &sheet)?;
     let arg = encode::<ObjectId, IdForm>(alloc, &place.id())?;
-    txn.schedule(REWRITE, arg, 0)?;
+    txn.schedule_periodic(REWRITE, arg, 0, 1)?;
     Ok(())
 }
 
