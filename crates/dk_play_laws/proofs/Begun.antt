@@ -14,12 +14,11 @@ use Rattle.dk_model.specs.declared.script.Line.TheVariants as line
 use Rattle.dk_model.specs.Legal.{pass_of}
 use Rattle.dk_turn.specs.Fronts.{Known}
 use Rattle.dk_play_laws.specs.AloneLaw.{AreNamed}
-use Rattle.dk_play_laws.specs.BegunLaw.{entered_by, HasEntered, HaveOnlyWorked, HasWorkers, HaveEntered, HaveBegun, HasBegunPhase, NothingIsEntered, PhasesAreEntered, BegunPhasesAreFirst, AllPhasesAreFirst, BegunStandsOn, BegunIsSeen}
+use Rattle.dk_play_laws.specs.BegunLaw.{entered_by, HasEntered, HaveOnlyWorked, HasWorkers, NothingIsEntered, PhasesAreEntered, BegunPhasesAreFirst, AllPhasesAreFirst, BegunStandsOn, BegunIsSeen}
 use Rattle.dk_play_laws.specs.FirstParts.{is_scripted, scripted_of, ArePhaseEvents, AreScriptEvents, IsFirstPart}
 use Rattle.dk_play_laws.specs.LineEvents.{Said, nothing_said, IsLineEvent, AreLineEvents, AreHandEvents}
 use Rattle.dk_play_laws.specs.Phased.{GoesOn, HasMet, HaveMet, HasWorkedOn, IsDrain, IsPhase}
-use Rattle.dk_play_laws.specs.PhasedLaw.{IsSeenBy}
-use Rattle.dk_play_laws.specs.Seen.{AreNumbered, AreBehind, HaveSeen, ArePaired}
+use Rattle.dk_play_laws.specs.Seen.{AreBehind, HaveSeen, ArePaired}
 use Rattle.dk_play_laws.specs.Worked.{Handles, AreWorked}
 use Rattle.dk_play_laws.proofs.Drained.{paired_numbered, paired_count}
 use Rattle.dk_play_laws.proofs.Own.{of_pass, of_first, of_rest, of_all, only_of, none_below, nothing_left}

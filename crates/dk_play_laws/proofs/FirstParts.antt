@@ -1,14 +1,13 @@
 -- First parts of what is entered for lines and for hands.
 use Rattle.std.proofs.Common.{◌≡◌, ◌⊎◌, inl, inr, ℕ, List, [], ◌∷◌, ◌++◌, refl, sym, ap, subst, ◌∙◌, append_assoc}
-use Rattle.std.proofs.lemmas.List.{append-nil}
 use Rattle.dk_types.specs.declared.number.ConnNo.{ConnNo}
 use Rattle.dk_types.specs.declared.event.Event.{Event}
 use Rattle.dk_types.specs.declared.event.Event.TheVariants as event
 use Rattle.dk_types.specs.declared.event.ConnectReply.TheVariants as connected
 use Rattle.dk_model.specs.declared.script.Line.{Line}
 use Rattle.dk_model.specs.declared.script.Line.TheVariants as line
-use Rattle.dk_play_laws.specs.FirstParts.{scripted_of, IsRefusedLogin, AreFirstLines, AreFirstHands, AreLinesAndHands}
-use Rattle.dk_play_laws.specs.LineEvents.{Said, IsLineEvent, AreLineEvents, AreHandEvents}
+use Rattle.dk_play_laws.specs.FirstParts.{scripted_of, IsRefusedLogin, AreFirstLines, AreFirstHands}
+use Rattle.dk_play_laws.specs.LineEvents.{Said, IsLineEvent, AreLineEvents}
 use Rattle.dk_play_laws.proofs.Begun.{scripted_append, lines_scripted, hands_scripted}
 
 -- nothing was entered of the lines

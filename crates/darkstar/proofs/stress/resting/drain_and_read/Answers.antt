@@ -13,5 +13,5 @@ returns-in-Ok-clause-tallied g c =
     let mid = c.drain.new.main in
     let new = c.read_counters.new.pass in
     IfOk-weaker c.read_counters.result (λ counts. ReadsCounters o n 16 mid new counts.items) (λ counts. IsTallied o after new counts.items)
-    (λ counts read. tallied_by o n ws after old mid c.requires.count c.requires.numbered c.requires.number c.requires.behind c.requires.fresh c.in-Ok.ensures new counts.items read)
+    (λ counts read. tallied_by o n ws after old mid c.requires.count c.requires.numbered c.requires.number c.requires.behind c.requires.fresh c.in-Ok.ensures.drains new counts.items read)
     c.read_counters.ensures
