@@ -47,7 +47,9 @@ use Rattle.dk_core.specs.contracts.prepared.Prepared as prepared
 use Rattle.dk_host.proofs.right.CommitRight.TheSendSync as right
 use Rattle.dk_host.specs.contracts.store.CommitStore as store
 use Rattle.dk_host.specs.contracts.store.CommitStore.TheInside as store_inside
-use Rattle.dk_host.specs.contracts.commit.FreeStore as free
+use Rattle.dk_notice.proofs.board.NoticeBoard.TheSendSync as board
+use Rattle.dk_host.specs.contracts.free.FreeStore as free
+use Rattle.dk_host.specs.contracts.free.FreeStore.TheInside as free_inside
 use Rattle.dk_host.specs.contracts.host.Host as host
 use Rattle.dk_workers.specs.contracts.team.Team as team
 use Rattle.dk_host.specs.contracts.book.WorldBook.TheInside as inside
@@ -102,14 +104,14 @@ module _ (W J M : RattleType) (w : hosting.Ghosts W.Denot) (j : naming.Ghosts J.
   store_send = view_send (store_inside.the_row W J M w j m) _ _ _ _ (declared_send (store_inside.the_type W J M w j m)
       (search (sendable, crosses, as_row_send, c, watcher_send W J w j a b, game_id.the_send, side.the_send, journal.the_send, right.the_send, prepared_send) depth 20))
 
-  pub free_send : IsSend (free.the_row W J M j m w)
-  free_send = declared_send (free.the_type W J M j m w) (search (sendable, store_send))
+  pub free_send : IsSend (free.the_row W J M w j m)
+  free_send = view_send (free_inside.the_row W J M w j m) _ _ _ _ (declared_send (free_inside.the_type W J M w j m) (search (sendable, crosses, store_send, board.the_send) depth 20))
 
-  pub host_sync : IsSync (host.the_row W J M j m w)
-  host_sync = declared_sync (host.the_type W J M j m w) (search (sendable, crosses, as_row_sync, turn_sync W J w j a b, free_send) depth 20)
+  pub host_sync : IsSync (host.the_row W J M w j m)
+  host_sync = declared_sync (host.the_type W J M w j m) (search (sendable, crosses, as_row_sync, turn_sync W J w j a b, free_send) depth 20)
 
 -- what the workers share
 pub team_sync : (ℓ : NamedLft) (G W J M T R : RattleType) (j : naming.Ghosts J.Denot) (m : home.Ghosts M.Denot) (w : hosting.Ghosts W.Denot)
-    → IsSync G → IsSend W → IsSend J → IsSend M → IsSync T → IsSync R → IsSync (team.the_row ℓ G W J M T R j m w)
+    → IsSync G → IsSend W → IsSend J → IsSend M → IsSync T → IsSync R → IsSync (team.the_row ℓ G W J M T R w j m)
 team_sync ℓ G W J M T R j m w g a b c t r =
-    declared_sync (team.the_type ℓ G W J M T R j m w) (search (sendable, crosses, host_sync W J M w j m a b c, global.the_sync, g, t, r) depth 20)
+    declared_sync (team.the_type ℓ G W J M T R w j m) (search (sendable, crosses, host_sync W J M w j m a b c, global.the_sync, g, t, r) depth 20)
