@@ -13,9 +13,9 @@ use Rattle.dk_host_tests.specs.contracts.stage.Stage as stage
 
 -- a host that is asked
 pub stage_sync : (ℓ : NamedLft) (G W J M R : RattleType) (j : naming.Ghosts J.Denot) (m : home.Ghosts M.Denot) (w : hosting.Ghosts W.Denot)
-    → IsSync G → IsSend W → IsSend J → IsSend M → IsSync R → IsSync (stage.the_row ℓ G W J M R j m w)
+    → IsSync G → IsSend W → IsSend J → IsSend M → IsSync R → IsSync (stage.the_row ℓ G W J M R w j m)
 stage_sync ℓ G W J M R j m w g a b c r =
-    declared_sync (stage.the_type ℓ G W J M R j m w) (
+    declared_sync (stage.the_type ℓ G W J M R w j m) (
       search (sendable, crosses, r) depth 20,
       (
         search (sendable, crosses, global.the_sync) depth 20,
