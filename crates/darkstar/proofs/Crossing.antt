@@ -50,9 +50,9 @@ module _ (D K : RattleType) (d : doorway.Ghosts D.Denot) (b : ledger.Ghosts D.De
 module _ (W J M K L D C G T R I O : RattleType) (j : naming.Ghosts J.Denot) (d : doorway.Ghosts D.Denot) (w : hosting.Ghosts W.Denot) (m : home.Ghosts M.Denot) (k : link.Ghosts K.Denot) (l : listener.Ghosts L.Denot I.Denot O.Denot K.Denot) (i : source.Ghosts I.Denot) (o : sink.Ghosts O.Denot) (b : ledger.Ghosts D.Denot) (g : game.Ghosts G.Denot) (r : rules.Ghosts G.Denot)
     (sw : IsSend W) (sj : IsSend J) (sm : IsSend M) (sl : IsSend L) (sd : IsSend D) (sc : IsSync C) (sg : IsSync G) (st : IsSync T) (sr : IsSync R) where
   -- what the members are lent
-  pub server_sync : (ℓ ℓ' : NamedLft) → IsSync (server.the_row ℓ ℓ' W J M L D C G T R I O K w j m l i o k d b g r)
-  server_sync ℓ ℓ' = view_sync (server_inside.the_row ℓ ℓ' W J M L D C G T R I O K w j m l i o k d b g r) _ _ _ _
-      (declared_sync (server_inside.the_type ℓ ℓ' W J M L D C G T R I O K w j m l i o k d b g r)
+  pub server_sync : (ℓ ℓ' : NamedLft) → IsSync (server.the_row ℓ ℓ' W J M L D C G T R I O K l i o k d w j m b g r)
+  server_sync ℓ ℓ' = view_sync (server_inside.the_row ℓ ℓ' W J M L D C G T R I O K l i o k d w j m b g r) _ _ _ _
+      (declared_sync (server_inside.the_type ℓ ℓ' W J M L D C G T R I O K l i o k d w j m b g r)
       (search (sendable, crosses, host_sync W J M w j m sw sj sm, door_sync L D I O K l i o k d b ℓ' sl, global.the_sync, sc, sg, st, sr) depth 20))
 
   -- a member
