@@ -43,7 +43,7 @@ fn file_of(alloc: Global, header: &Header, image: &Blob) -> Result<Blob, NoMemor
     ensures { IfOk result (λ bytes. (bytes ≡ behind_gate (store_header header.now) image.now) × (length bytes ≡ 69 + length image.now) × IsGameId header.now.game) }
 {
     let image = image.as_slice();
-    let mut bytes = header_fields_of(alloc, header)?.into_vec();
+    let mut bytes = header_fields_of(alloc, header)?.into_vec()?;
     bytes.push(1)?;
     let mut length = [0; 4];
     BigEndian::write_u32(&mut length, image.len() as u32);

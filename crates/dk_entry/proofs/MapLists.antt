@@ -1,5 +1,5 @@
 -- The entries of a finite map are a list that ascends, each behind the one before it.
-use Rattle.std.proofs.Common.{◌≡◌, T, ℕ, ◌<◌, ◌^◌, Bool, true, false, cond, ◌&&◌, map, length, Option, Some, None, List, [], ◌∷◌, refl, sym, ap, subst, ◌∙◌}
+use Rattle.std.proofs.Common.{◌≡◌, T, ◌<◌, ◌^◌, Bool, true, false, cond, ◌&&◌, map, length, Option, Some, None, List, [], ◌∷◌, refl, sym, ap, ◌∙◌}
 use Rattle.std.specs.declared.cmp.Ordering.{Ordering}
 use Rattle.std.specs.declared.cmp.Ordering.TheVariants.{Less, Equal, Greater}
 use Rattle.std.specs.Ordering.{is_lt, is_eq}

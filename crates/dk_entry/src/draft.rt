@@ -30,13 +30,13 @@ impl Model for CommitDraft {
 }
 
 /// The payload of the one entry that has these fields, with 0 for its number.
-fn encode_unnumbered(alloc: Global, run: RunNo, effects: &Effects) -> Result<Blob, NoMemory>
-    ensures { IfOk result (λ payload. payload ≡ u32_spelling 1 ++ entry_spelling (record { seq = 0; run = run; effects = effects.now })) }
+fn encode_unnumbered(alloc: Global, run: RunNo, effects: &Effects) -> Result<Vec<u8>, NoMemory>
+    ensures { IfOk result (λ payload. payload.items ≡ u32_spelling 1 ++ entry_spelling (record { seq = 0; run = run; effects = effects.now })) }
 {
     let mut writer = Writer::with_capacity(alloc, room_for(effects))?;
     writer.put_u32(1)?;
     put_commit::<SecondFormat>(&mut writer, 0, run, effects)?;
-    Ok(writer.finish())
+    Ok(writer.into_vec())
 }
 
 impl CommitDraft {
@@ -46,9 +46,7 @@ impl CommitDraft {
         ensures { IfOk result (IsDraft run effects.now) }
     {
         let payload = encode_unnumbered(alloc, run, effects)?;
-        Ok(CommitDraft {
-            payload: payload.into_vec(),
-        })
+        Ok(CommitDraft { payload })
     }
 
     /// The payload with the commit's number. Takes no memory.

@@ -78,7 +78,7 @@ fn begun(alloc: Global, opcode: u8, fields: u64) -> Result<Writer, NoMemory>
 fn ended(writer: Writer, body: &[u8]) -> Result<Blob, NoMemory>
     ensures { IfOk result (λ frame. frame ≡ writer ++ body.now) }
 {
-    let mut bytes = writer.finish().into_vec();
+    let mut bytes = writer.into_vec();
     bytes.extend_from_slice(body)?;
     Ok(Blob::from_vec(bytes))
 }

@@ -24,7 +24,7 @@ use std::alloc::Global;
 fn empty_journal(alloc: Global, header: &Header) -> Result<Blob, NoMemory>
     ensures { IfOk result (λ bytes. (bytes ≡ header_fields (store_header header.now) ++ 0 ∷ []) × (length (header_spelling (store_header header.now)) ≡ 64) × IsGameId header.now.game) }
 {
-    let mut bytes = header_fields_of(alloc, header)?.into_vec();
+    let mut bytes = header_fields_of(alloc, header)?.into_vec()?;
     bytes.push(0)?;
     Ok(Blob::from_vec(bytes))
 }

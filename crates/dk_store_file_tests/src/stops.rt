@@ -50,7 +50,7 @@ fn world_in(alloc: Global, game: &GameId, zero: &[u8], one: &[u8]) -> Option<(u6
     let mut home = OpenHome::of(alloc, zero, one, 0)?;
     let found = recover(alloc, &mut home, game).ok()?;
     let image = encode_image(alloc, &found.durable).ok()?;
-    Some((found.durable.commits, image.into_vec()))
+    Some((found.durable.commits, image.into_vec().ok()?))
 }
 
 /// The least number of commits that an image at this moment has, if each has the world of the known commits or of one more.

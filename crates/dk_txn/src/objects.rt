@@ -117,6 +117,17 @@ impl<'a, V: View> Txn<'a, V> {
         Ok(known)
     }
 
+    /// Bytes as an object or a task keeps them: who reads it shares them and does not copy them. Where there are none, nothing
+    /// is shared.
+    pub(crate) fn kept(&self, bytes: Blob) -> Result<Blob, NoMemory>
+        ensures { IfOk result (λ kept. kept ≡ bytes) }
+    {
+        if bytes.as_slice().is_empty() {
+            return Ok(bytes);
+        }
+        bytes.shared(self.set.allocator())
+    }
+
     /// The object (`DataManager.getBinding` and `ManagedReference.get` read by it). Refuses 2.
     pub fn get(&mut self, id: ObjectId) -> Result<Object, Refusal>
         ensures does { Does V.sights refusal_fault self.old self.new (act.get id) result }
@@ -145,7 +156,13 @@ impl<'a, V: View> Txn<'a, V> {
         if self.set.objects_made() as u64 >= OBJECTS_MOST_COUNT {
             return Err(Refusal::TooMany);
         }
-        Ok(self.set.create_object(Object { kind, bytes })?)
+        let shared = self.kept(bytes)?;
+        Ok(
+            self.set.create_object(Object {
+                kind,
+                bytes: shared,
+            })?,
+        )
     }
 
     /// Gives an object these bytes, under its old kind. Refuses 4, 2, 6.
@@ -159,9 +176,13 @@ impl<'a, V: View> Txn<'a, V> {
             return Err(too_long(&bytes));
         }
         let (before, kind) = self.touchable(id)?;
+        let shared = self.kept(bytes)?;
         let change = Change {
             before,
-            after: Some(Object { kind, bytes }),
+            after: Some(Object {
+                kind,
+                bytes: shared,
+            }),
         };
         self.set.change_object(id, change)?;
         Ok(())

@@ -58,11 +58,12 @@ impl<'a, V: View> Txn<'a, V> {
             return Err(Refusal::TooMany);
         }
         let due = self.set.at() + delay;
+        let shared = self.kept(arg)?;
         let task = Scheduled {
             due,
             period,
             kind,
-            arg,
+            arg: shared,
         };
         Ok(self.set.schedule_task(task)?)
     }

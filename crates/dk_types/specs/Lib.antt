@@ -1,3 +1,4 @@
+pub mod Blobs
 pub mod Names
 pub mod NameFaults
 pub mod GameIds

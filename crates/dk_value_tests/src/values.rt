@@ -3,7 +3,7 @@
 use crate::fields;
 use crate::texts::{body, said};
 use dk_rows::Words as Call;
-use dk_types::{GameId, Listed, Name, Out, Words};
+use dk_types::{Blob, GameId, Listed, Name, Out, Words};
 use std::alloc::Global;
 
 /// What a call on values answers, as rows have it.
@@ -16,6 +16,7 @@ pub fn answer(alloc: Global, word: &str, call: &mut Call<'_>) -> Option<String> 
         "same-game" => is_same_game(alloc, call),
         "words" => words(alloc, call),
         "list" => listed(alloc, call),
+        "shared" => shared(alloc, call),
         _ => None,
     }
 }
@@ -82,4 +83,16 @@ fn listed(alloc: Global, call: &mut Call<'_>) -> Option<String> {
     fewer.pop();
     let is_still = Listed::from_vec(fewer) == outs;
     format!(in alloc; "{} {is_same} {is_still}", outs.as_slice().len()).ok()
+}
+
+/// Bytes that a clone shares: whether both are the same as they were alone, and whether each hands over the same, the first
+/// while it has a clone and the other as the last.
+fn shared(alloc: Global, call: &mut Call<'_>) -> Option<String> {
+    let alone = body(alloc, call.word()?)?;
+    let first = alone.clone().ok()?.shared(alloc).ok()?;
+    let last = first.clone().ok()?;
+    let is_same = first == alone && last == alone;
+    let copied = Blob::from_vec(first.into_vec().ok()?) == alone;
+    let handed = Blob::from_vec(last.into_vec().ok()?) == alone;
+    format!(in alloc; "{is_same} {copied} {handed}").ok()
 }

@@ -48,6 +48,14 @@ impl Writer {
         Blob::from_vec(out)
     }
 
+    /// The same as a `Vec`.
+    pub fn into_vec(self) -> Vec<u8>
+        ensures { result.items ≡ self }
+    {
+        let Writer { out } = self;
+        out
+    }
+
     /// Appends a byte.
     #[tactic(auto, unfolding(dk_types::specs::Fields::u8_spelling))]
     pub fn put_u8(&mut self, value: u8) -> Result<(), NoMemory>

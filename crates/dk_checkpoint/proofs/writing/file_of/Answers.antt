@@ -19,7 +19,7 @@ returns c =
     let all : c.from_vec.result ≡ behind_gate (store_header c.args.header.now) c.args.image.now =
     c.from_vec.ensures
     ∙ c.in_ok-push-2.ensures.items
-    ∙ ap (λ (l : List ℕ). l ++ 0 ∷ []) (c.in_ok-extend_from_slice-2.ensures.items ∙ ap (λ (l : List ℕ). l ++ c.as_slice-image.result.now) (c.in_ok-extend_from_slice.ensures.items ∙ ap (λ (l : List ℕ). l ++ c.write_u32.new.buf) (c.in_ok-push.ensures.items ∙ ap (λ (l : List ℕ). l ++ 1 ∷ []) (c.into_vec-bytes.ensures ∙ header.0))))
+    ∙ ap (λ (l : List ℕ). l ++ 0 ∷ []) (c.in_ok-extend_from_slice-2.ensures.items ∙ ap (λ (l : List ℕ). l ++ c.as_slice-image.result.now) (c.in_ok-extend_from_slice.ensures.items ∙ ap (λ (l : List ℕ). l ++ c.write_u32.new.buf) (c.in_ok-push.ensures.items ∙ ap (λ (l : List ℕ). l ++ 1 ∷ []) (c.in_ok-bytes.ensures ∙ header.0))))
     ∙ joined (header_fields (store_header c.args.header.now)) c.write_u32.new.buf c.as_slice-image.result.now
     ∙ ap (λ (l : List ℕ). header_fields (store_header c.args.header.now) ++ 1 ∷ ((l ++ c.as_slice-image.result.now) ++ 0 ∷ [])) field
     ∙ ap (λ (l : List ℕ). header_fields (store_header c.args.header.now) ++ 1 ∷ (blob_spelling l ++ 0 ∷ [])) image in

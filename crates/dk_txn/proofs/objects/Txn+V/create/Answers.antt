@@ -19,4 +19,4 @@ returns-then-objects_made-ge-OBJECTS_MOST_COUNT-clause-does g c =
 pub returns-clause-does : goal.returns-clause-does
 returns-clause-does g c =
     create_does _ _ _ (sym (ap (λ m. act.is_reserved_kind m c.args.kind) c.mode.ensures) ∙ sym c.is_reserved_kind.ensures ∙ c.if-is_reserved_kind.false)
-    (sym c.is_too_long.ensures ∙ c.if-is_too_long.false) (omega (arith, c.objects_made.ensures)) c.in_ok-create_object.ensures.ok.0 c.in_ok-create_object.ensures.ok.1
+    (sym c.is_too_long.ensures ∙ c.if-is_too_long.false) (omega (arith, c.objects_made.ensures)) c.in_ok-create_object.ensures.ok.0 (rw c.in_ok-shared.ensures at c.in_ok-create_object.ensures.ok.1)

@@ -17,7 +17,7 @@ returns-clause-does g c =
     touch_does (act.save c.args.id c.args.bytes) (λ o. Some (record { kind = o.kind; bytes = c.args.bytes })) (Some (record { kind = c.in_ok-before.kind; bytes = c.args.bytes }))
     c.touchable.ensures.keeps c.touchable.ensures.same_changes c.in_ok-before.ensures.ok
     (λ o same. ap (λ kind. Some (record { kind = kind; bytes = c.args.bytes })) (sym same))
-    c.in_ok-change_object.ensures.ok (save_means c.args.id c.args.bytes (sym c.is_too_long.ensures ∙ c.if-is_too_long.false))
+    (rw c.in_ok-shared.ensures at c.in_ok-change_object.ensures.ok) (save_means c.args.id c.args.bytes (sym c.is_too_long.ensures ∙ c.if-is_too_long.false))
 
 pub returns-in_err-before-clause-length : goal.returns-in_err-before-clause-length
 returns-in_err-before-clause-length g c = length_same c.args.bytes _ _ c.from_residual.ensures.1 (c.in_err-before.ensures.length c.args.bytes)

@@ -8,4 +8,4 @@ returns-then-tasks_made-ge-TASKS_MOST_COUNT-clause-does g c = add_many c.args.ki
 pub returns-clause-does : goal.returns-clause-does
 returns-clause-does g c =
     add_does c.args.kind c.args.arg c.args.delay c.args.period c.in_ok-schedule_task.field-0 (scheduled_at c.args.kind c.args.arg c.args.delay c.args.period c.at.result)
-    (omega (arith, c.tasks_made.ensures)) (ap (scheduled_at c.args.kind c.args.arg c.args.delay c.args.period) c.at.ensures.is) c.in_ok-schedule_task.ensures.ok.0 c.in_ok-schedule_task.ensures.ok.1
+    (omega (arith, c.tasks_made.ensures)) (ap (scheduled_at c.args.kind c.args.arg c.args.delay c.args.period) c.at.ensures.is) c.in_ok-schedule_task.ensures.ok.0 (rw c.in_ok-shared.ensures at c.in_ok-schedule_task.ensures.ok.1)
