@@ -1,5 +1,5 @@
 -- What the sheets mean: what each job does, said on the run in its midst.
-use Rattle.std.specs.Prelude.{ℕ, List, Option, Some, None, Ok}
+use Rattle.std.specs.Prelude.{ℕ, ◌+◌, List, Option, Some, None, Ok}
 use Rattle.std.proofs.Common.{zero, suc}
 use Rattle.dk_types.specs.declared.number.ObjectId.{ObjectId}
 use Rattle.dk_types.specs.declared.job.Job.{Job}
@@ -8,14 +8,32 @@ use Rattle.dk_types.specs.Fields.{id_spelling}
 use Rattle.dk_types.specs.Payload.{next_id}
 use Rattle.dk_model.specs.Records.{value_of}
 use Rattle.dk_model.specs.References.{get_for_update_as, save_as}
-use Rattle.dk_model.specs.Runs.{Act, give, and_then, create, schedule_periodic}
+use Rattle.dk_model.specs.Runs.{Act, give, and_then, create, schedule}
 use Rattle.dk_bench.specs.Sheet.{SHEET, sheet_bytes, sheet_of, blank, raised}
 
--- a blank sheet, and a task that is due at once and then each millisecond; its argument is the sheet's id
-unfoldable pub plan : Act (Unit {0})
-plan = and_then (create SHEET (sheet_bytes blank)) (λ id. and_then (schedule_periodic 1 (id_spelling id) 0 1) (λ _. give (Ok tt)))
+-- a task that rewrites the sheet of this id, so many milliseconds later; its argument is the id
+abbrev pub schedule_one : ObjectId → ℕ → Act (Unit {0})
+schedule_one id delay = and_then (schedule 1 (id_spelling id) delay) (λ _. give (Ok tt))
 
--- so many sheets, each with its task
+-- four such tasks, a millisecond apart
+unfoldable pub schedule_four : ObjectId → ℕ → Act (Unit {0})
+schedule_four id delay =
+    and_then (schedule_one id delay) (λ _.
+    and_then (schedule_one id (delay + 1)) (λ _.
+    and_then (schedule_one id (delay + 2)) (λ _.
+    and_then (schedule_one id (delay + 3)) (λ _.
+    give (Ok tt)))))
+
+-- a blank sheet, and the tasks that rewrite it: at once, and at each of eight milliseconds
+unfoldable pub plan : Act (Unit {0})
+plan =
+    and_then (create SHEET (sheet_bytes blank)) (λ id.
+    and_then (schedule_one id 0) (λ _.
+    and_then (schedule_four id 1) (λ _.
+    and_then (schedule_four id 5) (λ _.
+    give (Ok tt)))))
+
+-- so many sheets, each with its tasks
 abbrev pub begin : ℕ → Act (Unit {0})
 begin zero = give (Ok tt)
 begin (suc n) = and_then plan (λ _. begin n)

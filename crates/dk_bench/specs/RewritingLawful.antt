@@ -1,5 +1,5 @@
 -- The rules of the sheets are lawful: each part of them, in the shape that it has.
-use Rattle.std.proofs.Common.{ℕ, zero, suc, Option, Some, None, List, [], ◌∷◌, All, lit<}
+use Rattle.std.proofs.Common.{ℕ, ◌+◌, zero, suc, Option, Some, None, List, [], ◌∷◌, All, lit<}
 use Rattle.std.proofs.lemmas.List.Elements.{All-nil, All-cons}
 use Rattle.dk_types.specs.declared.number.ObjectId.{ObjectId}
 use Rattle.dk_types.specs.declared.job.Job.{Job}
@@ -10,11 +10,11 @@ use Rattle.dk_model.specs.Lawful.{IsForGame, AreLawful}
 use Rattle.dk_model.specs.Records.{value_of}
 use Rattle.dk_model.proofs.Acts.{Anything, AreBytes, IsLawful, lawful_rules, lawful_then, lawful_done}
 use Rattle.dk_model.proofs.Bytes.{bytes_of_u64, bytes_of_id, bytes_of_list}
-use Rattle.dk_model.proofs.Operations.{lawful_create, lawful_schedule_periodic}
+use Rattle.dk_model.proofs.Operations.{lawful_create, lawful_schedule}
 use Rattle.dk_model.proofs.ReferenceActs.{lawful_get_for_update_as, lawful_save_as}
 use Rattle.dk_bench.specs.declared.sheet.Sheet.{Sheet}
 use Rattle.dk_bench.specs.Sheet.{SHEET, sheet_bytes, sheet_of, blank, raised}
-use Rattle.dk_bench.specs.Rewriting.{plan, begin, rewrite_at, rewrite_found, sheets_rules}
+use Rattle.dk_bench.specs.Rewriting.{schedule_one, schedule_four, plan, begin, rewrite_at, rewrite_found, sheets_rules}
 
 each_in_bytes : (numbers : List ℕ) → All (λ n. AreBytes (u64_spelling n)) numbers
 each_in_bytes [] = All-nil (λ n. AreBytes (u64_spelling n))
@@ -24,12 +24,26 @@ each_in_bytes (n ∷ numbers) = All-cons (λ n. AreBytes (u64_spelling n)) n num
 bytes_of_sheet : (s : Sheet) → AreBytes (sheet_bytes s)
 bytes_of_sheet s = bytes_of_list u64_spelling s.numbers (each_in_bytes s.numbers)
 
+lawful_schedule_one : {Needs : Type 0} (id : ObjectId) (delay : ℕ) → IsLawful Needs Anything (schedule_one id delay)
+lawful_schedule_one id delay = lawful_then (lawful_schedule 1 (id_spelling id) delay (λ _. (lit< tt, bytes_of_id id))) (λ _. lawful_done tt)
+
+lawful_schedule_four : {Needs : Type 0} (id : ObjectId) (delay : ℕ) → IsLawful Needs Anything (schedule_four id delay)
+unfolding schedule_four
+lawful_schedule_four id delay =
+    lawful_then (lawful_schedule_one id delay) (λ _.
+    lawful_then (lawful_schedule_one id (delay + 1)) (λ _.
+    lawful_then (lawful_schedule_one id (delay + 2)) (λ _.
+    lawful_then (lawful_schedule_one id (delay + 3)) (λ _.
+    lawful_done tt))))
+
 lawful_plan : {Needs : Type 0} → IsLawful Needs Anything plan
 unfolding plan
 lawful_plan =
     lawful_then (lawful_create SHEET (sheet_bytes blank) (λ _. (lit< tt, bytes_of_sheet blank))) (λ id.
-    lawful_then (lawful_schedule_periodic 1 (id_spelling id) 0 1 (λ _. (lit< tt, bytes_of_id id))) (λ _.
-    lawful_done tt))
+    lawful_then (lawful_schedule_one id 0) (λ _.
+    lawful_then (lawful_schedule_four id 1) (λ _.
+    lawful_then (lawful_schedule_four id 5) (λ _.
+    lawful_done tt))))
 
 lawful_begin : {Needs : Type 0} (sheets : ℕ) → IsLawful Needs Anything (begin sheets)
 lawful_begin zero = lawful_done tt

@@ -14,7 +14,7 @@ use std::sync::atomic::{AtomicBool, AtomicU64, Ordering};
 use std::thread::{Threads, join_mut};
 use std::time::{Clock, Instant};
 
-/// So many moments are timed at which each periodic task is due.
+/// So often each sheet is rewritten while it is timed, by as many tasks, which are due one millisecond after another.
 pub(crate) const ROUNDS: u64 = 8;
 
 /// What each of two threads does with its pass, and the nanoseconds of it.
@@ -127,19 +127,15 @@ impl<
         }
     }
 
-    /// All jobs that are due at each of some moments, by a worker for each pass, behind those that are due at once.
+    /// All jobs that are due some milliseconds later, by a worker for each pass, behind those that are due at once.
     pub(crate) fn rounds(&self, passes: &mut [Pass<WorldBook<W>, J>]) -> Option<u64>
         requires rules { W.opened.rules ≡ G.rules self.now.game.now }
     {
         self.commit_next(passes.first_mut()?)?;
         self.work_due(passes)?;
         let start = Instant::now(self.rt).ok()?;
-        for moment in 0..ROUNDS {
-            self.host
-                .tick(self.rt, passes.first_mut()?, moment.saturating_add(1))
-                .ok()?;
-            self.work_due(passes)?;
-        }
+        self.host.tick(self.rt, passes.first_mut()?, ROUNDS).ok()?;
+        self.work_due(passes)?;
         nanoseconds(self.rt, &start)
     }
 

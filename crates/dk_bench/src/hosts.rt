@@ -49,7 +49,7 @@ pub enum HostWork {
     HeldReads,
     /// The longest of the reads while a world of so many objects is written anew, in thousandths of a copy of that world.
     CheckpointRead,
-    /// So many tasks by one worker, each of which rewrites an object of 16 kB of its own at each of some moments.
+    /// So many tasks by one worker, each of which rewrites an object of 16 kB of its own.
     RewritesByOne,
     /// The same by four workers beside one another.
     RewritesByFour,
@@ -292,7 +292,7 @@ fn least_commits(order: &Order<'_>) -> u64 {
     }
 }
 
-/// How often sheets are rewritten: each once before the rounds that are timed.
+/// How often sheets are rewritten: each once before it is timed.
 fn rewrites(order: &Order<'_>) -> u64 {
     (order.number as u64).saturating_mul(ROUNDS.saturating_add(1))
 }

@@ -1,5 +1,5 @@
 //! A game of sheets of numbers, each of which a task rewrites.
-ghost use Rattle.std.specs.Prelude.{◌≡◌};
+ghost use Rattle.std.specs.Prelude.{◌≡◌, ◌<◌};
 ghost use Rattle.dk_txn.specs.Does.{Does};
 ghost use Rattle.dk_game.specs.Halted.{halt_fault};
 ghost use Rattle.dk_bench.specs.Rewriting as rules;
@@ -17,20 +17,54 @@ use std::alloc::Global;
 /// The kind of the tasks.
 const REWRITE: u16 = 1;
 
-/// The game. Its first run makes so many sheets, each with a task of its own that is due at once and then each millisecond.
+/// The game. Its first run makes so many sheets, each with nine tasks that rewrite it: one is due at once, and one at each of
+/// the eight milliseconds behind it.
 #[derive(Clone, Copy, Debug)]
 pub struct Sheets {
     pub sheets: u32,
 }
 
-/// A blank sheet, and the task that rewrites it.
+/// A task that rewrites the sheet of this id, so many milliseconds later.
+fn schedule_one<V: View>(
+    alloc: Global,
+    txn: &mut Txn<'_, V>,
+    id: ObjectId,
+    delay: u64,
+) -> Result<(), Halt>
+    ensures { Does V.sights halt_fault txn.old txn.new (rules.schedule_one id delay) result }
+{
+    let arg = encode::<ObjectId, IdForm>(alloc, &id)?;
+    txn.schedule(REWRITE, arg, delay)?;
+    Ok(())
+}
+
+/// Four such tasks, a millisecond apart.
+fn schedule_four<V: View>(
+    alloc: Global,
+    txn: &mut Txn<'_, V>,
+    id: ObjectId,
+    delay: u64,
+) -> Result<(), Halt>
+    requires { delay < 8 }
+    ensures { Does V.sights halt_fault txn.old txn.new (rules.schedule_four id delay) result }
+{
+    schedule_one(alloc, txn, id, delay)?;
+    schedule_one(alloc, txn, id, delay + 1)?;
+    schedule_one(alloc, txn, id, delay + 2)?;
+    schedule_one(alloc, txn, id, delay + 3)?;
+    Ok(())
+}
+
+/// A blank sheet, and the tasks that rewrite it.
 fn plan<V: View>(alloc: Global, txn: &mut Txn<'_, V>) -> Result<(), Halt>
     ensures { Does V.sights halt_fault txn.old txn.new rules.plan result }
 {
     let sheet = Sheet::blank(alloc)?;
     let place = ManagedRef::create(alloc, txn, &sheet)?;
-    let arg = encode::<ObjectId, IdForm>(alloc, &place.id())?;
-    txn.schedule_periodic(REWRITE, arg, 0, 1)?;
+    let id = place.id();
+    schedule_one(alloc, txn, id, 0)?;
+    schedule_four(alloc, txn, id, 1)?;
+    schedule_four(alloc, txn, id, 5)?;
     Ok(())
 }
 

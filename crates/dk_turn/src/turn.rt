@@ -22,7 +22,7 @@ use std::sync::{Mutex, MutexGuard, Wait};
 use thiserror::Error;
 
 /// How often a thread looks whether the lock is free before it sleeps.
-const LOOKS_COUNT: u32 = 200;
+const LOOKS_COUNT: u32 = 500;
 
 /// There was no memory. The book comes back.
 #[derive(Debug, Drop, Error)]
