@@ -29,6 +29,7 @@ use Rattle.darkstar.specs.contracts.serve.server.Server as server
 use Rattle.darkstar.specs.contracts.serve.server.Server.TheInside as server_inside
 use Rattle.darkstar.specs.contracts.serve.crew.Member as member
 use Rattle.darkstar.proofs.serve.crew.Role.TheSendSync as role
+use Rattle.darkstar.proofs.serve.helping.Helping.TheSendSync as helping
 
 module _ (L D I O K : RattleType) (l : listener.Ghosts L.Denot I.Denot O.Denot K.Denot) (i : source.Ghosts I.Denot) (o : sink.Ghosts O.Denot) (k : link.Ghosts K.Denot) (d : doorway.Ghosts D.Denot) (b : ledger.Ghosts D.Denot) where
   pub arrivals_send : (ℓ : NamedLft) → IsSend L → IsSend (arrivals.the_row ℓ L D I O K l i o k d b)
@@ -53,7 +54,7 @@ module _ (W J M K L D C G T R I O : RattleType) (j : naming.Ghosts J.Denot) (d :
   pub server_sync : (ℓ ℓ' : NamedLft) → IsSync (server.the_row ℓ ℓ' W J M L D C G T R I O K l i o k d w j m b g r)
   server_sync ℓ ℓ' = view_sync (server_inside.the_row ℓ ℓ' W J M L D C G T R I O K l i o k d w j m b g r) _ _ _ _
       (declared_sync (server_inside.the_type ℓ ℓ' W J M L D C G T R I O K l i o k d w j m b g r)
-      (search (sendable, crosses, host_sync W J M w j m sw sj sm, door_sync L D I O K l i o k d b ℓ' sl, global.the_sync, sc, sg, st, sr) depth 20))
+      (search (sendable, crosses, host_sync W J M w j m sw sj sm, door_sync L D I O K l i o k d b ℓ' sl, global.the_sync, helping.the_sync, sc, sg, st, sr) depth 20))
 
   -- a member
   pub member_send : (ℓ ℓ' ℓ'' : NamedLft) → IsSend (member.the_row ℓ ℓ' ℓ'' W J M K L D C G T R I O j d w m k l i o b g r)

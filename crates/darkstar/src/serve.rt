@@ -3,7 +3,7 @@
 //! It runs what can be run at the clock's moment, and binds its port. Then a crew does the rest: a ticker tells the host the
 //! time, workers run jobs, and each place takes a link at the door and runs its session, one after another. What they know
 //! together is the one history of the host; how many links were given and how many sessions have ended, a ledger ties.
-ghost use Rattle.std.specs.Prelude.{◌≡◌, ◌⊎◌, ◌+◌, ◌≤◌, false};
+ghost use Rattle.std.specs.Prelude.{◌≡◌, ◌⊎◌, ◌+◌, ◌*◌, ◌≤◌, false};
 ghost use Rattle.dk_edge.specs.Listening.{IsUncalled};
 ghost use Rattle.dk_notice.specs.Notices.{nothing_told, said_on};
 ghost use Rattle.darkstar.specs.Served.{IsServedOn, IsUnserved, links_of, served_on};
@@ -11,6 +11,7 @@ ghost use Rattle.darkstar.specs.Served.{IsServedOn, IsUnserved, links_of, served
 mod closing;
 mod counting;
 mod crew;
+mod helping;
 mod running;
 mod server;
 mod verdict;
@@ -56,11 +57,11 @@ impl ServeTerms {
         }
     }
 
-    /// How many passes the host has: of the workers and the places, the ticker's and the caller's.
+    /// How many passes the host has: of the workers, two of each place, the ticker's and the caller's.
     fn passes(self) -> u32
-        ensures { result ≡ self.workers + self.clients + 2 }
+        ensures { result ≡ self.workers + 2 * self.clients + 2 }
     {
-        u32::from(self.workers) + u32::from(self.clients) + 2
+        u32::from(self.workers) + 2 * u32::from(self.clients) + 2
     }
 }
 

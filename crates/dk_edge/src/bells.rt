@@ -8,7 +8,7 @@
 use dk_types::ConnNo;
 use mio::Waker;
 use std::alloc::{AllocError, Global};
-use std::sync::atomic::{AtomicU64, Ordering};
+use std::sync::atomic::{AtomicBool, AtomicU64, Ordering};
 use std::sync::{Arc, Mutex, Wait};
 
 /// How many bells there are, and so for how many links at one time one can be hung.
@@ -24,12 +24,17 @@ const UNNAMED: u64 = u64::MAX - 1;
 #[derive(Drop)]
 struct Bell {
     conn: AtomicU64,
+    // Whether its thread sleeps, or looks once more before it does.
+    awaited: AtomicBool,
     waker: Mutex<Option<Waker>>,
 }
 
 impl Bell {
-    // Wakes who waits for the link.
+    // Wakes who waits for the link; who is awake needs no ring.
     fn ring<R: Wait>(&self, rt: &R) {
+        if !self.awaited.load(Ordering::SeqCst) {
+            return;
+        }
         if let Some(waker) = &*self.waker.lock(rt) {
             // One that the system refuses is made up for by the next poll.
             let _ = waker.wake();
@@ -48,8 +53,8 @@ impl Bell {
 #[derive(Drop)]
 pub struct Bells {
     bells: Vec<Bell>,
-    // How many of them links have.
-    hung: AtomicU64,
+    // How many of them are of links whose threads are awake.
+    awake: AtomicU64,
     // So many of the first of them links have or had.
     used: AtomicU64,
 }
@@ -61,12 +66,13 @@ impl Bells {
         for _bell in 0..BELLS_COUNT {
             bells.push(Bell {
                 conn: AtomicU64::new(FREE),
+                awaited: AtomicBool::new(false),
                 waker: Mutex::new(None),
             })?;
         }
         Ok(Bells {
             bells,
-            hung: AtomicU64::new(0),
+            awake: AtomicU64::new(0),
             used: AtomicU64::new(0),
         })
     }
@@ -115,16 +121,34 @@ impl HungBell {
     pub(crate) fn hang<R: Wait>(rt: &R, bells: Arc<Bells>, waker: Waker) -> Option<HungBell> {
         let at = bells.bells.iter().position(Bell::take)?;
         *bells.bells.get(at)?.waker.lock(rt) = Some(waker);
-        bells.hung.fetch_add(1, Ordering::SeqCst);
+        bells.awake.fetch_add(1, Ordering::SeqCst);
         bells
             .used
             .fetch_max((at as u64).saturating_add(1), Ordering::SeqCst);
         Some(HungBell { bells, at })
     }
 
-    // How many links have a bell, this one among them.
-    pub(crate) fn count(&self) -> u64 {
-        self.bells.hung.load(Ordering::SeqCst)
+    // How many links are polled by threads that are awake, this one among them where it is.
+    pub(crate) fn awake_count(&self) -> u64 {
+        self.bells.awake.load(Ordering::SeqCst)
+    }
+
+    // Its thread goes to sleep: it is rung from now on. Who awaits a ring looks once more before that, for what came before.
+    pub(crate) fn await_ring(&self) {
+        if let Some(bell) = self.bells.bells.get(self.at) {
+            if !bell.awaited.swap(true, Ordering::SeqCst) {
+                self.bells.awake.fetch_sub(1, Ordering::SeqCst);
+            }
+        }
+    }
+
+    // Its thread is awake, and needs no ring.
+    pub(crate) fn has_woken(&self) {
+        if let Some(bell) = self.bells.bells.get(self.at) {
+            if bell.awaited.swap(false, Ordering::SeqCst) {
+                self.bells.awake.fetch_add(1, Ordering::SeqCst);
+            }
+        }
     }
 
     // From now on it is of this connection.
@@ -138,8 +162,10 @@ impl HungBell {
 impl Drop for HungBell {
     fn drop(self) {
         let HungBell { bells, at } = self;
-        bells.hung.fetch_sub(1, Ordering::SeqCst);
         if let Some(bell) = bells.bells.get(at) {
+            if !bell.awaited.swap(false, Ordering::SeqCst) {
+                bells.awake.fetch_sub(1, Ordering::SeqCst);
+            }
             bell.conn.store(FREE, Ordering::SeqCst);
         }
     }

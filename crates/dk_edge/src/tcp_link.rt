@@ -14,10 +14,10 @@ use std::os::fd::AsRawFd;
 use std::sync::{Arc, Wait};
 use std::time::Duration;
 
-/// How many polls in a row of all links together may find nothing before they are waited for.
+/// How many polls in a row may find nothing before a link is waited for whose thread alone is awake.
 const QUICK_POLLS_COUNT: u64 = 64;
 
-/// How many of one link may at least. Behind a ring the first poll finds what was handed, and the next puts it.
+/// How many may where others are awake. Behind a ring the first poll finds what was handed, and the next puts it.
 const LEAST_QUICK_POLLS_COUNT: u64 = 2;
 
 /// How long a stream or a bell is waited for at most, in ms.
@@ -42,6 +42,10 @@ pub struct TcpLink<S: Read + Write + OpenStream + AsRawFd + Drop> {
     bell: HungBell,
     // How many polls in a row found nothing to take and put nothing.
     idle: u64,
+    // Whether the last take left nothing behind, and no wait has told of more since.
+    drained: bool,
+    // Whether the bell is rung, and the next poll that finds nothing sleeps.
+    awaits: bool,
     take_faults: FaultCount,
     put_faults: FaultCount,
 }
@@ -72,33 +76,69 @@ impl<S: Read + Write + OpenStream + AsRawFd + Drop> TcpLink<S> {
             events: Events::with_capacity(alloc, EVENTS_COUNT)?,
             bell,
             idle: 0,
+            drained: false,
+            awaits: false,
             take_faults: FaultCount::new(),
             put_faults: FaultCount::new(),
         })
     }
 
-    // Behind how many polls that found nothing the stream is waited for: fewer where there are more links, which want the
-    // processors.
+    // Behind how many polls that found nothing the stream is waited for: few, but where no other thread of a link is awake and
+    // wants the processor.
     fn quick_polls(&self) -> u64 {
-        QUICK_POLLS_COUNT
-            .checked_div(self.bell.count())
-            .unwrap_or(QUICK_POLLS_COUNT)
-            .max(LEAST_QUICK_POLLS_COUNT)
+        if self.bell.awake_count() > 1 {
+            LEAST_QUICK_POLLS_COUNT
+        } else {
+            QUICK_POLLS_COUNT
+        }
     }
 
-    // Behind some polls that found nothing, waits a little for the stream or the bell.
+    // Behind some polls that found nothing, waits a little for the stream or the bell. From the last of these polls on the
+    // bell is rung, so that what came before it is found by the next.
     fn rest(&mut self)
         ensures take { self.new.take_faults.count ≡ self.old.take_faults.count }
         ensures put { self.new.put_faults.count ≡ self.old.put_faults.count }
     {
         self.idle = self.idle.saturating_add(1);
-        if self.idle > self.quick_polls() {
-            let most = Some(Duration::from_millis(WAIT_MS));
-            // Who was woken has something to do, which is not waited for; and where the system refuses to wait, the next
-            // poll comes at once.
-            if self.ready.poll(&mut self.events, most).is_ok() && !self.events.is_empty() {
-                self.idle = 0;
-            }
+        if self.awaits {
+            self.sleep();
+        } else if self.idle >= self.quick_polls() {
+            self.awaits = true;
+            self.bell.await_ring();
+        }
+    }
+
+    // Waits a little for the stream or the bell.
+    fn sleep(&mut self)
+        ensures take { self.new.take_faults.count ≡ self.old.take_faults.count }
+        ensures put { self.new.put_faults.count ≡ self.old.put_faults.count }
+    {
+        let most = Some(Duration::from_millis(WAIT_MS));
+        // Where the system refuses to wait, the next poll comes at once.
+        if self.ready.poll(&mut self.events, most).is_err() {
+            self.drained = false;
+            return;
+        }
+        // Who was woken has something to do, which is not waited for.
+        if self.events.is_empty() {
+            self.drained = false;
+            return;
+        }
+        if self.events.iter().any(|event| event.token() == STREAM) {
+            self.drained = false;
+        }
+        self.stir();
+    }
+
+    // It was woken, took or put something, and is polled some times before it sleeps again.
+    fn stir(&mut self)
+        ensures take { self.new.take_faults.count ≡ self.old.take_faults.count }
+        ensures put { self.new.put_faults.count ≡ self.old.put_faults.count }
+    {
+        self.idle = 0;
+        if self.awaits {
+            self.awaits = false;
+            self.bell.has_woken();
         }
     }
 }
@@ -117,12 +157,21 @@ impl<S: Read + Write + OpenStream + AsRawFd + Drop> Link for TcpLink<S> {
         context: &mut Context<'_>,
         into: &mut [u8],
     ) -> Poll<Result<usize, Failed>> {
+        // Among many that are awake a stream that was drained is not asked again before it tells of more.
+        if self.drained && self.quick_polls() == LEAST_QUICK_POLLS_COUNT {
+            self.rest();
+            if self.drained {
+                return context.yield_now();
+            }
+        }
         match self.stream.read(into) {
             Ok(count) => {
-                self.idle = 0;
+                self.stir();
+                self.drained = count < into.len();
                 Poll::Ready(Ok(count))
             }
             Err(error) if is_passing(error.kind()) => {
+                self.drained = error.kind() == ErrorKind::WouldBlock;
                 self.rest();
                 context.yield_now()
             }
@@ -139,7 +188,7 @@ impl<S: Read + Write + OpenStream + AsRawFd + Drop> Link for TcpLink<S> {
         }
         match self.stream.write(bytes) {
             Ok(count) if count > 0 => {
-                self.idle = 0;
+                self.stir();
                 Poll::Ready(Ok(count))
             }
             Err(error) if is_passing(error.kind()) => context.yield_now(),

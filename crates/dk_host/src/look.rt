@@ -89,4 +89,9 @@ impl<W: Hosting, J: Naming, M: Home> Host<W, J, M> {
     pub fn wait<R: Wait>(&self, rt: &R, pass: &Pass<WorldBook<W>, J>) {
         self.world.wait(rt, pass)
     }
+
+    /// Whether a call that those wait for was made after the last call of this pass: whether `wait` would come back at once.
+    pub fn has_news(&self, pass: &Pass<WorldBook<W>, J>) -> bool {
+        self.world.has_news(pass)
+    }
 }

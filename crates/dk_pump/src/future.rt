@@ -17,6 +17,7 @@ use futures::Future;
 use futures::task::{Context, Poll};
 use std::alloc::Global;
 use std::marker::Model;
+use std::mem;
 use std::snapshot::Snapshot;
 use std::sync::Wait;
 
@@ -74,8 +75,19 @@ impl<'h, W: Hosting, J: Naming, M: Home, R: Wait, K: Link + Drop> SessionFuture<
                     link,
                     course: Course::new(alloc),
                     alloc,
+                    entered: false,
                 },
             }),
+        }
+    }
+
+    /// Whether a poll entered something of the client since this was last asked.
+    pub(crate) fn take_entered(&mut self) -> bool
+        ensures { self.new ≡ self.old }
+    {
+        match &mut self.underway {
+            Some(underway) => mem::replace(&mut underway.session.entered, false),
+            None => false,
         }
     }
 }
@@ -122,6 +134,7 @@ impl<W: Hosting, J: Naming, M: Home, R: Wait, K: Link + Drop> Future
                     link,
                     course: _,
                     alloc: _,
+                    entered: _,
                 } = session;
                 Poll::Ready(SessionDone {
                     end,

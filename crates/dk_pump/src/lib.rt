@@ -5,7 +5,8 @@
 //! pass of its own, so a reader and a writer of one session run side by side. `SessionFuture` is both over one link, as a
 //! future with one pass, and gives a `SessionDone`, which a `Tally` counts. A `Place` runs such futures one after another, on
 //! the links that it takes at the `Door`, where the listener is behind a lock; a ledger ties how many links were given to
-//! what the places have counted. `keep_time` ticks the host meanwhile. Nothing here runs a job.
+//! what the places have counted. `keep_time` ticks the host meanwhile. Nothing here runs a job: what the thread of a place does
+//! where its session posted something and can not go on, its `Help`, is its caller's.
 #![tactic(auto)]
 
 pub use arrivals::{Accepting, Arrivals, Doorway, NoLink};
@@ -14,6 +15,7 @@ pub use door::Door;
 pub use ends::{BadFrame, SessionEnd, WriteEnd};
 pub use future::SessionFuture;
 pub use greeting::{Greeted, greet};
+pub use helped::Help;
 pub use link_count::LinkCount;
 pub use place::{Place, PlaceDone, PlaceEnd};
 pub use reading::read_session;
@@ -29,6 +31,7 @@ mod door;
 pub mod ends;
 mod future;
 pub mod greeting;
+mod helped;
 pub mod limits;
 mod link_count;
 mod outgoing;

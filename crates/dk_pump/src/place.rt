@@ -7,6 +7,7 @@ use crate::done::SessionDone;
 use crate::door::Door;
 use crate::ends::SessionEnd;
 use crate::future::SessionFuture;
+use crate::helped::{Help, HelpedSession};
 use crate::link_count::LinkCount;
 use dk_disk::Home;
 use dk_edge::{Link, Listener};
@@ -68,36 +69,39 @@ impl<W: Hosting, J: Naming, D: Doorway, K: Link + Drop> Place<W, J, D, K> {
     }
 
     /// Sessions one after another, until the door gives no link, or a session finds no number, which ends the server. None
-    /// where there was no memory to run a session, whose pass and link are lost with the place.
-    pub fn serve<L: Listener<Whole = K>, M: Home, R: Wait + RandomSource + AllocGlobal>(
+    /// where there was no memory to run a session, whose pass and link are lost with the place. Where a session has nothing
+    /// to do, its thread helps.
+    pub fn serve<L: Listener<Whole = K>, M: Home, H: Help, R: Wait + RandomSource + AllocGlobal>(
         self,
         rt: &R,
         alloc: Global,
         host: &Host<W, J, M>,
         door: &Door<'_, L, D>,
+        help: &mut H,
     ) -> Option<PlaceDone<W, J, D, K>>
         ensures number { IfSome result (λ done. done.place.pass.number ≡ self.pass.number) }
         ensures end { IfSome result (λ done. IsSoundPlaceEnd done.end) }
     {
-        let done = self.go_on(rt, alloc, host, door);
+        let done = self.go_on(rt, alloc, host, door, help);
         door.leave();
         done
     }
 
     // The same, without leaving the door.
-    fn go_on<L: Listener<Whole = K>, M: Home, R: Wait + RandomSource + AllocGlobal>(
+    fn go_on<L: Listener<Whole = K>, M: Home, H: Help, R: Wait + RandomSource + AllocGlobal>(
         self,
         rt: &R,
         alloc: Global,
         host: &Host<W, J, M>,
         door: &Door<'_, L, D>,
+        help: &mut H,
     ) -> Option<PlaceDone<W, J, D, K>>
         ensures number { IfSome result (λ done. done.place.pass.number ≡ self.pass.number) }
         ensures end { IfSome result (λ done. IsSoundPlaceEnd done.end) }
     {
         let mut place = self;
         for _ in rt.forever() {
-            let turn = place.next(rt, alloc, host, door)?;
+            let turn = place.next(rt, alloc, host, door, help)?;
             let Turn { place: later, end } = turn;
             if let Some(end) = end {
                 return Some(PlaceDone { place: later, end });
@@ -108,12 +112,13 @@ impl<W: Hosting, J: Naming, D: Doorway, K: Link + Drop> Place<W, J, D, K> {
     }
 
     // One session, if there is a link for it.
-    fn next<L: Listener<Whole = K>, M: Home, R: Wait + RandomSource + AllocGlobal>(
+    fn next<L: Listener<Whole = K>, M: Home, H: Help, R: Wait + RandomSource + AllocGlobal>(
         self,
         rt: &R,
         alloc: Global,
         host: &Host<W, J, M>,
         door: &Door<'_, L, D>,
+        help: &mut H,
     ) -> Option<Turn<W, J, D, K>>
         ensures number { IfSome result (λ turn. turn.place.pass.number ≡ self.pass.number) }
         ensures end { IfSome result (λ turn. IfSome turn.end IsSoundPlaceEnd) }
@@ -137,7 +142,9 @@ impl<W: Hosting, J: Naming, D: Doorway, K: Link + Drop> Place<W, J, D, K> {
                 return Some(Turn { place, end });
             }
         };
-        let done = run(rt, alloc, host, pass, link)?;
+        let done = run(rt, alloc, host, pass, link, help)?;
+        // With its last event the session is no more polled.
+        help.help();
         let end = PlaceEnd::of(done.end());
         if end.is_some() {
             door.end();
@@ -166,17 +173,26 @@ impl PlaceEnd {
     }
 }
 
-// Runs a session to its end. None where there was no memory to run it.
-fn run<W: Hosting, J: Naming, M: Home, K: Link + Drop, R: Wait + RandomSource + AllocGlobal>(
+// Runs a session to its end, and helps between. None where there was no memory to run it.
+fn run<
+    W: Hosting,
+    J: Naming,
+    M: Home,
+    K: Link + Drop,
+    H: Help,
+    R: Wait + RandomSource + AllocGlobal,
+>(
     rt: &R,
     alloc: Global,
     host: &Host<W, J, M>,
     pass: Pass<WorldBook<W>, J>,
     link: K,
+    help: &mut H,
 ) -> Option<SessionDone<W, J, K>>
     ensures { IfSome result (λ done. done.pass.number ≡ pass.number) }
 {
-    match block_on(rt, SessionFuture::new(rt, alloc, host, pass, link)) {
+    let session = SessionFuture::new(rt, alloc, host, pass, link);
+    match block_on(rt, HelpedSession::new(session, help)) {
         Ok(done) => {
             done.has_ended();
             Some(done)

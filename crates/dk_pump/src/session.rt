@@ -36,6 +36,8 @@ pub(crate) struct Session<W: Hosting, J: Naming, K: Link + Drop> {
     pub(crate) link: Watched<K>,
     pub(crate) course: Course,
     pub(crate) alloc: Global,
+    // Whether it took in something of the client since its thread last helped. No contract speaks of it.
+    pub(crate) entered: bool,
 }
 
 impl<W: Hosting, J: Naming, K: Link + Drop> Session<W, J, K> {
@@ -89,10 +91,12 @@ impl<W: Hosting, J: Naming, K: Link + Drop> Session<W, J, K> {
         }
         match poll_frames(&mut self.link, &mut self.course.decoder, context) {
             Poll::Ready(Ok(frames)) => {
+                self.entered = true;
                 self.take_in(rt, host, frames);
                 Poll::Ready(())
             }
             Poll::Ready(Err(end)) => {
+                self.entered = true;
                 self.end_reading(rt, host, end);
                 Poll::Ready(())
             }
@@ -233,6 +237,7 @@ impl<W: Hosting, J: Naming, K: Link + Drop> Session<W, J, K> {
                 disconnect(rt, host, &mut self.pass, conn, false);
                 self.course.outgoing = Outgoing::new(self.alloc);
                 self.course.failed = true;
+                self.entered = true;
                 Poll::Ready(())
             }
             Poll::Ready(Err(PutRefused::NoMemory)) => {

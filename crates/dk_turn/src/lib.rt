@@ -22,6 +22,6 @@ pub use builder::TurnBuilder;
 pub use empty_step::EmptyStep;
 pub use ghost_list::{GhostList, Noting, NotingAll};
 pub use naming::Naming;
-pub use pass::Pass;
+pub use pass::{Pass, Waking};
 pub use turn::{Turn, TurnRefused};
 pub use watcher::Watcher;

@@ -7,6 +7,16 @@ use crate::naming::Naming;
 use crate::rule::Place;
 use std::marker::{Model, PhantomData};
 
+/// Which of those who wait (`Turn::wait`) the steps of a pass wake, where a step wakes at all (`Step::wakes`).
+#[derive(Clone, Copy, Debug, PartialEq, Eq)]
+pub enum Waking {
+    All,
+    /// One of them, whoever it is: enough where all who wait do the same, and a step brings work for one.
+    One,
+    /// Nobody: its thread goes on itself with what its steps bring. Whoever begins to wait sees them all the same.
+    Nobody,
+}
+
 /// A pass of the turn that `J` names, for one thread at a time. Contracts see its number and its front, the part of the history that it has seen.
 /// One that is dropped needs no return.
 #[derive(Drop)]
@@ -15,6 +25,8 @@ pub struct Pass<O: Book, J: Naming> {
     pub(crate) seat: Place<O>,
     // The word, as the last call found or left it. `Turn::wait` sleeps while it stays so.
     pub(crate) woken: u64,
+    // Whom its steps wake.
+    pub(crate) waking: Waking,
     pub(crate) of: PhantomData<J>,
 }
 
@@ -40,6 +52,13 @@ impl<O: Book, J: Naming> Pass<O, J> {
         ensures { result ≡ self.now.number }
     {
         self.number
+    }
+
+    /// From now on its steps wake these of those who wait. A new pass wakes all. No contract speaks of it.
+    pub fn set_waking(&mut self, waking: Waking)
+        ensures { self.new ≡ self.old }
+    {
+        self.waking = waking;
     }
 
     /// Every entry that it has seen is of a pass of this turn. It does nothing.

@@ -8,7 +8,7 @@ use crate::book::{Book, Step};
 use crate::builder::TurnBuilder;
 use crate::guarded::Guarded;
 use crate::naming::Naming;
-use crate::pass::Pass;
+use crate::pass::{Pass, Waking};
 use crate::rule::{Deals, Ordered, Place, Seats, View, Words};
 use crate::watcher::Watcher;
 use atomic_table::Table;
@@ -136,7 +136,7 @@ impl<O: Book, J: Naming> Turn<O, J> {
         let mut desk = self.enter_desk(rt);
         let reply = desk.enter(&self.table.shared, pass, step);
         drop(desk);
-        self.wake(E::wakes(&reply));
+        self.wake(E::wakes(&reply), pass.waking);
         reply
     }
 
@@ -176,7 +176,7 @@ impl<O: Book, J: Naming> Turn<O, J> {
         let mut desk = self.enter_desk(rt);
         let reply = desk.enter_both(&self.table.shared, pass, other, step);
         drop(desk);
-        self.wake(E::wakes(&reply));
+        self.wake(E::wakes(&reply), pass.waking);
         reply
     }
 
@@ -203,7 +203,7 @@ impl<O: Book, J: Naming> Turn<O, J> {
         let mut desk = self.enter_desk(rt);
         let reply = desk.enter_watched(&self.table.shared, pass, watcher, step);
         drop(desk);
-        self.wake(E::wakes(&reply));
+        self.wake(E::wakes(&reply), pass.waking);
         reply
     }
 
@@ -220,10 +220,21 @@ impl<O: Book, J: Naming> Turn<O, J> {
         self.waiting.fetch_sub(1, SeqCst);
     }
 
+    /// Whether a step whose reply `wakes` was applied after the last call of this pass: whether it would not wait. What it was is
+    /// for the next call to see.
+    pub fn has_news(&self, pass: &Pass<O, J>) -> bool {
+        self.table.shared.peek(0) != pass.woken
+    }
+
     // Those who wait count themselves before they look at the word, and it was raised before this.
-    fn wake(&self, wakes: bool) {
-        if wakes && self.waiting.load(SeqCst) != 0 {
-            self.table.shared.wake_all(0);
+    fn wake(&self, wakes: bool, waking: Waking) {
+        if !wakes || self.waiting.load(SeqCst) == 0 {
+            return;
+        }
+        match waking {
+            Waking::All => self.table.shared.wake_all(0),
+            Waking::One => self.table.shared.wake_one(0),
+            Waking::Nobody => {}
         }
     }
 
@@ -297,6 +308,7 @@ fn deal<O: Book, J: Naming>(
             number,
             seat: place,
             woken: 0,
+            waking: Waking::All,
             of: PhantomData,
         });
     }

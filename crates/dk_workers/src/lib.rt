@@ -27,7 +27,7 @@ pub use running::run_claimed;
 pub use serving::serve_jobs;
 pub use team::work_all;
 pub use worked::Worked;
-pub use worker::work;
+pub use worker::{work, work_next};
 pub use working::{Ran, Step, work_once};
 
 pub mod working;

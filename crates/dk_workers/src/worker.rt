@@ -40,8 +40,8 @@ pub fn work<G: Game, W: Hosting, J: Naming, M: Home, T: Gate, R: Wait>(
     unreachable!()
 }
 
-// Claims a job and runs it until it is committed. Where there is none, or it is not committed, that is the worker's end.
-fn work_next<G: Game, W: Hosting, J: Naming, M: Home, T: Gate, R: Wait>(
+/// Claims a job and runs it until it is committed. Where there is none, or it is not committed, that is the worker's end.
+pub fn work_next<G: Game, W: Hosting, J: Naming, M: Home, T: Gate, R: Wait>(
     rt: &R,
     alloc: Global,
     host: &Host<W, J, M>,

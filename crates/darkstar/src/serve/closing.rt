@@ -1,5 +1,5 @@
 //! A server on a host that is opened for it, and closed behind it.
-ghost use Rattle.std.specs.Prelude.{◌≡◌, ◌⊎◌, ◌+◌, None, false};
+ghost use Rattle.std.specs.Prelude.{◌≡◌, ◌⊎◌, ◌+◌, ◌*◌, None, false};
 ghost use Rattle.dk_edge.specs.Listening.{IsUncalled};
 ghost use Rattle.dk_notice.specs.Notices.{nothing_told, said_on};
 ghost use Rattle.dk_core.specs.Listings.{world_of};
@@ -70,7 +70,7 @@ pub(crate) fn serve_on_turn<
     terms: ServeTerms,
 ) -> Served<M, K>
     requires name { blank ≡ J.name }
-    requires passes { J.name.passes ≡ terms.workers + terms.clients + 2 }
+    requires passes { J.name.passes ≡ terms.workers + 2 * terms.clients + 2 }
     requires unbound { IsUncalled (L.listening net.old) }
     requires commits { (commits.name ≡ W.commits) × (commits.parts ≡ 1) }
     requires places { (places.name ≡ W.places) × (places.parts ≡ 1) }

@@ -9,7 +9,7 @@ use dk_edge::{Activity, Clock, Link, Listener};
 use dk_game::Game;
 use dk_host::{Hosting, WorldBook};
 use dk_pump::{Doorway, LinkCount, Place};
-use dk_turn::{Naming, Pass};
+use dk_turn::{Naming, Pass, Waking};
 use dk_workers::Gate;
 use std::alloc::{AllocError, AllocGlobal, Global};
 use std::random::RandomSource;
@@ -21,7 +21,8 @@ use std::sync::ledger::Share;
 pub(crate) enum Role<A, B> {
     Ticker(A),
     Worker(u32, A),
-    Place(B),
+    /// With the pass by which its thread runs jobs between.
+    Place(B, A),
 }
 
 /// A member of the crew, which is lent the server.
@@ -69,7 +70,7 @@ impl<
         match role {
             Role::Ticker(pass) => server.tick(pass),
             Role::Worker(number, pass) => server.work(number, pass),
-            Role::Place(place) => server.serve(place),
+            Role::Place(place, helper) => server.serve(place, helper),
         }
     }
 }
@@ -87,6 +88,7 @@ impl Activity for Waiting {
 }
 
 /// A ticker, then the workers and then the places, as far as there are passes. Each place has one part of the ledger.
+/// Only workers wait for the host, and a tick wakes them: whose step brings work goes on with it.
 pub(crate) fn roles<W: Hosting, J: Naming, D: Doorway, K: Link + Drop>(
     alloc: Global,
     mut passes: Vec<Pass<WorldBook<W>, J>>,
@@ -101,14 +103,17 @@ pub(crate) fn roles<W: Hosting, J: Naming, D: Doorway, K: Link + Drop>(
         roles.push(Role::Ticker(pass))?;
     }
     for number in 0..terms.workers {
-        if let Some(pass) = passes.pop() {
+        if let Some(mut pass) = passes.pop() {
+            pass.set_waking(Waking::Nobody);
             roles.push(Role::Worker(u32::from(number), pass))?;
         }
     }
     for _place in 0..terms.clients {
-        if let Some(pass) = passes.pop() {
+        if let (Some(mut pass), Some(mut helper)) = (passes.pop(), passes.pop()) {
+            pass.set_waking(Waking::Nobody);
+            helper.set_waking(Waking::Nobody);
             let count = LinkCount::new(share.split_off(1, 0));
-            roles.push(Role::Place(Place::new(pass, count)))?;
+            roles.push(Role::Place(Place::new(pass, count), helper))?;
         }
     }
     Ok(roles)

@@ -1,5 +1,5 @@
 //! A server on an open host: what can be run at once is run, the port is bound, and the crew does the rest.
-ghost use Rattle.std.specs.Prelude.{◌≡◌, ◌+◌, ◌≤◌, None, length};
+ghost use Rattle.std.specs.Prelude.{◌≡◌, ◌+◌, ◌*◌, ◌≤◌, None, length};
 ghost use Rattle.dk_edge.specs.Listening.{IsUncalled};
 ghost use Rattle.dk_edge.specs.declared.listener.Binding.TheVariants.{Bound};
 ghost use Rattle.darkstar.specs.Served.{IsAllServed, IsBoundAt, links_of};
@@ -7,6 +7,7 @@ ghost use Rattle.darkstar.specs.Served.{IsAllServed, IsBoundAt, links_of};
 use super::ServeTerms;
 use super::counting::{Counted, MemberDone, gather, settle};
 use super::crew::{Member, Waiting, roles};
+use super::helping::Helping;
 use super::server::Server;
 use super::verdict::Verdict;
 use dk_disk::Home;
@@ -136,6 +137,7 @@ fn serve_at_door<
         clock,
         game,
         gate,
+        helping: Helping::new(),
     };
     let dones = run_members(&server, passes, &mut share, terms, spawner);
     let Server {
@@ -146,6 +148,7 @@ fn serve_at_door<
         clock: _,
         game: _,
         gate: _,
+        helping: _,
     } = server;
     let mut arrivals = door.into_arrivals();
     let (verdict, count) = match dones {
@@ -217,7 +220,7 @@ pub(crate) fn run_server<
 ) -> ServerEnd<K>
     requires rules { W.opened.rules ≡ G.rules game.now }
     requires unbound { IsUncalled (L.listening net.old) }
-    requires passes { length passes.items ≡ terms.workers + terms.clients + 2 }
+    requires passes { length passes.items ≡ terms.workers + 2 * terms.clients + 2 }
     ensures bound { result.verdict.fault ≡ None → IsBoundAt terms.port (L.listening net.new) }
     ensures all { result.verdict.fault ≡ None → IsAllServed (L.listening net.old).given (links_of terms.sessions) result.served (L.listening net.new) }
 {

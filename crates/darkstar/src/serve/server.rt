@@ -1,19 +1,24 @@
 //! What the members of a server's crew share.
-ghost use Rattle.std.specs.Prelude.{◌≡◌};
+ghost use Rattle.std.specs.Prelude.{◌≡◌, IfErr};
+ghost use Rattle.darkstar.specs.Served.{HasWorkCause};
 
 use super::counting::MemberDone;
+use super::helping::Helping;
 use super::verdict::Verdict;
 use dk_disk::Home;
 use dk_edge::{Clock, Link, Listener};
 use dk_game::Game;
 use dk_host::{Host, Hosting, WorldBook};
-use dk_pump::{Door, Doorway, Place, keep_time};
-use dk_turn::{Naming, Pass};
-use dk_workers::{Gate, serve_jobs};
+use dk_pump::{Door, Doorway, Help, Place, keep_time};
+use dk_turn::{Naming, Pass, Waking};
+use dk_workers::{Gate, Worked, serve_jobs, work_next};
 use std::alloc::{AllocGlobal, Global};
 use std::marker::Model;
 use std::random::RandomSource;
 use std::sync::Wait;
+
+/// How many jobs the thread of a session runs at most before it looks at its link again.
+const HELPED_JOBS_COUNT: u32 = 16;
 
 /// A host and the door of its server, with the game, the clock and the gate.
 #[derive(Drop)]
@@ -37,6 +42,7 @@ pub(crate) struct Server<
     pub(crate) clock: &'a C,
     pub(crate) game: &'a G,
     pub(crate) gate: &'a T,
+    pub(crate) helping: Helping,
 }
 
 impl<
@@ -133,14 +139,28 @@ impl<
     T: Gate,
     R: Wait + RandomSource + AllocGlobal,
 > Server<'a, 'n, W, J, M, L, D, C, G, T, R> {
-    /// Serves sessions, as long as there are links for them.
-    pub(crate) fn serve(&self, place: Place<W, J, D, K>) -> MemberDone<D, K> {
-        match place.serve(self.rt, self.alloc, self.host, &self.door) {
+    /// Serves sessions, as long as there are links for them, and runs jobs between, by a pass of their own.
+    pub(crate) fn serve(
+        &self,
+        place: Place<W, J, D, K>,
+        pass: Pass<WorldBook<W>, J>,
+    ) -> MemberDone<D, K> {
+        let mut helper = Helper {
+            server: self,
+            pass,
+            verdict: Verdict::good(),
+        };
+        let served = place.serve(self.rt, self.alloc, self.host, &self.door, &mut helper);
+        let Helper {
+            server: _,
+            pass: _,
+            verdict,
+        } = helper;
+        match served {
             Some(done) => {
-                let verdict = Verdict::of_place(done.end);
                 let (_, count) = done.place.into_parts();
                 MemberDone {
-                    verdict,
+                    verdict: Verdict::of_place(done.end).or(verdict),
                     count: Some(count),
                 }
             }
@@ -148,6 +168,110 @@ impl<
                 verdict: Verdict::no_memory(),
                 count: None,
             },
+        }
+    }
+}
+
+/// The thread of a place as a worker, with a pass of its own.
+#[derive(Drop)]
+struct Helper<
+    's,
+    'a,
+    'n,
+    W: Hosting,
+    J: Naming,
+    M: Home,
+    L: Listener,
+    D: Doorway,
+    C: Clock,
+    G: Game,
+    T: Gate,
+    R: Wait,
+> {
+    server: &'s Server<'a, 'n, W, J, M, L, D, C, G, T, R>,
+    pass: Pass<WorldBook<W>, J>,
+    // What its jobs came to.
+    verdict: Verdict,
+}
+
+impl<
+    's,
+    'a,
+    'n,
+    W: Hosting,
+    J: Naming,
+    M: Home,
+    L: Listener,
+    D: Doorway,
+    C: Clock,
+    G: Game,
+    T: Gate,
+    R: Wait,
+> Helper<'s, 'a, 'n, W, J, M, L, D, C, G, T, R> {
+    // Runs so many jobs, unless another answer comes; with the last of them a worker is woken for the rest.
+    fn run_some(&mut self) -> Result<(), Worked>
+        ensures { IfErr result HasWorkCause }
+    {
+        let server = self.server;
+        self.pass.set_waking(Waking::Nobody);
+        for left in (0..HELPED_JOBS_COUNT).rev() {
+            if left == 0 {
+                self.pass.set_waking(Waking::One);
+            }
+            let worked = work_next(
+                server.rt,
+                server.alloc,
+                server.host,
+                &mut self.pass,
+                server.game,
+                server.gate,
+                0,
+            );
+            if let Err(end) = worked {
+                return Err(end);
+            }
+        }
+        Ok(())
+    }
+}
+
+impl<
+    's,
+    'a,
+    'n,
+    W: Hosting,
+    J: Naming,
+    M: Home,
+    L: Listener,
+    D: Doorway,
+    C: Clock,
+    G: Game,
+    T: Gate,
+    R: Wait,
+> Help for Helper<'s, 'a, 'n, W, J, M, L, D, C, G, T, R> {
+    /// Runs some jobs, as long as there are any. Where another thread is at it, that goes on with what this one would run.
+    /// Another answer ends the server.
+    fn help(&mut self) {
+        let server = self.server;
+        for _ in server.rt.forever() {
+            if !server.helping.enter() {
+                return;
+            }
+            let worked = self.run_some();
+            server.helping.leave();
+            match worked {
+                Ok(()) => return,
+                Err(Worked::Idle) => {}
+                Err(end) => {
+                    self.verdict = Verdict::of_worker(end);
+                    server.door.end();
+                    return;
+                }
+            }
+            // Whose step came before this one left could not enter.
+            if !server.host.has_news(&self.pass) {
+                return;
+            }
         }
     }
 }
