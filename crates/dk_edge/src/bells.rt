@@ -30,6 +30,11 @@ struct Bell {
 }
 
 impl Bell {
+    // Whether the link is of this connection.
+    fn is_of(&self, conn: ConnNo) -> bool {
+        self.conn.load(Ordering::SeqCst) == conn.0
+    }
+
     // Wakes who waits for the link; who is awake needs no ring.
     fn ring<R: Wait>(&self, rt: &R) {
         if !self.awaited.load(Ordering::SeqCst) {
@@ -53,6 +58,8 @@ impl Bell {
 #[derive(Drop)]
 pub struct Bells {
     bells: Vec<Bell>,
+    // For each remainder of a connection's number, the place of the bell that was named last for a connection of it.
+    places: Vec<AtomicU64>,
     // How many of them are of links whose threads are awake.
     awake: AtomicU64,
     // So many of the first of them links have or had.
@@ -63,15 +70,18 @@ impl Bells {
     /// Bells that no link has.
     pub fn new(alloc: Global) -> Result<Bells, AllocError> {
         let mut bells = Vec::new(alloc);
+        let mut places = Vec::new(alloc);
         for _bell in 0..BELLS_COUNT {
             bells.push(Bell {
                 conn: AtomicU64::new(FREE),
                 awaited: AtomicBool::new(false),
                 waker: Mutex::new(None),
             })?;
+            places.push(AtomicU64::new(0))?;
         }
         Ok(Bells {
             bells,
+            places,
             awake: AtomicU64::new(0),
             used: AtomicU64::new(0),
         })
@@ -86,16 +96,26 @@ impl Bells {
         }
     }
 
+    // Where the place of a connection's bell is kept, along with those of the other connections of its remainder.
+    fn place(&self, conn: ConnNo) -> Option<&AtomicU64> {
+        self.places.get(conn.0 as usize % BELLS_COUNT)
+    }
+
+    // The bell of a connection, if a link has it. Only where another connection of its remainder was named since, or none
+    // has it, are all bells looked at.
+    fn bell_of(&self, conn: ConnNo) -> Option<&Bell> {
+        let at = self.place(conn)?.load(Ordering::SeqCst) as usize;
+        match self.bells.get(at) {
+            Some(bell) if bell.is_of(conn) => Some(bell),
+            _ => self.used().iter().find(|bell| bell.is_of(conn)),
+        }
+    }
+
     /// Wakes who waits for the links of these connections.
     pub fn ring<R: Wait>(&self, rt: &R, conns: &[ConnNo]) {
-        let mut left = conns.len();
-        for bell in self.used() {
-            if left == 0 {
-                return;
-            }
-            if conns.contains(&ConnNo(bell.conn.load(Ordering::SeqCst))) {
+        for conn in conns {
+            if let Some(bell) = self.bell_of(*conn) {
                 bell.ring(rt);
-                left = left.saturating_sub(1);
             }
         }
     }
@@ -155,6 +175,9 @@ impl HungBell {
     pub(crate) fn name(&self, conn: ConnNo) {
         if let Some(bell) = self.bells.bells.get(self.at) {
             bell.conn.store(conn.0, Ordering::SeqCst);
+        }
+        if let Some(place) = self.bells.place(conn) {
+            place.store(self.at as u64, Ordering::SeqCst);
         }
     }
 }

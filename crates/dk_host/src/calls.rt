@@ -20,15 +20,14 @@ use crate::steps::{Claim, Connect, CountKept, Hand, Post, ReadItem, Release, Tic
 use dk_core::{ClaimRefused, Claimed, ConnectRefused, Handed, PostRefused};
 use dk_disk::Home;
 use dk_entry::CommitDraft;
-use dk_turn::{Naming, Pass, Turn};
+use dk_turn::{Naming, Pass, Turn, spin_then_lock};
 use dk_txn::Finished;
 use dk_types::{ConnNo, Input, Item, Name, NoMemory, Read};
-use std::hint::spin_loop;
 use std::sync::{MutexGuard, Wait};
 
 /// How often a commit looks whether the commit lock is free before its thread sleeps: about as long as four commits in memory
 /// take.
-const LOOKS_COUNT: u32 = 2_000;
+const LOOKS_COUNT: u32 = 400;
 
 // What the world answers to an item at the new front, and what is seen of it there.
 pub(crate) fn read_item<W: Hosting, J: Naming, R: Wait>(
@@ -162,13 +161,7 @@ impl<W: Hosting, J: Naming, M: Home> Host<W, J, M> {
     // The store, once no other commit is at it. In memory a commit takes less time than to sleep and to be woken, so it looks
     // for a while first.
     fn enter_store<R: Wait>(&self, rt: &R) -> MutexGuard<'_, FreeStore<W, J, M>> {
-        for _ in 0..LOOKS_COUNT {
-            if let Some(store) = self.store.try_lock() {
-                return store;
-            }
-            spin_loop();
-        }
-        self.store.lock(rt)
+        spin_then_lock(rt, &self.store, LOOKS_COUNT)
     }
 
     /// Commits a finished run where all its reads stand: first its record is on the disk, and then its event is entered.

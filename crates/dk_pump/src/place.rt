@@ -69,8 +69,8 @@ impl<W: Hosting, J: Naming, D: Doorway, K: Link + Drop> Place<W, J, D, K> {
     }
 
     /// Sessions one after another, until the door gives no link, or a session finds no number, which ends the server. None
-    /// where there was no memory to run a session, whose pass and link are lost with the place. Where a session has nothing
-    /// to do, its thread helps.
+    /// where there was no memory to run a session, whose pass and link are lost with the place. Where a session entered
+    /// something and can not go on, its thread helps.
     pub fn serve<L: Listener<Whole = K>, M: Home, H: Help, R: Wait + RandomSource + AllocGlobal>(
         self,
         rt: &R,

@@ -10,19 +10,19 @@ use crate::guarded::Guarded;
 use crate::naming::Naming;
 use crate::pass::{Pass, Waking};
 use crate::rule::{Deals, Ordered, Place, Seats, View, Words};
+use crate::spinning::spin_then_lock;
 use crate::watcher::Watcher;
 use atomic_table::Table;
 use std::alloc::Global;
 use std::fmt::Debug;
-use std::hint::spin_loop;
 use std::marker::{Model, PhantomData};
 use std::sync::atomic::AtomicU64;
 use std::sync::atomic::Ordering::SeqCst;
 use std::sync::{Mutex, MutexGuard, Wait};
 use thiserror::Error;
 
-/// How often a thread looks whether the lock is free before it sleeps.
-const LOOKS_COUNT: u32 = 500;
+/// How often a thread looks whether the lock is free before it sleeps: for some fifteen microseconds.
+const LOOKS_COUNT: u32 = 100;
 
 /// There was no memory. The book comes back.
 #[derive(Debug, Drop, Error)]
@@ -113,13 +113,7 @@ impl<O: Book, J: Naming> Turn<O, J> {
 
     // The desk, once no one else is at it. A step takes less time than to sleep and to be woken, so it looks for a while first.
     fn enter_desk<R: Wait>(&self, rt: &R) -> MutexGuard<'_, Guarded<O, J>> {
-        for _ in 0..LOOKS_COUNT {
-            if let Some(desk) = self.desk.try_lock() {
-                return desk;
-            }
-            spin_loop();
-        }
-        self.desk.lock(rt)
+        spin_then_lock(rt, &self.desk, LOOKS_COUNT)
     }
 
     /// Applies the step at one point of the history. The new front begins with the old one, and ends with what the step added.

@@ -14,10 +14,11 @@ use dk_turn::{Naming, Pass, Waking};
 use dk_workers::{Gate, Worked, serve_jobs, work_next};
 use std::alloc::{AllocGlobal, Global};
 use std::marker::Model;
+use std::mem;
 use std::random::RandomSource;
 use std::sync::Wait;
 
-/// How many jobs the thread of a session runs at most before it looks at its link again.
+/// How often the thread of a session asks for a job at most before it looks at its link again.
 const HELPED_JOBS_COUNT: u32 = 16;
 
 /// A host and the door of its server, with the game, the clock and the gate.
@@ -160,12 +161,12 @@ impl<
             Some(done) => {
                 let (_, count) = done.place.into_parts();
                 MemberDone {
-                    verdict: Verdict::of_place(done.end).or(verdict),
+                    verdict: verdict.or(Verdict::of_place(done.end)),
                     count: Some(count),
                 }
             }
             None => MemberDone {
-                verdict: Verdict::no_memory(),
+                verdict: verdict.or(Verdict::no_memory()),
                 count: None,
             },
         }
@@ -208,14 +209,15 @@ impl<
     T: Gate,
     R: Wait,
 > Helper<'s, 'a, 'n, W, J, M, L, D, C, G, T, R> {
-    // Runs so many jobs, unless another answer comes; with the last of them a worker is woken for the rest.
-    fn run_some(&mut self) -> Result<(), Worked>
+    // Runs jobs until another answer comes, or so many were asked for; with the last of them a worker is woken for the rest.
+    fn run_some(&mut self, left: &mut u32) -> Result<(), Worked>
         ensures { IfErr result HasWorkCause }
     {
         let server = self.server;
         self.pass.set_waking(Waking::Nobody);
-        for left in (0..HELPED_JOBS_COUNT).rev() {
-            if left == 0 {
+        for more in (0..*left).rev() {
+            *left = more;
+            if more == 0 {
                 self.pass.set_waking(Waking::One);
             }
             let worked = work_next(
@@ -250,20 +252,22 @@ impl<
     R: Wait,
 > Help for Helper<'s, 'a, 'n, W, J, M, L, D, C, G, T, R> {
     /// Runs some jobs, as long as there are any. Where another thread is at it, that goes on with what this one would run.
-    /// Another answer ends the server.
+    /// Another answer ends the server, and the first is kept.
     fn help(&mut self) {
         let server = self.server;
-        for _ in server.rt.forever() {
-            if !server.helping.enter() {
+        let mut left = HELPED_JOBS_COUNT;
+        for _ in 0..HELPED_JOBS_COUNT {
+            if left == 0 || !server.helping.enter() {
                 return;
             }
-            let worked = self.run_some();
+            let worked = self.run_some(&mut left);
             server.helping.leave();
             match worked {
                 Ok(()) => return,
                 Err(Worked::Idle) => {}
                 Err(end) => {
-                    self.verdict = Verdict::of_worker(end);
+                    let first = mem::replace(&mut self.verdict, Verdict::good());
+                    self.verdict = first.or(Verdict::of_worker(end));
                     server.door.end();
                     return;
                 }
