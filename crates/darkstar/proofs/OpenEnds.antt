@@ -1,5 +1,5 @@
 -- What is left where no store was opened for a play, and how the program ends then.
-use Rattle.std.proofs.Common.{◌≡◌, ◌⊎◌, ◌∙◌, ⊎_elim, inl, inr, ℕ, Bool, true, false, IsTrue, List, Result, Ok, Err, IsErrOf, refl, sym, ap, subst}
+use Rattle.std.proofs.Common.{◌≡◌, ◌⊎◌, ⊎_elim, inl, inr, ℕ, Bool, true, false, IsTrue, List, Err, IsErrOf, refl, sym, subst}
 use Rattle.dk_types.specs.declared.side.Side.TheVariants.{Zero, One}
 use Rattle.dk_disk.specs.DiskHistories.{DiskHistory}
 use Rattle.dk_model.specs.declared.script.Line.{Line}
@@ -9,8 +9,7 @@ use Rattle.dk_model.specs.Recovered.{HasDurable, Holding, Recovers}
 use Rattle.dk_model.specs.Validity.{IsValid}
 use Rattle.dk_image.proofs.Worlds.{empty_valid, world_valid}
 use Rattle.dk_recover.specs.Files.{OnlyReads, Settles}
-use Rattle.dk_recover.specs.Recovery.{IsOurs}
-use Rattle.dk_host.specs.OpenedStores.{IsLeftFaulty, IsOpenAnswer, IsUnwritten, IsWorldOrDevice, KeepsWorld, MayBeAnew}
+use Rattle.dk_host.specs.OpenedStores.{IsLeftFaulty, IsOpenAnswer, IsUnwritten, IsWorldOrDevice, KeepsWorld}
 use Rattle.dk_host.specs.declared.fault.OpenFault.{OpenFault}
 use Rattle.dk_host.specs.declared.fault.OpenFault.TheVariants as fault
 use Rattle.dk_host.specs.declared.standing.Stood.{Stood}

@@ -1,10 +1,9 @@
 -- A play on files that were only looked at before.
-use Rattle.std.proofs.Common.{◌≡◌, ◌≢◌, ◌⊎◌, ◌∙◌, ⊎_elim, inl, inr, ℕ, ◌≤◌, Bool, IsTrue, List, Option, [], ◌++◌, refl, sym, ap, subst, arith}
+use Rattle.std.proofs.Common.{◌≡◌, ◌⊎◌, ◌∙◌, ⊎_elim, inl, inr, ℕ, ◌≤◌, Bool, IsTrue, List, Option, ◌++◌, ap, subst, arith}
 use Rattle.std.proofs.lemmas.Bool.{cases_lt}
 use Rattle.dk_types.specs.Faults.{HasRisen}
 use Rattle.dk_types.specs.declared.event.Event.{Event}
 use Rattle.dk_types.specs.declared.side.Side.{Side}
-use Rattle.dk_types.specs.declared.side.Side.TheVariants.{Zero, One}
 use Rattle.dk_disk.specs.Disk.{Disk, settled}
 use Rattle.dk_disk.specs.DiskHistories.{DiskHistory, Elapses, Stays, now}
 use Rattle.dk_model.specs.DurableWorlds.{DurableWorld}
@@ -14,15 +13,13 @@ use Rattle.dk_model.specs.Recovered as files
 use Rattle.dk_model.specs.Stores.{standing}
 use Rattle.dk_model.specs.declared.script.Line.{Line}
 use Rattle.dk_journal.specs.Moments.{IsAsRead}
-use Rattle.dk_journal.specs.Stores.{AreSettled}
-use Rattle.dk_recover.specs.Files.{OnlyReads}
 use Rattle.dk_recover.specs.Recovery.{IsOurs, IsOfOther}
 use Rattle.dk_reports.proofs.Reading.{backward, onward, stays_then_reads}
 use Rattle.dk_host.specs.OpenedStores.{IsAtLastEpoch, IsImageTooLarge, MayBeAnew}
 use Rattle.dk_streams.specs.Sources.{IsReadScript}
 use Rattle.dk_status.specs.declared.status.Status.{Status}
 use Rattle.dk_status.specs.declared.status.Status.TheVariants as status
-use Rattle.darkstar.specs.Runs.{IsOpenable, IsOpenedEpoch, IsPlayEnd, IsSpent, IsReportedRun, IsWritten, IsWrittenAnew, Keeps, KeepsCommits, KeepsReadScript, KeepsScript, MayOpen, PlayTerms, RecoversFrom, Run, RunOf, RunsOn, passage}
+use Rattle.darkstar.specs.Runs.{IsOpenable, IsOpenedEpoch, IsPlayEnd, IsReportedRun, IsWritten, IsWrittenAnew, Keeps, KeepsCommits, KeepsReadScript, KeepsScript, MayOpen, PlayTerms, Run, RunOf, RunsOn, passage}
 use Rattle.darkstar.proofs.RunLaws.{from_begun}
 
 module _ (tells : Bool) (old mid new : DiskHistory) (time : IsTrue tells → Elapses old mid) (stays : IsTrue tells → Stays old mid) where

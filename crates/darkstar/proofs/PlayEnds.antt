@@ -1,5 +1,5 @@
 -- What a play on an opened store leaves, and how the program ends after it.
-use Rattle.std.proofs.Common.{◌≡◌, ◌≢◌, ◌⊎◌, ◌∙◌, ⊎_elim, inl, inr, ℕ, Bool, IsTrue, List, [], ◌∷◌, Option, None, Result, Ok, Err, IfOk, IfErr, MatchResult, refl, sym, ap, subst}
+use Rattle.std.proofs.Common.{◌≡◌, ◌≢◌, ◌⊎◌, ◌∙◌, ⊎_elim, inr, ℕ, Bool, IsTrue, List, [], ◌∷◌, Option, None, Result, Ok, Err, IfOk, MatchResult, refl, sym, ap, subst}
 use Rattle.dk_types.specs.Faults.{HasRisen}
 use Rattle.dk_types.specs.declared.durable.Durable.{Durable}
 use Rattle.dk_types.specs.declared.event.Event.{Event}
@@ -20,7 +20,7 @@ use Rattle.dk_journal.specs.Stores.{AreSettled}
 use Rattle.dk_recover.specs.Files.{OnlyReads}
 use Rattle.dk_recover.specs.Recovery.{IsOurs}
 use Rattle.dk_core.specs.Listings.{world_of}
-use Rattle.dk_host.specs.OpenedStores.{IsLeft, IsOpenAnswer, KeepsWorld}
+use Rattle.dk_host.specs.OpenedStores.{IsLeft, KeepsWorld}
 use Rattle.dk_host.specs.Stores.{StandsAs}
 use Rattle.dk_host.specs.declared.standing.Stood.{Stood}
 use Rattle.dk_play_laws.specs.BudgetLaw.{IsBudgetSpent}

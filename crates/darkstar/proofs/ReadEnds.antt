@@ -1,5 +1,5 @@
 -- How a play ends whose script was not read, and what a status behind an opened folder is not.
-use Rattle.std.proofs.Common.{◌≡◌, ℕ, Option, Some, None, List, Result, Err, IsSomeAnd, refl}
+use Rattle.std.proofs.Common.{◌≡◌, ℕ, Option, Some, None, List, Err, IsSomeAnd, refl}
 use Rattle.std.specs.Prelude.{IfSome}
 use Rattle.dk_types.specs.Faults.{HasRisen}
 use Rattle.dk_model.specs.Scripts.{IsBadLine}

@@ -1,5 +1,5 @@
 -- A run, from how its store was opened and how its host ended.
-use Rattle.std.proofs.Common.{◌≡◌, ◌≢◌, ◌⊎◌, ⊎_elim, inl, inr, ◌∙◌, ℕ, ◌<◌, ◌≤◌, Bool, true, false, IsTrue, List, [], ◌∷◌, ◌++◌, Option, None, Some, refl, sym, ap, subst, arith}
+use Rattle.std.proofs.Common.{◌≡◌, ◌≢◌, ◌⊎◌, ⊎_elim, inl, inr, ◌∙◌, ℕ, ◌<◌, ◌≤◌, Bool, true, false, IsTrue, List, [], ◌∷◌, ◌++◌, Option, None, Some, refl, sym, subst, arith}
 use Rattle.std.proofs.lemmas.Bool.{cases_lt}
 use Rattle.std.proofs.lemmas.List.{append-nil}
 use Rattle.dk_types.specs.Faults.{COUNT_END, HasRisen}
@@ -9,12 +9,12 @@ use Rattle.dk_disk.specs.Disk.{settled}
 use Rattle.dk_disk.specs.DiskHistories.{DiskHistory, now}
 use Rattle.dk_model.specs.DurableWorlds.{DurableWorld}
 use Rattle.dk_model.specs.Lawful.{AreLawful}
-use Rattle.dk_model.specs.Legal.{Opened, IsLegal, commits_of, opening_of, world_after}
+use Rattle.dk_model.specs.Legal.{Opened, IsLegal, opening_of}
 use Rattle.dk_model.specs.Openings.{opening}
 use Rattle.dk_model.specs.Validity.{IsValid}
-use Rattle.dk_model.specs.Tails.{IsAfterSomeOrTail, IsTail}
+use Rattle.dk_model.specs.Tails.{IsAfterSomeOrTail}
 use Rattle.dk_journal.specs.Moments.{IsAsRead}
-use Rattle.dk_journal.specs.Recoveries.{AllRecover, HeldNeverFalls, IsHeld, IsWorld, RecoverSince, Recovering}
+use Rattle.dk_journal.specs.Recoveries.{HeldNeverFalls, IsHeld, IsWorld, RecoverSince, Recovering}
 use Rattle.dk_journal.specs.Stores.{AreSettled}
 use Rattle.dk_journal.proofs.Recoveries.{all_at, all_weakened, held_on, since_on}
 use Rattle.dk_host.specs.OpenedStores.{KeepsWorld}

@@ -1,5 +1,5 @@
 -- How a server ends: what its members tell of that, and what it leaves.
-use Rattle.std.proofs.Common.{◌≡◌, ◌⊎◌, ◌∙◌, ⊎_elim, inl, inr, ℕ, Bool, IsTrue, List, Option, None, Result, Ok, Err, IfOk, IfErr, refl, sym, ap, subst}
+use Rattle.std.proofs.Common.{◌≡◌, ◌⊎◌, ⊎_elim, inr, ℕ, Bool, IsTrue, List, Option, None, Result, Ok, Err, IfErr, refl, sym, subst}
 use Rattle.dk_types.specs.Faults.{HasRisen}
 use Rattle.dk_types.specs.declared.durable.Durable.{Durable}
 use Rattle.dk_types.specs.declared.event.Event.{Event}
@@ -19,7 +19,7 @@ use Rattle.dk_host.specs.declared.fault.OpenFault.TheVariants as opening
 use Rattle.dk_turn.specs.Fronts.{Known}
 use Rattle.dk_workers.specs.Drains.{Drains}
 use Rattle.dk_workers.specs.Serving.{ServesOn}
-use Rattle.dk_workers.specs.Workers.{Works}
+use Rattle.dk_workers.specs.Workers.{Works, WorksNext}
 use Rattle.dk_workers.proofs.WorkedRuns.{is_caused}
 use Rattle.dk_workers.specs.declared.play.fault.PlayFault.{PlayFault}
 use Rattle.dk_workers.specs.declared.play.fault.PlayFault.TheVariants as playing
@@ -47,6 +47,11 @@ has_cause o count worked.DiskFault old new w = tt
 has_cause o count (worked.Stopped faults) old new w = tt
 has_cause o count (worked.JournalFull length) old new w = is_caused o count (worked.JournalFull length) old new w
 has_cause o count worked.NoMemory old new w = tt
+
+-- so has that of one that asks for a job alone
+pub next_cause : (o : Opened) (count : ℕ) (r : Result (Unit {0}) Worked) (old new : Known Event) → WorksNext o count r old new → IfErr r HasWorkCause
+next_cause o count (Ok done) old new w = tt
+next_cause o count (Err end) old new w = has_cause o count end old new w
 
 -- that of one that waits too
 pub serving_cause : (o : Opened) (count : ℕ) (end : Worked) (old new : Known Event) → ServesOn o count end old new → HasWorkCause end

@@ -5,7 +5,6 @@ use Rattle.std.proofs.lemmas.List.{length-append, get_or_append_left}
 use Rattle.std.proofs.Math.Seq.{get_or-append_seam}
 use Rattle.std.proofs.lemmas.Bool.{cases_lt}
 use Rattle.dk_types.specs.declared.number.ObjectId.{ObjectId}
-use Rattle.dk_types.specs.declared.object.Object.{Object}
 use Rattle.dk_types.specs.declared.item.Answer.{Answer}
 use Rattle.dk_types.specs.declared.item.Item.TheVariants as ask
 use Rattle.dk_types.specs.declared.event.Event.{Event}

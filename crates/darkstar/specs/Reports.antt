@@ -1,5 +1,5 @@
 -- What `check` and `inspect` do: the line that they write, by what both files of the home read, and why none is written.
-use Rattle.std.specs.Prelude.{◌≡◌, ⊤, List, ℕ, Option, Result, Ok, Err}
+use Rattle.std.specs.Prelude.{⊤, List, ℕ, Option, Result, Ok, Err}
 use Rattle.std.specs.Io.KnownBytes.{Appends}
 use Rattle.dk_types.specs.declared.side.Side.{Side}
 use Rattle.dk_types.specs.declared.side.Side.TheVariants.{Zero, One}

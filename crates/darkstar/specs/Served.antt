@@ -1,5 +1,5 @@
 -- What a server leaves, and why it came to an end that it was not to come to.
-use Rattle.std.specs.Prelude.{◌≡◌, ◌≢◌, ◌⊎◌, ℕ, ◌+◌, ◌<◌, ◌^◌, Bool, IsTrue, List, Option, Some, None, Result, Ok, Err, IfOk, IfErr}
+use Rattle.std.specs.Prelude.{◌≡◌, ◌⊎◌, ℕ, ◌+◌, ◌<◌, ◌^◌, Bool, IsTrue, List, Option, Some, None, Result, Ok, Err, IfOk, IfErr}
 use Rattle.dk_types.specs.Faults.{HasRisen}
 use Rattle.dk_types.specs.declared.limits.TheConstants.{NUMBERS_END}
 use Rattle.dk_types.specs.declared.durable.Durable.{Durable}

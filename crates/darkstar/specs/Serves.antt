@@ -1,5 +1,5 @@
 -- What `serve` does, by what its words ask for.
-use Rattle.std.specs.Prelude.{◌≡◌, ◌⊎◌, ⊤, ℕ, ◌+◌, List, Option, None, false, Result, Ok, Err}
+use Rattle.std.specs.Prelude.{⊤, ℕ, ◌+◌, List, Option, None, false, Result, Ok, Err}
 use Rattle.dk_edge.specs.Listening.{Listening}
 use Rattle.dk_command.specs.Games.{word_of}
 use Rattle.dk_command.specs.Requests.{Asks, Serves, Serving}

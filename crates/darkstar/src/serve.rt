@@ -1,8 +1,9 @@
 //! A server on a store: sessions over a listener's links, workers and a ticker, beside one another.
 //!
 //! It runs what can be run at the clock's moment, and binds its port. Then a crew does the rest: a ticker tells the host the
-//! time, workers run jobs, and each place takes a link at the door and runs its session, one after another. What they know
-//! together is the one history of the host; how many links were given and how many sessions have ended, a ledger ties.
+//! time, workers run jobs, and each place takes a link at the door and serves its session, one after another; between two
+//! looks at its link, the thread of a place runs jobs too, one thread of these at a time. What they know together is the one
+//! history of the host; how many links were given and how many sessions have ended, a ledger ties.
 ghost use Rattle.std.specs.Prelude.{◌≡◌, ◌⊎◌, ◌+◌, ◌*◌, ◌≤◌, false};
 ghost use Rattle.dk_edge.specs.Listening.{IsUncalled};
 ghost use Rattle.dk_notice.specs.Notices.{nothing_told, said_on};

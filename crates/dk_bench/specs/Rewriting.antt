@@ -1,5 +1,5 @@
 -- What the sheets mean: what each job does, said on the run in its midst.
-use Rattle.std.specs.Prelude.{ℕ, ◌+◌, List, Option, Some, None, Ok}
+use Rattle.std.specs.Prelude.{ℕ, List, Option, Some, None, Ok}
 use Rattle.std.proofs.Common.{zero, suc}
 use Rattle.dk_types.specs.declared.number.ObjectId.{ObjectId}
 use Rattle.dk_types.specs.declared.job.Job.{Job}
@@ -15,28 +15,19 @@ use Rattle.dk_bench.specs.Sheet.{SHEET, sheet_bytes, sheet_of, blank, raised}
 abbrev pub schedule_one : ObjectId → ℕ → Act (Unit {0})
 schedule_one id delay = and_then (schedule 1 (id_spelling id) delay) (λ _. give (Ok tt))
 
--- four such tasks, a millisecond apart
-unfoldable pub schedule_four : ObjectId → ℕ → Act (Unit {0})
-schedule_four id delay =
-    and_then (schedule_one id delay) (λ _.
-    and_then (schedule_one id (delay + 1)) (λ _.
-    and_then (schedule_one id (delay + 2)) (λ _.
-    and_then (schedule_one id (delay + 3)) (λ _.
-    give (Ok tt)))))
+-- so many such tasks, a millisecond apart, the last one first
+abbrev pub schedule_each : ObjectId → ℕ → Act (Unit {0})
+schedule_each id zero = give (Ok tt)
+schedule_each id (suc n) = and_then (schedule_one id n) (λ _. schedule_each id n)
 
--- a blank sheet, and the tasks that rewrite it: at once, and at each of eight milliseconds
-unfoldable pub plan : Act (Unit {0})
-plan =
-    and_then (create SHEET (sheet_bytes blank)) (λ id.
-    and_then (schedule_one id 0) (λ _.
-    and_then (schedule_four id 1) (λ _.
-    and_then (schedule_four id 5) (λ _.
-    give (Ok tt)))))
+-- a blank sheet, and the tasks that rewrite it: at once, and a millisecond apart
+unfoldable pub plan : ℕ → Act (Unit {0})
+plan times = and_then (create SHEET (sheet_bytes blank)) (λ id. schedule_each id times)
 
 -- so many sheets, each with its tasks
-abbrev pub begin : ℕ → Act (Unit {0})
-begin zero = give (Ok tt)
-begin (suc n) = and_then plan (λ _. begin n)
+abbrev pub begin : ℕ → ℕ → Act (Unit {0})
+begin zero times = give (Ok tt)
+begin (suc n) times = and_then (plan times) (λ _. begin n times)
 
 -- each number of the sheet is raised by one
 unfoldable pub rewrite_at : ObjectId → Act (Unit {0})
@@ -55,10 +46,10 @@ abbrev pub rewrite : List ℕ → Act (Unit {0})
 rewrite arg = rewrite_found (value_of next_id arg)
 
 -- what each job does: the first run and the tasks alone do something
-abbrev pub sheets_rules : ℕ → Job → Act (Unit {0})
-sheets_rules sheets job.Initialize = begin sheets
-sheets_rules sheets (job.Task key due period kind arg) = rewrite arg
-sheets_rules sheets (job.Login conn name) = give (Ok tt)
-sheets_rules sheets (job.Message conn name body) = give (Ok tt)
-sheets_rules sheets (job.Channel conn name channel body) = give (Ok tt)
-sheets_rules sheets (job.Disconnect conn name graceful) = give (Ok tt)
+abbrev pub sheets_rules : ℕ → ℕ → Job → Act (Unit {0})
+sheets_rules sheets times job.Initialize = begin sheets times
+sheets_rules sheets times (job.Task key due period kind arg) = rewrite arg
+sheets_rules sheets times (job.Login conn name) = give (Ok tt)
+sheets_rules sheets times (job.Message conn name body) = give (Ok tt)
+sheets_rules sheets times (job.Channel conn name channel body) = give (Ok tt)
+sheets_rules sheets times (job.Disconnect conn name graceful) = give (Ok tt)

@@ -15,7 +15,10 @@ use std::thread::{Threads, join_mut};
 use std::time::{Clock, Instant};
 
 /// So often each sheet is rewritten while it is timed, by as many tasks, which are due one millisecond after another.
-pub(crate) const ROUNDS: u64 = 8;
+pub(crate) const TIMED_REWRITES: u64 = 32;
+
+/// So often each is rewritten in all: once before it is timed.
+pub(crate) const REWRITES: u64 = TIMED_REWRITES + 1;
 
 /// What each of two threads does with its pass, and the nanoseconds of it.
 trait Pair<X> {
@@ -128,13 +131,15 @@ impl<
     }
 
     /// All jobs that are due some milliseconds later, by a worker for each pass, behind those that are due at once.
-    pub(crate) fn rounds(&self, passes: &mut [Pass<WorldBook<W>, J>]) -> Option<u64>
+    pub(crate) fn timed_rewrites(&self, passes: &mut [Pass<WorldBook<W>, J>]) -> Option<u64>
         requires rules { W.opened.rules ≡ G.rules self.now.game.now }
     {
         self.commit_next(passes.first_mut()?)?;
         self.work_due(passes)?;
         let start = Instant::now(self.rt).ok()?;
-        self.host.tick(self.rt, passes.first_mut()?, ROUNDS).ok()?;
+        self.host
+            .tick(self.rt, passes.first_mut()?, TIMED_REWRITES)
+            .ok()?;
         self.work_due(passes)?;
         nanoseconds(self.rt, &start)
     }

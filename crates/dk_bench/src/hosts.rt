@@ -4,7 +4,7 @@ ghost use Rattle.dk_disk.specs.Opening.{NotCalled};
 ghost use Rattle.dk_notice.specs.Notices.{nothing_told, said_on};
 ghost use Rattle.dk_bench.specs.Hosts.{opened_for};
 
-use crate::beside::ROUNDS;
+use crate::beside::REWRITES;
 use crate::desk::Desk;
 use crate::filler::Filler;
 use crate::sheets::Sheets;
@@ -109,7 +109,11 @@ pub fn on_host<M: Home + Send + Drop, R: AllocGlobal + Clock + Threads + Wait + 
             in_memory(rt, &Filler { objects }, &hold, &order)
         }
         HostWork::RewritesByOne | HostWork::RewritesByFour => {
-            in_memory(rt, &Sheets { sheets: number }, &hold, &order)
+            let game = Sheets {
+                sheets: number,
+                times: REWRITES,
+            };
+            in_memory(rt, &game, &hold, &order)
         }
     }
 }
@@ -251,7 +255,7 @@ fn done<
     let number = order.number;
     match order.work {
         HostWork::Tasks | HostWork::FolderTasks => desk.tasks(passes),
-        HostWork::RewritesByOne | HostWork::RewritesByFour => desk.rounds(passes),
+        HostWork::RewritesByOne | HostWork::RewritesByFour => desk.timed_rewrites(passes),
         HostWork::Reads => desk.reads_alone(passes.first_mut()?, number),
         HostWork::Commits => desk.commits(passes.first_mut()?, commit_logins(number)),
         HostWork::HeldReads => {
@@ -292,7 +296,7 @@ fn least_commits(order: &Order<'_>) -> u64 {
     }
 }
 
-/// How often sheets are rewritten: each once before it is timed.
+/// How often sheets are rewritten in all.
 fn rewrites(order: &Order<'_>) -> u64 {
-    (order.number as u64).saturating_mul(ROUNDS.saturating_add(1))
+    (order.number as u64).saturating_mul(REWRITES)
 }

@@ -1,4 +1,4 @@
-//! A game of sheets of numbers, each of which a task rewrites.
+//! A game of sheets of numbers, each of which tasks rewrite again and again.
 ghost use Rattle.std.specs.Prelude.{◌≡◌, ◌<◌};
 ghost use Rattle.dk_txn.specs.Does.{Does};
 ghost use Rattle.dk_game.specs.Halted.{halt_fault};
@@ -17,11 +17,12 @@ use std::alloc::Global;
 /// The kind of the tasks.
 const REWRITE: u16 = 1;
 
-/// The game. Its first run makes so many sheets, each with nine tasks that rewrite it: one is due at once, and one at each of
-/// the eight milliseconds behind it.
+/// The game. Its first run makes so many sheets, each with so many tasks that rewrite it: one is due at once, and one at each
+/// millisecond behind it.
 #[derive(Clone, Copy, Debug)]
 pub struct Sheets {
     pub sheets: u32,
+    pub times: u64,
 }
 
 /// A task that rewrites the sheet of this id, so many milliseconds later.
@@ -38,41 +39,36 @@ fn schedule_one<V: View>(
     Ok(())
 }
 
-/// Four such tasks, a millisecond apart.
-fn schedule_four<V: View>(
+/// So many such tasks, a millisecond apart, the one that is due last first.
+fn schedule_each<V: View>(
     alloc: Global,
     txn: &mut Txn<'_, V>,
     id: ObjectId,
-    delay: u64,
+    times: u64,
 ) -> Result<(), Halt>
-    requires { delay < 8 }
-    ensures { Does V.sights halt_fault txn.old txn.new (rules.schedule_four id delay) result }
+    ensures { Does V.sights halt_fault txn.old txn.new (rules.schedule_each id times) result }
 {
-    schedule_one(alloc, txn, id, delay)?;
-    schedule_one(alloc, txn, id, delay + 1)?;
-    schedule_one(alloc, txn, id, delay + 2)?;
-    schedule_one(alloc, txn, id, delay + 3)?;
+    for scheduled in 0..times {
+        schedule_one(alloc, txn, id, times - (scheduled + 1))?;
+    }
     Ok(())
 }
 
-/// A blank sheet, and the tasks that rewrite it.
-fn plan<V: View>(alloc: Global, txn: &mut Txn<'_, V>) -> Result<(), Halt>
-    ensures { Does V.sights halt_fault txn.old txn.new rules.plan result }
+/// A blank sheet, and so many tasks that rewrite it.
+fn plan<V: View>(alloc: Global, txn: &mut Txn<'_, V>, times: u64) -> Result<(), Halt>
+    ensures { Does V.sights halt_fault txn.old txn.new (rules.plan times) result }
 {
     let sheet = Sheet::blank(alloc)?;
     let place = ManagedRef::create(alloc, txn, &sheet)?;
     let id = place.id();
-    schedule_one(alloc, txn, id, 0)?;
-    schedule_four(alloc, txn, id, 1)?;
-    schedule_four(alloc, txn, id, 5)?;
-    Ok(())
+    schedule_each(alloc, txn, id, times)
 }
 
-fn begin<V: View>(alloc: Global, txn: &mut Txn<'_, V>, sheets: u32) -> Result<(), Halt>
-    ensures { Does V.sights halt_fault txn.old txn.new (rules.begin sheets) result }
+fn begin<V: View>(alloc: Global, txn: &mut Txn<'_, V>, sheets: u32, times: u64) -> Result<(), Halt>
+    ensures { Does V.sights halt_fault txn.old txn.new (rules.begin sheets times) result }
 {
     for planned in 0..sheets {
-        plan(alloc, txn)?;
+        plan(alloc, txn, times)?;
     }
     Ok(())
 }
@@ -102,9 +98,9 @@ impl Rules for Sheets {
     ghost use Rattle.dk_bench.specs.Rewriting.{sheets_rules};
     ghost use Rattle.dk_bench.specs.RewritingLawful.{sheets_lawful};
 
-    ghost rules = { λ game job. sheets_rules game.sheets job };
+    ghost rules = { λ game job. sheets_rules game.sheets game.times job };
 
-    ghost lawful = { λ game. sheets_lawful game.sheets };
+    ghost lawful = { λ game. sheets_lawful game.sheets game.times };
 }
 
 impl Game for Sheets {
@@ -118,7 +114,7 @@ impl Game for Sheets {
 
     fn run<V: View>(&self, alloc: Global, job: &Job, txn: &mut Txn<'_, V>) -> Result<(), Halt> {
         match job {
-            Job::Initialize => begin(alloc, txn, self.sheets),
+            Job::Initialize => begin(alloc, txn, self.sheets, self.times),
             Job::Task { arg, .. } => rewrite(alloc, txn, arg),
             Job::Login { .. } => Ok(()),
             Job::Message { .. } => Ok(()),

@@ -60,9 +60,9 @@ pub struct Bells {
     bells: Vec<Bell>,
     // For each remainder of a connection's number, the place of the bell that was named last for a connection of it.
     places: Vec<AtomicU64>,
-    // How many of them are of links whose threads are awake.
+    // How many bells are of links whose threads are awake.
     awake: AtomicU64,
-    // So many of the first of them links have or had.
+    // How many bells links have or had, which are the first ones.
     used: AtomicU64,
 }
 

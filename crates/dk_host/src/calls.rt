@@ -20,7 +20,7 @@ use crate::steps::{Claim, Connect, CountKept, Hand, Post, ReadItem, Release, Tic
 use dk_core::{ClaimRefused, Claimed, ConnectRefused, Handed, PostRefused};
 use dk_disk::Home;
 use dk_entry::CommitDraft;
-use dk_turn::{Naming, Pass, Turn, spin_then_lock};
+use dk_turn::{Naming, Pass, Turn, pause, spin_then_lock};
 use dk_txn::Finished;
 use dk_types::{ConnNo, Input, Item, Name, NoMemory, Read};
 use std::sync::{MutexGuard, Wait};
@@ -28,6 +28,10 @@ use std::sync::{MutexGuard, Wait};
 /// How often a commit looks whether the commit lock is free before its thread sleeps: about as long as four commits in memory
 /// take.
 const LOOKS_COUNT: u32 = 400;
+
+/// How many additions a thread makes behind a commit that it had to wait for: some four hundred nanoseconds. Another thread's
+/// commit begins then, with a look at the world, and the claim of this thread would hold the world's lock for longer than that.
+const STEP_BACK_ADDITIONS: u32 = 64;
 
 // What the world answers to an item at the new front, and what is seen of it there.
 pub(crate) fn read_item<W: Hosting, J: Naming, R: Wait>(
@@ -158,10 +162,13 @@ impl<W: Hosting, J: Naming, M: Home> Host<W, J, M> {
         self.world.with(rt, pass, CountKept)
     }
 
-    // The store, once no other commit is at it. In memory a commit takes less time than to sleep and to be woken, so it looks
-    // for a while first.
-    fn enter_store<R: Wait>(&self, rt: &R) -> MutexGuard<'_, FreeStore<W, J, M>> {
-        spin_then_lock(rt, &self.store, LOOKS_COUNT)
+    // The store, once no other commit is at it, and whether one was. In memory a commit takes less time than to sleep and to be
+    // woken, so it looks for a while first.
+    fn enter_store<R: Wait>(&self, rt: &R) -> (MutexGuard<'_, FreeStore<W, J, M>>, bool) {
+        match self.store.try_lock() {
+            Some(store) => (store, false),
+            None => (spin_then_lock(rt, &self.store, LOOKS_COUNT), true),
+        }
     }
 
     /// Commits a finished run where all its reads stand: first its record is on the disk, and then its event is entered.
@@ -184,7 +191,12 @@ impl<W: Hosting, J: Naming, M: Home> Host<W, J, M> {
         ensures named { All (λ e. pass_of e < J.name.passes) pass.new.front }
     {
         let draft = CommitDraft::new(self.alloc, claimed.run(), finished.effects());
-        self.enter_store(rt)
-            .commit(rt, &self.world, pass, claimed, finished, draft)
+        let (mut store, has_waited) = self.enter_store(rt);
+        let answer = store.commit(rt, &self.world, pass, claimed, finished, draft);
+        drop(store);
+        if has_waited {
+            pause(STEP_BACK_ADDITIONS);
+        }
+        answer
     }
 }

@@ -1,5 +1,5 @@
 -- What a session that has ended keeps of numbers.
-use Rattle.std.proofs.Common.{◌≡◌, ℕ, Bool, Option, Some, List, subst}
+use Rattle.std.proofs.Common.{◌≡◌, ℕ, Bool, Option, List, subst}
 use Rattle.std.proofs.Math.Logic.{∥∥₁_elim}
 use denote.Struct.Props.{props}
 use Rattle.dk_model.specs.Legal.{Opened}

@@ -24,6 +24,6 @@ pub use empty_step::EmptyStep;
 pub use ghost_list::{GhostList, Noting, NotingAll};
 pub use naming::Naming;
 pub use pass::{Pass, Waking};
-pub use spinning::spin_then_lock;
+pub use spinning::{pause, spin_then_lock};
 pub use turn::{Turn, TurnRefused};
 pub use watcher::Watcher;

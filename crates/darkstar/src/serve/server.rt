@@ -209,31 +209,27 @@ impl<
     T: Gate,
     R: Wait,
 > Helper<'s, 'a, 'n, W, J, M, L, D, C, G, T, R> {
-    // Runs jobs until another answer comes, or so many were asked for; with the last of them a worker is woken for the rest.
-    fn run_some(&mut self, left: &mut u32) -> Result<(), Worked>
+    // Claims a job and runs it until it is committed. `left` is how often its thread asks for more; where it does not, a worker is
+    // woken for the rest.
+    fn run_next(&mut self, left: u32) -> Result<(), Worked>
         ensures { IfErr result HasWorkCause }
     {
         let server = self.server;
-        self.pass.set_waking(Waking::Nobody);
-        for more in (0..*left).rev() {
-            *left = more;
-            if more == 0 {
-                self.pass.set_waking(Waking::One);
-            }
-            let worked = work_next(
-                server.rt,
-                server.alloc,
-                server.host,
-                &mut self.pass,
-                server.game,
-                server.gate,
-                0,
-            );
-            if let Err(end) = worked {
-                return Err(end);
-            }
-        }
-        Ok(())
+        let waking = if left == 0 {
+            Waking::One
+        } else {
+            Waking::Nobody
+        };
+        self.pass.set_waking(waking);
+        work_next(
+            server.rt,
+            server.alloc,
+            server.host,
+            &mut self.pass,
+            server.game,
+            server.gate,
+            0,
+        )
     }
 }
 
@@ -255,26 +251,26 @@ impl<
     /// Another answer ends the server, and the first is kept.
     fn help(&mut self) {
         let server = self.server;
-        let mut left = HELPED_JOBS_COUNT;
-        for _ in 0..HELPED_JOBS_COUNT {
-            if left == 0 || !server.helping.enter() {
+        for left in (0..HELPED_JOBS_COUNT).rev() {
+            if !server.helping.enter() {
                 return;
             }
-            let worked = self.run_some(&mut left);
+            let worked = self.run_next(left);
             server.helping.leave();
             match worked {
-                Ok(()) => return,
-                Err(Worked::Idle) => {}
+                Ok(()) => {}
+                Err(Worked::Idle) => {
+                    // Whose step came before this one left could not enter.
+                    if !server.host.has_news(&self.pass) {
+                        return;
+                    }
+                }
                 Err(end) => {
                     let first = mem::replace(&mut self.verdict, Verdict::good());
                     self.verdict = first.or(Verdict::of_worker(end));
                     server.door.end();
                     return;
                 }
-            }
-            // Whose step came before this one left could not enter.
-            if !server.host.has_news(&self.pass) {
-                return;
             }
         }
     }

@@ -1,12 +1,11 @@
 use Rattle.std.proofs.Common.{◌≡◌, ◌∙◌, ⊎_elim, inl, refl, sym, ap, subst, ℕ, List}
-use Rattle.std.specs.Prelude.{IfSome, IsSomeAnd}
+use Rattle.std.specs.Prelude.{IsSomeAnd}
 use Rattle.std.specs.Io.KnownBytes.{Appends}
 use Rattle.dk_edge.specs.Streams.{AppendsPrefix}
 use Rattle.dk_command.specs.Commands.{IsCommandLine}
 use Rattle.dk_command.specs.Requests.{Asks, Playing, Plays, Report, Reports, Request, Serves, Serving, Stresses, Stressing, request_of}
 use Rattle.dk_disk.specs.Opening.{Opened}
 use Rattle.dk_model.specs.DurableWorlds.{DurableWorld}
-use Rattle.dk_model.specs.Scripts.{IsBadLine}
 use Rattle.dk_recover.proofs.OnlyRead.{none_read}
 use Rattle.dk_recover.specs.Files.{OnlyReads}
 use Rattle.dk_reports.specs.Causes.{IsOpenedAt}
@@ -15,9 +14,9 @@ use Rattle.dk_streams.specs.Sources.{IsPlayable}
 use Rattle.darkstar.specs.Reports.{AppendsOne, AppendsPart, ForReport, Holds, IsCauseOf, IsLine, IsOfGame}
 use Rattle.darkstar.specs.Runs.{ForPlay, IsPlayEnd, IsReadAndWritten, Keeps, KeepsReadScript, MayOpen, passage, terms_of}
 use Rattle.darkstar.specs.Serves.{ForServe, HasServedAll, IsServeEnd, IsServedOrEnd, service_of}
-use Rattle.darkstar.specs.Statuses.{ComesForBadLine, IfBadScript, IsOkOrEnd, IsOkOrNoMemory, IsOkOrOfDevice, IsWrittenOrNoMemory}
+use Rattle.darkstar.specs.Statuses.{IsOkOrEnd, IsOkOrOfDevice, IsWrittenOrNoMemory}
 use Rattle.darkstar.specs.StressText.{ForStress, stress_text}
-use Rattle.darkstar.proofs.Askings.{ask_once, asks_line, few_of, for_play, for_report, for_serve, for_stress, no_request, refused_line}
+use Rattle.darkstar.proofs.Askings.{ask_once, asks_line, for_play, for_report, for_serve, for_stress, no_request, refused_line}
 use Rattle.darkstar.proofs.PlayEnds.{spared, without_faults}
 use Rattle.darkstar.proofs.Serving.{never_read, never_torn, serves_on}
 use Rattle.darkstar.proofs.Told.{told_free}

@@ -1,4 +1,4 @@
-use Rattle.std.proofs.Common.{◌≡◌, ◌+◌, refl, ap, sym, subst, ◌∙◌, Option, None, Some}
+use Rattle.std.proofs.Common.{◌+◌, refl, ap, sym, subst, ◌∙◌, Option, None, Some}
 use Rattle.dk_pump.specs.Arrivals.{AreAll}
 use Rattle.darkstar.specs.declared.serve.verdict.ServeFault.{ServeFault}
 use Rattle.darkstar.specs.declared.serve.verdict.ServeFault.TheVariants as fault

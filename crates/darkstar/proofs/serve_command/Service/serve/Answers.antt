@@ -1,4 +1,4 @@
-use Rattle.std.proofs.Common.{◌≡◌, ℕ, List, inl, refl, subst}
+use Rattle.std.proofs.Common.{inl}
 use Rattle.dk_reports.proofs.Reading.{stays_then_reads}
 use Rattle.dk_recover.proofs.OnlyRead.{none_read}
 use Rattle.darkstar.specs.Asked.{service_for}

@@ -1,4 +1,4 @@
-use Rattle.std.proofs.Common.{◌≡◌, ◌⊎◌, ◌∙◌, ◌+◌, ℕ, IsTrue, List, Result, Ok, Err, refl, sym, subst, arith}
+use Rattle.std.proofs.Common.{◌≡◌, ◌⊎◌, ◌∙◌, ℕ, IsTrue, List, Err, refl, sym, subst, arith}
 use Rattle.dk_types.specs.declared.side.Side.TheVariants.{Zero, One}
 use Rattle.dk_model.specs.Events.{Meaning}
 use Rattle.dk_model.specs.Lawful.{AreLawful}
@@ -7,7 +7,7 @@ use Rattle.dk_core.specs.Listings.{world_of}
 use Rattle.dk_host.specs.OpenedStores.{IsOpenAnswer}
 use Rattle.darkstar.specs.Asked.{service_for}
 use Rattle.darkstar.specs.Reports.{Holds, bytes_of}
-use Rattle.darkstar.specs.Runs.{IsPlayEnd, passage}
+use Rattle.darkstar.specs.Runs.{passage}
 use Rattle.darkstar.specs.Served.{IsServedOn, IsUnserved, links_of, served_on}
 use Rattle.darkstar.specs.Serves.{IsServeEnd, IsServedOrLimit}
 use Rattle.darkstar.specs.declared.serve_command.Service.{Service}
