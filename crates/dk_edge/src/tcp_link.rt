@@ -21,7 +21,7 @@ const QUICK_POLLS_COUNT: u64 = 64;
 const LEAST_QUICK_POLLS_COUNT: u64 = 2;
 
 /// How long a stream or a bell is waited for at most, in ms.
-const WAIT_MS: u64 = 100;
+const WAIT_MS: u64 = 1_000;
 
 /// The tokens of the stream and of the bell.
 const STREAM: Token = Token(0);
