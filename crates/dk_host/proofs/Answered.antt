@@ -1,14 +1,13 @@
 -- What opening a store answers, by what was recovered and what was made of it.
-use Rattle.std.proofs.Common.{◌≡◌, ◌⊎◌, ⊎_elim, inl, inr, ℕ, ◌+◌, ◌<◌, ◌≤◌, ◌^◌, List, Some, Result, Ok, Err, IfOk, IfErr, IsErrOf, refl, sym, ap, subst, ◌∙◌, arith}
-use Rattle.dk_types.specs.declared.side.Side.{Side}
+use Rattle.std.proofs.Common.{◌≡◌, ◌⊎◌, ⊎_elim, inl, inr, ℕ, ◌+◌, ◌<◌, ◌≤◌, ◌^◌, List, Result, Ok, Err, IfOk, IfErr, IsErrOf, refl, sym, ap, subst, ◌∙◌, arith}
 use Rattle.dk_types.specs.declared.side.Side.TheVariants.{Zero}
 use Rattle.dk_types.specs.declared.durable.Durable.{Durable}
 use Rattle.dk_types.specs.declared.limits.TheConstants.{NUMBERS_END}
 use Rattle.dk_disk.specs.DiskHistories.{DiskHistory}
 use Rattle.dk_model.specs.DurableWorlds.{DurableWorld, empty_world}
 use Rattle.dk_model.specs.Images.{world_lists}
-use Rattle.dk_model.specs.Recovered.{HasDurable, HoldsWorld, Recovers, Holding, file_on}
-use Rattle.dk_model.specs.Stores.{StoreHeader, Standing, NoStore, StandsOn, standing}
+use Rattle.dk_model.specs.Recovered.{HasDurable}
+use Rattle.dk_model.specs.Stores.{StoreHeader, Standing, NoStore, StandsOn}
 use Rattle.dk_journal.specs.declared.journal.Journal.{Journal}
 use Rattle.dk_checkpoint.proofs.Held.{one_durable, durable_once}
 use Rattle.dk_recover.specs.declared.recovery.Recovered.{Recovered}
@@ -20,7 +19,7 @@ use Rattle.dk_core.specs.Listings.{world_of}
 use Rattle.dk_host.specs.declared.fault.OpenFault.{OpenFault}
 use Rattle.dk_host.specs.declared.fault.OpenFault.TheVariants.{NoMemory, DiskFault, NotAStore, WrongGame, Damaged, ImageTooLarge, EpochEnd}
 use Rattle.dk_host.specs.declared.standing.Stood.{Stood}
-use Rattle.dk_host.specs.OpenedStores.{image_length, HoldsStore, IsAnewFault, IsCurrent, IsFaultOf, IsLeft, IsMade, IsMadeAnew, IsMakingFault, IsOlder, IsOpenAnswer, IsUnwritten, IsWorldOrDevice, MayBeAnew}
+use Rattle.dk_host.specs.OpenedStores.{image_length, HoldsStore, IsAnewFault, IsFaultOf, IsLeft, IsMade, IsMadeAnew, IsMakingFault, IsOlder, IsOpenAnswer, IsUnwritten, IsWorldOrDevice, MayBeAnew}
 use Rattle.dk_host.proofs.Settling.{world_back}
 
 -- where there was no store yet

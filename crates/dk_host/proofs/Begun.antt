@@ -6,7 +6,7 @@ use Rattle.dk_disk.specs.DiskHistories.{DiskHistory}
 use Rattle.dk_disk.specs.Opening.{Opening, IsOpen}
 use Rattle.dk_model.specs.DurableWorlds.{DurableWorld}
 use Rattle.dk_model.specs.Lawful.{AreLawful}
-use Rattle.dk_model.specs.Legal.{Opened, opening_of, world_after, IsLegal, commits_of}
+use Rattle.dk_model.specs.Legal.{Opened, opening_of, IsLegal, commits_of}
 use Rattle.dk_model.specs.Openings.{opening}
 use Rattle.dk_model.specs.Tails.{IsAfterSomeOrTail}
 use Rattle.dk_model.specs.Validity.{IsValid}

@@ -1,6 +1,6 @@
 -- The home of a store is the one that was handed in, over each call that writes.
 use Rattle.std.proofs.Common.{◌≡◌, ◌≤◌, ℕ, Option, None, Some, Result, Ok, Err, OnOk, IfErr, IsErrOf, inl, inr, refl, sym, subst, ◌∙◌, arith}
-use Rattle.dk_types.specs.Faults.{HasRisen, COUNT_END}
+use Rattle.dk_types.specs.Faults.{HasRisen}
 use Rattle.dk_types.specs.declared.side.Side.{Side}
 use Rattle.dk_disk.specs.Opening.{Opening}
 use Rattle.dk_journal.specs.declared.journal.Journal.{Journal}

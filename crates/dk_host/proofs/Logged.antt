@@ -1,7 +1,6 @@
 -- The log of a store's file, as commits come.
 use Rattle.std.proofs.Common.{◌≡◌, ◌⊎◌, ⊎_elim, inl, inr, ℕ, ◌+◌, ◌<◌, ◌≤◌, List, [], ◌∷◌, ◌++◌, length, Option, Some, refl, sym, ap, subst, ◌∙◌, arith, append_assoc}
 use Rattle.std.proofs.lemmas.List.{append-nil}
-use Rattle.std.specs.List.{AllByRecursion}
 use Rattle.dk_types.specs.declared.durable.Entry.{Entry}
 use Rattle.dk_types.specs.declared.event.Event.{Event}
 use Rattle.dk_types.specs.declared.event.Event.TheVariants as event
@@ -17,7 +16,7 @@ use Rattle.dk_model.specs.Recovered.{IsNext, Follow, TakeAll, HasWorld, BeginsWi
 use Rattle.dk_model.specs.Stores.{StoreHeader}
 use Rattle.dk_journal.specs.Stores.{HasStore}
 use Rattle.dk_journal.specs.declared.journal.Journal.{Journal}
-use Rattle.dk_commit_log.specs.Logs.{BeginsWith, HasImage, HasLog, Spell}
+use Rattle.dk_commit_log.specs.Logs.{HasImage, HasLog, Spell}
 use Rattle.dk_commit_log.specs.Ranges.{AreNumbered}
 use Rattle.dk_commit_log.proofs.Numbers.{follow_numbered}
 use Rattle.dk_host.specs.Logs.{IsOfCommit, AreOfCommits}

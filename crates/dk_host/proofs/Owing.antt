@@ -15,20 +15,17 @@ use Rattle.dk_types.specs.declared.event.Event.TheVariants as event
 use Rattle.dk_types.specs.declared.event.ConnectReply.TheVariants as connected
 use Rattle.dk_types.specs.declared.event.PostReply.TheVariants as posted
 use Rattle.dk_types.specs.declared.event.ClaimReply.TheVariants as claimed
-use Rattle.dk_model.specs.declared.waiting.Waiting.{Waiting}
 use Rattle.dk_model.specs.declared.waiting.Waiting.TheVariants as waits
 use Rattle.dk_model.specs.Keys.{run_cmp, conn_cmp}
 use Rattle.dk_model.specs.Legal.{Opened, opening_of, world_after, IsLegal}
 use Rattle.dk_model.specs.Worlds.{World, Connection, Claim, new_connection}
 use Rattle.dk_model.specs.Deliveries.{Connections, change_connection, conn_of, for_conn, input_left, cut_off, is_full, is_disconnect, with_out, with_outs, closed_by, close_off, with_closed, ended_by, delivered, is_done, without_done}
-use Rattle.dk_model.specs.Events.{Meaning, Happens, is_open, is_open_at, swept, with_connection, with_input, with_claim, with_handed, committed, step_of, put_last}
-use Rattle.dk_model.specs.Histories.{Leads}
+use Rattle.dk_model.specs.Events.{Meaning, Happens, is_open, is_open_at, swept, with_connection, with_input, with_claim, with_handed, step_of, put_last}
 use Rattle.dk_model.specs.Openings.{opening, counting, with_sessions, ended_connection}
-use Rattle.dk_model.specs.Successors.{after_event, after_events}
 use Rattle.dk_model.proofs.Maps.{runs_total, conns_total, exact_conns, get-insert_here, get-insert_other, get-remove_other}
 use Rattle.dk_laws.proofs.NumberedMaps.{equal, one_conn, conn-insert, get-change, get-without_done}
-use Rattle.dk_laws.proofs.OneWorld.{event_leads, events_lead, after_events-append, parted}
-use Rattle.dk_host.specs.Keeping.{begins_one, ends_one, owed_after, IsOwed}
+use Rattle.dk_laws.proofs.OneWorld.{events_lead, parted}
+use Rattle.dk_host.specs.Keeping.{ends_one, owed_after, IsOwed}
 
 -- ---- how long maps are
 

@@ -1,5 +1,5 @@
 -- What the store keeps where its file is read back.
-use Rattle.std.proofs.Common.{◌≡◌, ℕ, ◌+◌, ◌≤◌, Bool, IsTrue, List, [], ◌++◌, Option, Some, None, Result, Err, IsErrOf, refl, sym, ap, subst, ◌∙◌, arith}
+use Rattle.std.proofs.Common.{◌≡◌, ℕ, ◌+◌, ◌≤◌, Bool, IsTrue, List, ◌++◌, Option, Some, None, Result, Err, IsErrOf, refl, sym, ap, subst, ◌∙◌, arith}
 use Rattle.std.proofs.lemmas.List.{append-nil}
 use Rattle.dk_types.specs.Faults.{HasRisen}
 use Rattle.dk_types.specs.declared.durable.Entry.{Entry}
@@ -15,13 +15,13 @@ use Rattle.dk_model.specs.Stores.{StoreHeader, Reads, header_spelling}
 use Rattle.dk_model.specs.Tails.{IsAfterSomeOrTail}
 use Rattle.dk_journal.specs.Moments.{Looks}
 use Rattle.dk_journal.specs.Ranks.{IsLesser}
-use Rattle.dk_journal.specs.Recoveries.{Recovering, HeldNeverFalls, IsHeld}
+use Rattle.dk_journal.specs.Recoveries.{Recovering, HeldNeverFalls}
 use Rattle.dk_journal.specs.Stores.{HasStore}
 use Rattle.dk_journal.specs.declared.journal.Journal.{Journal}
 use Rattle.dk_journal.proofs.Recoveries.{all_at, since_on, held_on}
-use Rattle.dk_commit_log.specs.Logs.{BeginsWith, IsStoreFile, IsLogOf}
+use Rattle.dk_commit_log.specs.Logs.{IsStoreFile, IsLogOf}
 use Rattle.dk_commit_log.specs.Ranges.{between}
-use Rattle.dk_host.specs.Stores.{HasRecovered, HoldsNow, HoldsLog, IsStored, Stored}
+use Rattle.dk_host.specs.Stores.{HoldsLog, IsStored, Stored}
 use Rattle.dk_commit_log.specs.declared.refused.LogRefused.{LogRefused}
 use Rattle.dk_commit_log.specs.declared.refused.LogRefused.TheVariants as log
 use Rattle.dk_host.specs.declared.refused.TailRefused.TheVariants as tail

@@ -1,5 +1,5 @@
 -- What the store keeps where it is written anew.
-use Rattle.std.proofs.Common.{◌≡◌, ⊎_elim, ℕ, ◌+◌, ◌<◌, ◌≤◌, ◌^◌, Bool, IsTrue, List, [], ◌++◌, length, Option, Some, None, Result, Ok, Err, IfOk, IsErrOf, refl, sym, ap, subst, ◌∙◌, arith}
+use Rattle.std.proofs.Common.{◌≡◌, ⊎_elim, ℕ, ◌+◌, ◌<◌, ◌≤◌, ◌^◌, Bool, IsTrue, List, [], length, Option, Some, None, Result, Ok, Err, IfOk, refl, sym, ap, subst, ◌∙◌, arith}
 use Rattle.std.proofs.lemmas.List.{append-nil}
 use Rattle.dk_types.specs.Faults.{HasRisen}
 use Rattle.dk_types.specs.declared.durable.Durable.{Durable}
@@ -13,7 +13,6 @@ use Rattle.dk_model.specs.Images.{image_spelling, world_lists}
 use Rattle.dk_model.specs.Legal.{Opened, world_after}
 use Rattle.dk_model.specs.Stores.{StoreHeader}
 use Rattle.dk_model.specs.Tails.{IsAfterSome, IsAfterSomeOrTail}
-use Rattle.dk_model.specs.Validity.{IsValid}
 use Rattle.dk_model.proofs.Tails.{after_all, after_more}
 use Rattle.dk_journal.specs.declared.journal.Journal.{Journal}
 use Rattle.dk_journal.specs.Recoveries.{Recovering, HeldNeverFalls, IsEither}

@@ -29,10 +29,8 @@ use Rattle.dk_journal.specs.Ranks.{IsBlankBeside}
 use Rattle.dk_journal.specs.Recoveries.{AllRecover, HasImage, HeldNeverFalls, Recovering, RecoverSince, IsEither, IsWorld}
 use Rattle.dk_journal.specs.Refusals.{IsCreateFault}
 use Rattle.dk_journal.specs.Standing.{IsReady, Stands}
-use Rattle.dk_journal.specs.Stores.{HasStore}
-use Rattle.dk_journal.proofs.Recoveries.{all_weakened, recovering_weakened, since_on, held_on}
+use Rattle.dk_journal.proofs.Recoveries.{recovering_weakened, since_on, held_on}
 use Rattle.dk_journal.proofs.Standings.{created, nothing, blank_looks}
-use Rattle.dk_journal.proofs.Stores.{store_recovers}
 use Rattle.dk_checkpoint.specs.Given.{IsGiven}
 use Rattle.dk_checkpoint.proofs.Held.{same_held, now_held}
 use Rattle.dk_recover.specs.Files.{OnlyReads, IsSettledFrom}

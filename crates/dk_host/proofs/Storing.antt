@@ -5,7 +5,6 @@ use Rattle.dk_types.specs.declared.durable.Entry.{Entry}
 use Rattle.dk_types.specs.declared.event.Event.{Event}
 use Rattle.dk_types.specs.declared.event.Event.TheVariants as event
 use Rattle.dk_types.specs.declared.side.Side.{Side}
-use Rattle.dk_types.specs.Faults.{HasRisen}
 use Rattle.dk_disk.specs.Disk.{Disk, settled}
 use Rattle.dk_disk.specs.DiskHistories.{DiskHistory, now, other_side}
 use Rattle.dk_disk.specs.Opening.{Opening, IsOpen}
@@ -37,7 +36,7 @@ use Rattle.dk_core.specs.declared.claimed.Claimed.{Claimed}
 use Rattle.dk_core.specs.declared.prepared.Prepared.{Prepared}
 use Rattle.dk_core.specs.Rooms.{places_of}
 use Rattle.dk_host.specs.Calls.{Stands}
-use Rattle.dk_host.specs.Stores.{IsNextCommit, commit_of, HasRecovered, HoldsNow, HoldsLog, IsKeptOn, IsStored, Stored, Appends, waiting_after, faults_after}
+use Rattle.dk_host.specs.Stores.{IsNextCommit, commit_of, HasRecovered, HoldsNow, HoldsLog, IsKeptOn, IsStored, waiting_after, faults_after}
 use Rattle.dk_host.specs.Logs.{IsOfCommit, AreOfCommits}
 use Rattle.dk_host.proofs.Logged.{log_push, log_on, of_commits_on, of_commits_by, of_commits_push, of_commit_later}
 use Rattle.dk_host.proofs.Nexts.{next_commit, durable_on, prepared_on, tells_on, takes}

@@ -1,5 +1,4 @@
-use Rattle.std.proofs.Common.{◌≡◌, inr, ℕ, List, Ok, Err, sym, ap, subst, ◌∙◌}
-use Rattle.dk_types.specs.declared.durable.Durable.{Durable}
+use Rattle.std.proofs.Common.{◌≡◌, inr, Ok, Err, sym, ap, subst, ◌∙◌}
 use Rattle.dk_types.specs.declared.side.Side.TheVariants.{Zero, One}
 use Rattle.dk_disk.specs.DiskHistories.{DiskHistory, now}
 use Rattle.dk_model.specs.Recovered.{HasDurable}

@@ -1,5 +1,4 @@
-use Rattle.std.proofs.Common.{◌≡◌, ◌≤◌, ◌++◌, ◌-◌, ◌+◌, ℕ, List, length, true, sym, ap, subst, refl, ◌∙◌}
-use Rattle.dk_types.specs.declared.event.Event.{Event}
+use Rattle.std.proofs.Common.{◌≡◌, ◌≤◌, ◌++◌, ◌-◌, ◌+◌, ℕ, true, sym, ap, subst, ◌∙◌}
 use Rattle.dk_model.specs.Legal.{IsLegal}
 use Rattle.dk_host.specs.Keeping.{KeptHistory, new_places}
 use Rattle.dk_host.proofs.KeptEvents.{the_one, told_more, place_here}

@@ -1,4 +1,4 @@
-use Rattle.std.proofs.Common.{◌≡◌, [], ap, subst, ◌∙◌}
+use Rattle.std.proofs.Common.{[], ap, subst, ◌∙◌}
 use Rattle.dk_disk.specs.DiskHistories.{DiskHistory}
 use Rattle.dk_core.specs.Listings.{world_of}
 use Rattle.dk_host.specs.OpenedStores.{StoreOpened}

@@ -1,10 +1,7 @@
-use Rattle.std.proofs.Common.{◌≡◌, ◌+◌, None, Some, Ok, Err, IfOk, sym, ap, subst, ◌∙◌, arith}
+use Rattle.std.proofs.Common.{◌≡◌, None, Some, sym, ap, subst, ◌∙◌, arith}
 use Rattle.dk_types.specs.declared.durable.Durable.{Durable}
-use Rattle.dk_types.specs.declared.side.Side.{Side}
-use Rattle.dk_disk.specs.DiskHistories.{other_side}
 use Rattle.dk_model.specs.Images.{world_lists}
 use Rattle.dk_model.specs.Legal.{world_after}
-use Rattle.dk_journal.specs.declared.journal.Journal.{Journal}
 use Rattle.dk_checkpoint.specs.Refusals.{HasBegun}
 use Rattle.dk_host.specs.Checkpoints.{faults_after}
 use Rattle.dk_host.specs.Stores.{Stored}

@@ -1,4 +1,4 @@
-use Rattle.std.proofs.Common.{◌++◌, [], sym, subst, ◌∙◌}
+use Rattle.std.proofs.Common.{[], sym, subst, ◌∙◌}
 use Rattle.std.proofs.lemmas.List.{append-nil}
 use Rattle.dk_core.specs.Rooms.{HasPlaces}
 use Rattle.dk_host.specs.Books.{IsKept}

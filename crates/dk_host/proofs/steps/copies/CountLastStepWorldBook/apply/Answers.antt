@@ -1,4 +1,4 @@
-use Rattle.std.proofs.Common.{◌++◌, List, [], sym, ap, subst, ◌∙◌}
+use Rattle.std.proofs.Common.{List, [], sym, ap, subst, ◌∙◌}
 use Rattle.std.proofs.lemmas.List.{append-nil}
 use Rattle.dk_types.specs.declared.event.Event.{Event}
 use Rattle.dk_model.specs.Legal.{world_after}
