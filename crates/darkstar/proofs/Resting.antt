@@ -13,7 +13,7 @@ use Rattle.dk_model.specs.Legal.{Opened, IsLegal, opening_of, world_after, pass_
 use Rattle.dk_model.specs.Picks.{runnable}
 use Rattle.dk_model.specs.Worlds.{World}
 use Rattle.dk_laws.proofs.OneWorld.{events_lead, parted}
-use Rattle.dk_turn.specs.Fronts.{Known, own}
+use Rattle.dk_turn.specs.Fronts.{Known}
 use Rattle.dk_host.specs.Calls.{Entered}
 use Rattle.dk_host.specs.Passes.{Enters}
 use Rattle.dk_host.proofs.Entering.{enters_none, enters_one, enters_then}

@@ -10,7 +10,6 @@ use Rattle.dk_host.proofs.Entering.{enters_none, enters_then, enters_as}
 use Rattle.dk_workers.specs.Serving.{HasServed, shift, shifts}
 use Rattle.dk_workers.specs.Workers.{committed, Works}
 use Rattle.dk_workers.specs.declared.working.Ran.{Ran}
-use Rattle.dk_workers.specs.declared.worked.Worked.{Worked}
 use Rattle.dk_workers.specs.declared.worked.Worked.TheVariants as worked
 
 shifts_then : (pass : ℕ) (each : List (List Ran)) (rans : List Ran) → shifts pass (each ++ rans ∷ []) ≡ shifts pass each ++ shift pass rans

@@ -209,17 +209,12 @@ impl<
     T: Gate,
     R: Wait,
 > Helper<'s, 'a, 'n, W, J, M, L, D, C, G, T, R> {
-    // Claims a job and runs it until it is committed. `left` is how often its thread asks for more; where it does not, a worker is
-    // woken for the rest.
-    fn run_next(&mut self, left: u32) -> Result<(), Worked>
+    // Claims a job and runs it until it is committed. Where it is the last for which its thread asks, a worker is woken for the rest.
+    fn run_next(&mut self, is_last: bool) -> Result<(), Worked>
         ensures { IfErr result HasWorkCause }
     {
         let server = self.server;
-        let waking = if left == 0 {
-            Waking::One
-        } else {
-            Waking::Nobody
-        };
+        let waking = if is_last { Waking::One } else { Waking::Nobody };
         self.pass.set_waking(waking);
         work_next(
             server.rt,
@@ -255,8 +250,15 @@ impl<
             if !server.helping.enter() {
                 return;
             }
-            let worked = self.run_next(left);
-            server.helping.leave();
+            let is_last = left == 0;
+            // Behind its last asking this thread does not look for what others left to it, so they can enter from here on.
+            if is_last {
+                server.helping.leave();
+            }
+            let worked = self.run_next(is_last);
+            if !is_last {
+                server.helping.leave();
+            }
             match worked {
                 Ok(()) => {}
                 Err(Worked::Idle) => {
