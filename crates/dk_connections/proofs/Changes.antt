@@ -17,7 +17,7 @@ abbrev pub connection_in : MarkedConnection → Connection
 connection_in l = l.connection
 
 -- a test that is asked twice
-twice : {A : Type 0} (b : Bool) (x y z : A) → cond b x (cond b y z) ≡ cond b x z
+pub twice : {A : Type 0} (b : Bool) (x y z : A) → cond b x (cond b y z) ≡ cond b x z
 twice true x y z = refl
 twice false x y z = refl
 

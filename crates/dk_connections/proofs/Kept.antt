@@ -76,6 +76,16 @@ module _ (all m : FinMap conn_cmp MarkedConnection) (k : ConnNo) (out : m ≡ re
   settled_gone x n e =
       gone_at x (is_done_at (Some x)) ∙ ap (λ o. is_none (get o k)) (sym e) ∙ none_in (get n k) ∙ ap is_none (sym (get_values connection_in n k))
 
+-- what is put is there
+pub put_there : (all n : FinMap conn_cmp MarkedConnection) (k : ConnNo) (x : MarkedConnection) → n ≡ insert all k x → Some x ≡ get n k
+put_there all n k x e = sym (ap (λ m. get m k) e ∙ get-insert conns_total all k x k ∙ ap (λ b. cond b (Some x) (get all k)) (conn_itself k))
+
+-- it was changed where it stands, and is not over with nothing left to hand
+pub alive_altered : (all n : FinMap conn_cmp MarkedConnection) (k : ConnNo) (x : MarkedConnection) → n ≡ insert all k x → is_done_at (Some x) ≡ false → IsAlive all → IsAlive n
+alive_altered all n k x e d a q =
+    ap (λ m. is_done_at (get m q)) e ∙ ap is_done_at (get-insert conns_total all k x q)
+    ∙ elim (eq_by_cmp conn_cmp q k) as (λ b. is_done_at (cond b (Some x) (get all q)) ≡ false) [ true ↦ d | false ↦ a q ]
+
 is_zero : (n : ℕ) → (n == 0) ≡ true → n ≡ 0
 is_zero n e = grind (arith, nat_tests)
 
@@ -107,7 +117,7 @@ module _ (all : FinMap conn_cmp MarkedConnection) (k : ConnNo) (most : ℕ) wher
   none_left h a = sym (ap left (handed_at (get all k) h refl) ∙ left_alive all a)
 
 -- both parts of what is seen are the same
-same_shown : (a b : ConnectionStore) → a.connections ≡ b.connections → a.spare ≡ b.spare → a ≡ b
+pub same_shown : (a b : ConnectionStore) → a.connections ≡ b.connections → a.spare ≡ b.spare → a ≡ b
 same_shown a b e f = λ i. record { connections = e i; spare = f i }
 
 none_spare : (n s : ℕ) (r : Option MarkedConnection) → None ≡ r → n ≡ s + (if is_some r then 1 else 0) → n ≡ s

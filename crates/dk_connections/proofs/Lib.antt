@@ -1,3 +1,4 @@
+pub mod Altered
 pub mod Changes
 pub mod Closings
 pub mod Delivered

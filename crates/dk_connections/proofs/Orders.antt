@@ -1,5 +1,8 @@
 -- The order of places is total, and only equal places tie.
-use Rattle.std.proofs.Common.{ℕ, refl, true, false}
+use Rattle.std.proofs.Common.{◌≡◌, ◌&&◌, not, ℕ, Bool, refl, true, false}
+use Rattle.std.proofs.Math.Bool.{beq}
+use Rattle.std.proofs.Math.Dec.{eqb}
+use Rattle.std.proofs.lemmas.Bool.{eqb-true}
 use Rattle.std.specs.declared.cmp.Ordering.{Ordering}
 use Rattle.std.specs.Ordering.{nat_cmp, bool_cmp, on, then_cmp}
 use Rattle.std.specs.Cmp.{IsTotalOrder, on_total, then_total, nat_cmp_total, bool_cmp_total}
@@ -32,3 +35,24 @@ places_total = then_total (on_total (λ (p : ConnectionRank). p.idle) bool_cmp_t
 
 pub exact_places : IsAntisymmetric place_cmp
 exact_places = then-IsAntisymmetric (λ (p : ConnectionRank). p.idle) (λ (p : ConnectionRank). (p.turn, p.conn)) exact_bools exact_turns (λ x y p q i. record { idle = p i; turn = (q i).0; conn = (q i).1 })
+
+same_bool : (a b : Bool) → beq a b ≡ true → a ≡ b
+same_bool false false e = refl
+same_bool false true e = cc
+same_bool true false e = cc
+same_bool true true e = refl
+
+both : (a b : Bool) → a && b ≡ true → (a ≡ true) × (b ≡ true)
+both false b e = cc
+both true b e = (refl, e)
+
+not_false : (b : Bool) → false ≡ not b → b ≡ true
+not_false false e = cc
+not_false true e = refl
+
+-- where the derived test finds no difference there is none
+pub same_place : (a b : ConnectionRank) → false ≡ not (beq a.idle b.idle && (eqb a.turn b.turn && eqb a.conn.0 b.conn.0)) → a ≡ b
+same_place a b e =
+    let first = both _ _ (not_false _ e) in
+    let rest = both _ _ first.1 in
+    λ i. record { idle = same_bool a.idle b.idle first.0 i; turn = eqb-true a.turn b.turn rest.0 i; conn = record { 0 = eqb-true a.conn.0 b.conn.0 rest.1 i } }

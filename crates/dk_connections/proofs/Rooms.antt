@@ -15,3 +15,9 @@ pub one_in : (a b c d n : ℕ) (x y : Bool) → min a b ≡ n → c + (if x then
 one_in a b c d n true y v e f p q = cc
 one_in a b c d n false true v e f p q = cc
 one_in a b c d n false false v e f p q = omega arith
+
+-- one place out of its tree, and one into it
+pub one_moved : (a b c d e n : ℕ) (x y : Bool) → min a b ≡ n → c ≡ a → d ≡ b + (if x then 1 else 0) → e + (if y then 0 else 1) ≡ d → x ≡ true → y ≡ false → min c e ≡ n
+one_moved a b c d e n true false v f g h p q = omega arith
+one_moved a b c d e n true true v f g h p q = cc
+one_moved a b c d e n false y v f g h p q = cc

@@ -1,4 +1,4 @@
--- The two trees stay in step where a connection is taken out of both, and where one is added to both.
+-- The two trees stay in step where a connection is taken out of both, where one is added to both, and where one is changed.
 use Rattle.std.proofs.Common.{◌≡◌, refl, sym, ap, ◌∙◌, Bool, true, false, cond, List, Option, None, Some, is_some}
 use Rattle.std.specs.Ordering.{is_eq, eq_by_cmp}
 use Rattle.std.specs.Cmp.{tied_itself}
@@ -7,6 +7,7 @@ use Rattle.std.specs.FinMap.Entries.{find-put}
 use Rattle.dk_types.specs.declared.number.ConnNo.{ConnNo}
 use Rattle.dk_map.specs.AsMap.{map_of}
 use Rattle.dk_map.specs.Entries.{find, put, without, IsOrdered}
+use Rattle.dk_map.proofs.Counts.{ordered_put, ordered_without}
 use Rattle.dk_map.proofs.Maps.{find-without}
 use Rattle.dk_map.proofs.Seen.{get_seen}
 use Rattle.dk_model.specs.Keys.{conn_cmp}
@@ -14,7 +15,8 @@ use Rattle.dk_model.proofs.Maps.{conns_total}
 use Rattle.dk_connections.specs.MarkedConnections.{MarkedConnection, is_done_at, IsAlive}
 use Rattle.dk_connections.specs.Places.{place_cmp, place_of, is_placed, IsInStep}
 use Rattle.dk_connections.specs.declared.place.ConnectionRank.{ConnectionRank}
-use Rattle.dk_connections.proofs.Found.{tied, conn_tied, conn_is}
+use Rattle.dk_connections.proofs.Changes.{twice}
+use Rattle.dk_connections.proofs.Found.{tied, conn_tied, conn_is, conn_itself}
 use Rattle.dk_connections.proofs.Orders.{places_total, exact_places}
 
 -- a place of one number is none of another
@@ -118,3 +120,50 @@ module _ (t : List (ConnNo × MarkedConnection)) (p : List (ConnectionRank × Un
       placed = λ q. i.placed q ∙ ap (is_placed q) (sym (none_gone f q.conn)) ∙ ap (λ es. is_placed q (find conn_cmp q.conn es)) (sym e);
       alive = λ j. ap (λ es. is_done_at (find conn_cmp j es)) e ∙ ap is_done_at (none_gone f j) ∙ i.alive j;
     }
+
+-- a connection is changed where it stands, and is not over with nothing left to hand afterwards
+module _ (t : List (ConnNo × MarkedConnection)) (p : List (ConnectionRank × Unit {0})) (i : IsInStep t p) (k : ConnNo) (l x : MarkedConnection) (f : find conn_cmp k t ≡ Some l) (d : is_done_at (Some x) ≡ false) (t' : List (ConnNo × MarkedConnection)) (e : t' ≡ put conn_cmp k x t) (ordered : IsOrdered conn_cmp t') where
+  -- its place is the same
+  pub step_still : place_of k l ≡ place_of k x → IsInStep t' p
+  step_still same = record {
+    ordered = ordered;
+    places_ordered = i.places_ordered;
+    placed = λ q.
+        i.placed q
+        ∙ elim (eq_by_cmp conn_cmp q.conn k) as (λ a. eq_by_cmp conn_cmp q.conn k ≡ a → is_placed q (find conn_cmp q.conn t) ≡ is_placed q (cond a (Some x) (find conn_cmp q.conn t))) [
+          | true ↦ λ a.
+              let key : q.conn ≡ k = conn_tied q.conn k a in
+              ap (is_placed q) (ap (λ j. find conn_cmp j t) key ∙ f) ∙ ap (λ j. eq_by_cmp place_cmp q (place_of j l)) key ∙ ap (eq_by_cmp place_cmp q) same ∙ ap (λ j. eq_by_cmp place_cmp q (place_of j x)) (sym key)
+          | false ↦ λ _. refl
+        ] refl
+        ∙ ap (is_placed q) (sym (find-put conn_cmp conns_total q.conn k x t)) ∙ ap (λ es. is_placed q (find conn_cmp q.conn es)) (sym e);
+    alive = λ j. ap (λ es. is_done_at (find conn_cmp j es)) e ∙ alive_put t p i k x d j;
+  }
+
+  -- to change it is to take it out and to put it in
+  as_put : (j : ConnNo) → find conn_cmp j (put conn_cmp k x (without conn_cmp k t)) ≡ find conn_cmp j t'
+  as_put j =
+      find-put conn_cmp conns_total j k x (without conn_cmp k t) ∙ ap (cond (eq_by_cmp conn_cmp j k) (Some x)) (find-without conns_total t i.ordered k j) ∙ twice (eq_by_cmp conn_cmp j k) (Some x) None (find conn_cmp j t)
+      ∙ sym (find-put conn_cmp conns_total j k x t) ∙ ap (find conn_cmp j) (sym e)
+
+  module _ (less : List (ConnectionRank × Unit {0})) (gone : less ≡ without place_cmp (place_of k l) p) (less_ordered : IsOrdered place_cmp less) where
+    out : IsInStep (without conn_cmp k t) less
+    out = step_out t p i k l _ less (ordered_without conns_total k t i.ordered) less_ordered f refl gone
+
+    none : find conn_cmp k (without conn_cmp k t) ≡ None
+    none = find-without conns_total t i.ordered k k ∙ ap (λ b. cond b None (find conn_cmp k t)) (conn_itself k)
+
+    -- its new place is not there yet
+    pub place_free : is_some (find place_cmp (place_of k x) less) ≡ false
+    place_free = not_placed _ less out k x none
+
+    -- its place is moved
+    pub step_moved : (p' : List (ConnectionRank × Unit {0})) → p' ≡ put place_cmp (place_of k x) tt less → IsOrdered place_cmp p' → IsInStep t' p'
+    step_moved p' more places_ordered =
+        let both = step_in _ less out k x _ p' (ordered_put conns_total k _ out.ordered x) places_ordered none d refl more in
+        record {
+          ordered = ordered;
+          places_ordered = places_ordered;
+          placed = λ q. both.placed q ∙ ap (is_placed q) (as_put q.conn);
+          alive = λ j. ap is_done_at (sym (as_put j)) ∙ both.alive j;
+        }

@@ -1,3 +1,4 @@
+pub mod Altered
 pub mod MarkedConnections
 pub mod Places
 pub mod Posts

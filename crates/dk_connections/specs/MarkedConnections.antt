@@ -100,6 +100,11 @@ abbrev pub HasNoneAt : Option MarkedConnection → Type 0
 HasNoneAt None = ⊥
 HasNoneAt (Some l) = l.connection.outbox ≡ []
 
+-- what was found is not a connection to which nothing more is sent
+abbrev pub IsOnAt : Option MarkedConnection → Type 0
+IsOnAt None = Unit {0}
+IsOnAt (Some l) = l.connection.over ≡ false
+
 -- the connections without those that are over and have nothing left to hand
 abbrev pub left : FinMap conn_cmp MarkedConnection → FinMap conn_cmp MarkedConnection
 left all = retain_keys all (λ conn. not (is_done_at (get all conn)))

@@ -8,7 +8,7 @@ ghost use Rattle.dk_model.specs.Openings.{ended_connection};
 ghost use Rattle.dk_model.specs.Deliveries.{change_connection, without_done};
 ghost use Rattle.dk_model.specs.Events.{is_open_at, outbox_at, put_last};
 ghost use Rattle.dk_model.specs.Picks.{pick_input};
-ghost use Rattle.dk_connections.specs.MarkedConnections.{all_of, change, left, less_first, linked, released, unclaimed, with_turn, HasNoneAt, IsAlive, IsSwept};
+ghost use Rattle.dk_connections.specs.MarkedConnections.{all_of, change, left, less_first, linked, released, unclaimed, with_turn, HasNoneAt, IsAlive, IsOnAt, IsSwept};
 ghost use Rattle.dk_connections.specs.Posts.{PostAnswer};
 ghost use Rattle.dk_connections.specs.Ready.{first_at, job_at, least_ready as least_ready_of, HasConnections, HasInput, IsReadyAt};
 
@@ -146,12 +146,18 @@ impl Connections {
         ensures swept { IsSwept self.new.connections }
         ensures refused { OnErr result (self.new ≡ self.old) }
     {
-        let Some(mut slot) = self.take(conn) else {
-            return Err(PostRefused::Closed);
-        };
-        let posted = slot.post(input);
-        self.add(conn, slot);
-        posted
+        let posted = self.alter(
+            conn,
+            |slot: &mut StoredConnection| -> Result<(), PostRefused>
+                ensures answer { PostAnswer (Some slot.old.connection) input result }
+                ensures put { OnOk result (slot.new ≡ linked (put_last (waits.Input input)) slot.old) }
+                ensures refused { OnErr result (slot.new ≡ slot.old) }
+            { slot.post(input) },
+        );
+        match posted {
+            Some(posted) => posted,
+            None => Err(PostRefused::Closed),
+        }
     }
 
     /// The connection whose first input is to be run next: of those that no claimed run has an input of, the one of the
@@ -191,11 +197,7 @@ impl Connections {
         ensures world { all_of self.new.connections ≡ change_connection conn (λ c. record c { turn = turn }) (all_of self.old.connections) }
         ensures swept { IsSwept self.new.connections }
     {
-        let Some(mut slot) = self.take(conn) else {
-            return;
-        };
-        slot.claim(turn);
-        self.add(conn, slot);
+        self.alter(conn, |slot| slot.claim(turn));
     }
 
     /// No claimed run has a connection's first input any more. It takes no memory.
@@ -204,11 +206,7 @@ impl Connections {
         ensures world { all_of self.new.connections ≡ all_of self.old.connections }
         ensures swept { IsSwept self.new.connections }
     {
-        let Some(mut slot) = self.take(conn) else {
-            return;
-        };
-        slot.release();
-        self.add(conn, slot);
+        self.alter(conn, |slot| slot.release());
     }
 
     /// Whether a connection is there and no message waits for it.
@@ -239,6 +237,48 @@ impl Connections {
                 end: false,
             });
         }
+        if self.is_over(conn) {
+            return self.hand_last(conn, most);
+        }
+        let handed = self.alter(
+            conn,
+            |slot: &mut StoredConnection| -> Result<Listed<Out>, NoMemory>
+                ensures handed { IfOk result (λ outs. outs ≡ take most slot.old.connection.outbox) }
+                ensures left { OnOk result (slot.new ≡ linked (less_first most) slot.old) }
+                ensures refused { OnErr result (slot.new ≡ slot.old) }
+            { slot.hand(most) },
+        );
+        let Some(handed) = handed else {
+            return Ok(Handed {
+                outs: Listed::from_vec(Vec::new(self.alloc)),
+                end: true,
+            });
+        };
+        Ok(Handed {
+            outs: handed?,
+            end: false,
+        })
+    }
+
+    /// Whether a connection is there to which nothing more is sent.
+    fn is_over(&self, conn: ConnNo) -> bool
+        ensures { result ≡ false → IsOnAt (map.get self.now.connections conn) }
+    {
+        match self.slots.get(&conn) {
+            Some(slot) => slot.is_over(),
+            None => false,
+        }
+    }
+
+    /// The same as `hand`, also for a connection that is gone then: it is taken out of both trees.
+    fn hand_last(&mut self, conn: ConnNo, most: u32) -> Result<Handed, NoMemory>
+        ensures handed { IfOk result (λ handed. handed.outs ≡ take most (outbox_at (map.get (all_of self.old.connections) conn))) }
+        ensures linked { OnOk result (self.new.connections ≡ left (change conn (linked (less_first most)) self.old.connections)) }
+        ensures world { OnOk result (all_of self.new.connections ≡ without_done (change_connection conn (λ c. record c { outbox = drop most c.outbox }) (all_of self.old.connections))) }
+        ensures end { IfOk result (λ handed. handed.end ≡ is_none (map.get (all_of self.new.connections) conn)) }
+        ensures swept { IsSwept self.new.connections }
+        ensures refused { OnErr result (self.new ≡ self.old) }
+    {
         let Some(mut slot) = self.take(conn) else {
             return Ok(Handed {
                 outs: Listed::from_vec(Vec::new(self.alloc)),

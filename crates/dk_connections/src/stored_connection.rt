@@ -107,6 +107,13 @@ impl StoredConnection {
         self.over && self.outbox.is_empty()
     }
 
+    /// Whether nothing more is sent to it.
+    pub(crate) fn is_over(&self) -> bool
+        ensures { result ≡ self.now.connection.over }
+    {
+        self.over
+    }
+
     /// Whether no message waits to be handed.
     pub(crate) fn has_none(&self) -> bool
         ensures { result ≡ (length self.now.connection.outbox == 0) }

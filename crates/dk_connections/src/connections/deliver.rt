@@ -6,6 +6,7 @@ ghost use Rattle.dk_connections.specs.MarkedConnections.{all_of, change, change_
 
 use super::Connections;
 use crate::deliveries::Deliveries;
+use crate::stored_connection::StoredConnection;
 use dk_outbox::Ready;
 use dk_types::{ConnNo, Job};
 
@@ -34,11 +35,7 @@ impl Connections {
         let Some(conn) = conn else {
             return;
         };
-        let Some(mut slot) = self.take(conn) else {
-            return;
-        };
-        slot.end_run();
-        self.add(conn, slot);
+        self.alter(conn, |slot| slot.end_run());
     }
 
     /// Puts all messages into outboxes, and gives the connections to which a Close was appended.
@@ -66,12 +63,17 @@ impl Connections {
         ensures answer { result ≡ takes (map.get (all_of self.old.connections) conn) }
         ensures alive { IsAlive self.new.connections }
     {
-        let Some(mut slot) = self.take(conn) else {
-            return false;
-        };
-        let appended = slot.send(ready);
-        self.add(conn, slot);
-        appended
+        let appended = self.alter(
+            conn,
+            |slot: &mut StoredConnection| -> bool
+                ensures sent { slot.new ≡ linked (with_out ready) slot.old }
+                ensures answer { result ≡ takes (Some slot.old.connection) }
+            { slot.send(ready) },
+        );
+        match appended {
+            Some(appended) => appended,
+            None => false,
+        }
     }
 
     /// Closes connections off, each as often as it is named.

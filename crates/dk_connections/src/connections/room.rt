@@ -1,9 +1,13 @@
 // Connections in and out of both trees.
 ghost use Rattle.std.specs.Prelude.{◌≡◌, ◌+◌, ◌<◌, false, None, Some, IfSome, OnOk, OnErr, if◌then◌else◌};
 ghost use Rattle.std.specs.FinMap as map;
-ghost use Rattle.dk_connections.specs.MarkedConnections.{is_done_at, settled, IsAlive};
+ghost use Rattle.std.specs.Fn.{FnOnceReturnsAtMut};
+ghost use Rattle.dk_connections.specs.Altered.{IsAltered};
+ghost use Rattle.dk_connections.specs.MarkedConnections.{MarkedConnection, is_done_at, settled, IsAlive};
+ghost use Rattle.dk_connections.specs.Places.{place_of};
 
 use super::Connections;
+use crate::place::ConnectionRank;
 use crate::stored_connection::StoredConnection;
 use dk_types::{ConnNo, NoMemory};
 
@@ -63,5 +67,39 @@ impl Connections {
         if !slot.is_done() {
             self.add(conn, slot);
         }
+    }
+
+    /// Changes a connection where it stands, if it is there, and gives what the change answers. Its place is moved only where it
+    /// is another then.
+    pub(crate) fn alter<A, F: FnOnce(&mut StoredConnection) -> A>(
+        &mut self,
+        conn: ConnNo,
+        alter: F,
+    ) -> Option<A>
+        requires callable { F.IsAlwaysCallable alter }
+        requires lives { (l x : MarkedConnection) (a : A) → Some l ≡ map.get self.old.connections conn → FnOnceReturnsAtMut F.FnOnce alter l a x → is_done_at (Some l) ≡ false → is_done_at (Some x) ≡ false }
+        ensures altered { IsAltered conn (λ l x a. FnOnceReturnsAtMut F.FnOnce alter l a x) self.old.connections self.new.connections result }
+        ensures spare { self.new.spare ≡ self.old.spare }
+        ensures alive { IsAlive self.old.connections }
+        ensures alive_still { IsAlive self.new.connections }
+    {
+        let (from, to, answer) = self.slots.change(
+            &conn,
+            |slot: &mut StoredConnection| -> (ConnectionRank, ConnectionRank, A)
+                requires { F.IsAlwaysCallable alter }
+                ensures from { result.0 ≡ place_of conn slot.old }
+                ensures to { result.1 ≡ place_of conn slot.new }
+                ensures altered { FnOnceReturnsAtMut F.FnOnce alter slot.old result.2 slot.new }
+            {
+                let from = slot.place(conn);
+                let answer = alter(slot);
+                (from, slot.place(conn), answer)
+            },
+        )?;
+        if from != to {
+            self.places.remove(&from);
+            self.places.insert(to, ());
+        }
+        Some(answer)
     }
 }

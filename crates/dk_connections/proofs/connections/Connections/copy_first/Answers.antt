@@ -1,6 +1,5 @@
-use Rattle.std.proofs.Common.{◌≡◌, Result, IfOk, sym, ap, subst, ◌∙◌, take}
+use Rattle.std.proofs.Common.{◌≡◌, IfOk, sym, ap, subst, ◌∙◌, take}
 use Rattle.std.proofs.Math.Seq.{take-nil}
-use Rattle.dk_types.specs.declared.fault.NoMemory.{NoMemory}
 use Rattle.dk_map.proofs.Seen.{get_seen}
 use Rattle.dk_model.specs.Events.{outbox_at}
 use Rattle.dk_connections.proofs.Kept.{found_in}

@@ -1,10 +1,11 @@
-use Rattle.std.proofs.Common.{refl, sym, ap, ◌∙◌, take, is_none, None}
+use Rattle.std.proofs.Common.{◌≡◌, Some, None, Result, Ok, Err, IfOk, OnOk, OnErr, refl, sym, ap, subst, ◌∙◌, take, is_none}
 use Rattle.std.proofs.Math.Seq.{take-nil}
+use Rattle.std.specs.FinMap.{get, insert}
 use Rattle.dk_model.specs.Deliveries.{without_done}
 use Rattle.dk_model.specs.Events.{outbox_at}
-use Rattle.dk_connections.specs.MarkedConnections.{all_of, less_first, linked}
-use Rattle.dk_connections.proofs.Changes.{all_of-change, all_of-left, swept_alive}
-use Rattle.dk_connections.proofs.Kept.{absent, alive_out, found_in, left_unchanged, none_handed, none_left, none_there, restored, settled_by, settled_gone, swept_none}
+use Rattle.dk_connections.specs.MarkedConnections.{all_of, change, changed_at, left, less_first, linked}
+use Rattle.dk_connections.proofs.Changes.{all_of-change, all_of-left, change_none, left_alive, put_same, swept_alive}
+use Rattle.dk_connections.proofs.Kept.{found_in, none_handed, none_left, none_there, put_there, same_shown}
 use Rattle.dk_connections.proofs.connections.Connections.hand.Goals as goal
 
 pub returns-then-has_none_for-clause-handed : goal.returns-then-has_none_for-clause-handed
@@ -25,50 +26,66 @@ returns-then-has_none_for-clause-end c = none_there _ (c.has_none_for.ensures.no
 pub returns-then-has_none_for-clause-swept : goal.returns-then-has_none_for-clause-swept
 returns-then-has_none_for-clause-swept c = swept_alive _ c.has_none_for.ensures.alive
 
+-- where no connection is there
 pub returns-in_default-clause-handed : goal.returns-in_default-clause-handed
 returns-in_default-clause-handed c =
-    c.from_vec-in_default.ensures ∙ c.new-in_default.ensures.items ∙ sym (take-nil c.args.most) ∙ ap (λ r. take c.args.most (outbox_at r)) (sym (found_in _ c.args.conn _ c.in_default.ensures.found))
+    c.from_vec-in_default.ensures ∙ c.new-in_default.ensures.items ∙ sym (take-nil c.args.most) ∙ ap (λ r. take c.args.most (outbox_at r)) (sym (found_in _ c.args.conn _ c.in_default.ensures.altered.0))
 
 pub returns-in_default-clause-linked : goal.returns-in_default-clause-linked
-returns-in_default-clause-linked c = left_unchanged _ _ c.args.conn c.in_default.ensures.connections (linked (less_first c.args.most)) c.in_default.ensures.found c.in_default.ensures.alive
+returns-in_default-clause-linked c =
+    let h = c.in_default.ensures.altered in
+    h.1 ∙ sym (left_alive _ c.in_default.ensures.alive) ∙ ap left (change_none _ c.args.conn (linked (less_first c.args.most)) h.0)
 
 pub returns-in_default-clause-world : goal.returns-in_default-clause-world
 returns-in_default-clause-world c =
     ap all_of (returns-in_default-clause-linked c) ∙ all_of-left _ ∙ ap without_done (all_of-change _ c.args.conn (linked (less_first c.args.most)) (less_first c.args.most) (λ l. refl))
 
 pub returns-in_default-clause-end : goal.returns-in_default-clause-end
-returns-in_default-clause-end c = sym (ap is_none (found_in _ c.args.conn None (sym (absent _ _ c.args.conn c.in_default.ensures.connections))))
+returns-in_default-clause-end c =
+    let h = c.in_default.ensures.altered in
+    sym (ap is_none (found_in _ c.args.conn None (h.0 ∙ ap (λ m. get m c.args.conn) (sym h.1))))
 
 pub returns-in_default-clause-swept : goal.returns-in_default-clause-swept
-returns-in_default-clause-swept c = swept_none _ _ c.args.conn c.in_default.ensures.connections c.in_default.ensures.found c.in_default.ensures.alive
+returns-in_default-clause-swept c = swept_alive _ c.in_default.ensures.alive_still
 
-pub settle-requires-clause-absent : goal.settle-requires-clause-absent
-settle-requires-clause-absent c = absent _ _ c.args.conn c.in-Some.ensures.connections
+-- where memory was refused
+pub returns-in_err-handed-clause-swept : goal.returns-in_err-handed-clause-swept
+returns-in_err-handed-clause-swept c = swept_alive _ c.in-Some.ensures.alive_still
 
-pub add-requires-clause-absent : goal.add-requires-clause-absent
-add-requires-clause-absent c = absent _ _ c.args.conn c.in-Some.ensures.connections
+held : {A E X : Type 0} → X → (r : Result A E) → OnErr r X
+held x (Ok a) = tt
+held x (Err e) = x
 
-pub returns-in-Ok-clause-handed : goal.returns-in-Ok-clause-handed
-returns-in-Ok-clause-handed c = c.in-Ok.ensures.handed ∙ ap (λ r. take c.args.most (outbox_at r)) (sym (found_in _ c.args.conn _ c.in-Some.ensures.found))
+pub returns-in_err-handed-clause-refused : goal.returns-in_err-handed-clause-refused
+returns-in_err-handed-clause-refused c =
+    let h = c.in-Some.ensures.altered in
+    let old = c.args.self.now.connections in
+    let is = subst (λ r. OnErr r (h.3.left.now ≡ h.3.shown.now)) c.in_err-handed.was h.3.met.1.1 in
+    held (same_shown _ _ (h.4 ∙ ap (insert old c.args.conn) (sym h.3.leaves ∙ is ∙ h.3.shows) ∙ put_same old c.args.conn h.0 h.2) c.in-Some.ensures.spare) c.from_residual.result
 
-pub returns-in-Ok-clause-linked : goal.returns-in-Ok-clause-linked
-returns-in-Ok-clause-linked c =
-    settled_by _ _ c.args.conn c.in-Some.ensures.connections (linked (less_first c.args.most)) c.in-Some.slot _ c.in-Some.ensures.found c.in-Ok.ensures.left _ c.in-Some.ensures.alive c.settle.ensures.connections
+-- where the messages were handed
+pub returns-clause-handed : goal.returns-clause-handed
+returns-clause-handed c =
+    let h = c.in-Some.ensures.altered in
+    let is = subst (λ r. IfOk r (λ outs. outs ≡ take c.args.most h.3.shown.now.connection.outbox)) c.in_ok-handed.was h.3.met.0 in
+    is ∙ ap (λ l. take c.args.most l.connection.outbox) h.3.shows ∙ ap (λ r. take c.args.most (outbox_at r)) (sym (found_in _ c.args.conn (Some h.0) h.2))
 
-pub returns-in-Ok-clause-world : goal.returns-in-Ok-clause-world
-returns-in-Ok-clause-world c =
-    ap all_of (returns-in-Ok-clause-linked c) ∙ all_of-left _ ∙ ap without_done (all_of-change _ c.args.conn (linked (less_first c.args.most)) (less_first c.args.most) (λ l. refl))
+pub returns-clause-linked : goal.returns-clause-linked
+returns-clause-linked c =
+    let h = c.in-Some.ensures.altered in
+    let old = c.args.self.now.connections in
+    let less = linked (less_first c.args.most) in
+    let is = subst (λ r. OnOk r (h.3.left.now ≡ less h.3.shown.now)) c.in_ok-handed.was h.3.met.1.0 in
+    sym (left_alive _ c.in-Some.ensures.alive_still) ∙ ap left (h.4 ∙ ap (insert old c.args.conn) (sym h.3.leaves ∙ is ∙ ap less h.3.shows) ∙ ap (λ r. changed_at r c.args.conn less old) h.2)
 
-pub returns-in-Ok-clause-end : goal.returns-in-Ok-clause-end
-returns-in-Ok-clause-end c = c.is_done-end.ensures ∙ settled_gone _ _ c.args.conn c.in-Some.ensures.connections c.hand.new.self _ c.settle.ensures.connections
+pub returns-clause-world : goal.returns-clause-world
+returns-clause-world c =
+    ap all_of (returns-clause-linked c) ∙ all_of-left _ ∙ ap without_done (all_of-change _ c.args.conn (linked (less_first c.args.most)) (less_first c.args.most) (λ l. refl))
 
-pub returns-in-Ok-clause-swept : goal.returns-in-Ok-clause-swept
-returns-in-Ok-clause-swept c =
-    swept_alive _ (c.settle.ensures.alive (alive_out _ _ c.args.conn c.in-Some.ensures.connections c.in-Some.ensures.alive))
+pub returns-clause-end : goal.returns-clause-end
+returns-clause-end c =
+    let h = c.in-Some.ensures.altered in
+    sym (ap is_none (found_in _ c.args.conn (Some h.1) (put_there c.args.self.now.connections _ c.args.conn h.1 h.4)))
 
-pub returns-in-Err-clause-swept : goal.returns-in-Err-clause-swept
-returns-in-Err-clause-swept c = swept_alive _ c.add.ensures.alive
-
-pub returns-in-Err-clause-refused : goal.returns-in-Err-clause-refused
-returns-in-Err-clause-refused c =
-    restored _ _ c.args.conn c.in-Some.ensures.connections c.in-Some.ensures.spare c.in-Some.slot _ c.in-Some.ensures.found c.in-Err.ensures.refused _ c.add.ensures.connections c.add.ensures.spare
+pub returns-clause-swept : goal.returns-clause-swept
+returns-clause-swept c = swept_alive _ c.in-Some.ensures.alive_still
