@@ -72,7 +72,8 @@ impl Lengths {
 }
 
 /// A home over a runtime's file system. `open` makes the folder, its parents and both files where they
-/// are absent, and puts them on the disk. After a sync that failed each later sync fails too, since the
+/// are absent, and puts them on the disk; it fails where another home, of this program or another, has the
+/// store open. After a sync that failed each later sync fails too, since the
 /// system may have dropped what was written: open the store anew.
 #[derive(Drop)]
 pub struct FolderHome<R: Files<File = File> + Drop> {
@@ -154,7 +155,8 @@ fn shorten(pair: &Pair, lengths: &mut Lengths, side: Side, to: u64) -> io::Resul
     Ok(())
 }
 
-/// Makes what is absent of the folder, its parents and its two files, and puts it on the disk.
+/// Makes what is absent of the folder, its parents and its two files, and puts it on the disk. Of two programs that open the
+/// same store, and write it both, neither would keep what it told: so `store.0` is locked, as long as it is open.
 fn open_pair<R: Files<File = File>>(system: &R, alloc: Global, dir: &str) -> io::Result<Pair> {
     if dir.is_empty() {
         return Err(io::ErrorKind::InvalidInput.into());
@@ -162,6 +164,7 @@ fn open_pair<R: Files<File = File>>(system: &R, alloc: Global, dir: &str) -> io:
     let absent = absent_folders(system, dir);
     fs::create_dir_all(system, dir)?;
     let zero = open_file(system, format!(in alloc; "{dir}/store.0")?.as_str())?;
+    zero.try_lock()?;
     let one = open_file(system, format!(in alloc; "{dir}/store.1")?.as_str())?;
     zero.sync_all()?;
     one.sync_all()?;

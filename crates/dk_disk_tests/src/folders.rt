@@ -10,7 +10,7 @@ use std::alloc::Global;
 use std::fs::{self, File};
 use std::rt::Files;
 
-/// `folder memory`, `folder calls DIR`, `folder keeps DIR`, `folder grows DIR`, `folder syncs DIR`, `folder file PATH`, `folder remove DIR`.
+/// `folder memory`, `folder calls DIR`, `folder keeps DIR`, `folder grows DIR`, `folder syncs DIR`, `folder twice DIR`, `folder file PATH`, `folder remove DIR`.
 pub fn answer<R: Files<File = File> + AllocGlobal + Clone + Drop>(
     alloc: Global,
     rt: &R,
@@ -22,6 +22,7 @@ pub fn answer<R: Files<File = File> + AllocGlobal + Clone + Drop>(
         "keeps" => kept(alloc, rt.clone().ok()?, call.rest()),
         "grows" => grown(alloc, rt, call.word()?),
         "syncs" => synced(alloc, rt.clone().ok()?, call.word()?),
+        "twice" => twice(alloc, rt, call.word()?),
         "file" => file(alloc, rt, call.word()?),
         "remove" => {
             let _ = fs::remove_dir_all(rt, call.word()?);
@@ -170,4 +171,28 @@ fn synced<R: Files<File = File> + Drop>(alloc: Global, system: R, dir: &str) -> 
     let other = home.sync(Side::One).is_ok();
     let again = home.sync(Side::Zero).is_ok();
     format!(in alloc; "{first}, {other} and {again}, {} faults", home.faults()).ok()
+}
+
+/// Opens a folder by one home, by a second one beside it, and by a third once the first is gone: which of them opened it.
+fn twice<R: Files<File = File> + AllocGlobal + Clone + Drop>(
+    alloc: Global,
+    rt: &R,
+    dir: &str,
+) -> Option<String> {
+    let (first, second) = beside(alloc, rt, dir)?;
+    let mut home = FolderHome::new(alloc, rt.clone().ok()?);
+    let third = home.open(dir).is_ok();
+    format!(in alloc; "{first}, {second} and {third}").ok()
+}
+
+/// Whether a home opens a folder, and whether another does so meanwhile.
+fn beside<R: Files<File = File> + AllocGlobal + Clone + Drop>(
+    alloc: Global,
+    rt: &R,
+    dir: &str,
+) -> Option<(bool, bool)> {
+    let mut first = FolderHome::new(alloc, rt.clone().ok()?);
+    let mut second = FolderHome::new(alloc, rt.clone().ok()?);
+    let is_first = first.open(dir).is_ok();
+    Some((is_first, second.open(dir).is_ok()))
 }
