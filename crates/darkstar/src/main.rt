@@ -25,13 +25,15 @@ use dk_types::Words;
 use program::run;
 use ringing::RingingGate;
 use std::alloc::{AllocError, AllocGlobal};
+use std::fs::File;
 use std::io::ErrorKind;
 use std::process::ExitCode;
-use std::rt::Env;
+use std::rt::{Env, Files};
 use std::sync::Arc;
 use std::{env, io};
 
 fn main(rt: HostRuntime) -> ExitCode {
+    let _held = hold_stream_numbers(&rt);
     let system: Result<_, _> = rt.clone();
     let status = match (words(&rt), system, bells(&rt)) {
         (Ok(words), Ok(system), Ok((ours, theirs))) => {
@@ -64,6 +66,17 @@ fn main(rt: HostRuntime) -> ExitCode {
         let _ = eprintln!(rt; "{status}");
     }
     ExitCode::from(status.code())
+}
+
+/// Takes three numbers of open files, for as long as what is given here lives: the system gives the least that are free, which
+/// are those of the standard streams that are closed. A file of the store that got one would be written over by what goes to
+/// that stream. A folder can not be read or written as a file, so a closed stream stays one.
+fn hold_stream_numbers<R: Files<File = File>>(rt: &R) -> [io::Result<File>; 3] {
+    [
+        File::open(rt, "/"),
+        File::open(rt, "/"),
+        File::open(rt, "/"),
+    ]
 }
 
 /// The bells of a server, twice: for whoever rings, and for its links.
