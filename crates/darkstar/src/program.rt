@@ -19,6 +19,7 @@ ghost use Rattle.darkstar.specs.Statuses.{ComesForBadLine, IfBadScript, IsOkOrEn
 ghost use Rattle.darkstar.specs.StressText.{ForStress, stress_text};
 
 use crate::asked::Asked;
+use crate::serve::ServerGate;
 use crate::stress::stress;
 use dk_command::{CommandRefused, parse_command};
 use dk_disk::Home;
@@ -26,7 +27,6 @@ use dk_edge::{Clock, Link, Listener, Sink, Source, Spawner};
 use dk_pump::Tally;
 use dk_status::Status;
 use dk_types::Words;
-use dk_workers::Gate;
 use std::alloc::{AllocGlobal, Global};
 use std::random::RandomSource;
 use std::sync::Wait;
@@ -58,7 +58,7 @@ pub fn run<
     L: Listener<In = I, Out = O, Whole = E> + Send,
     C: Clock + Sync,
     P: Spawner,
-    G: Gate + Sync,
+    G: ServerGate + Sync,
 >(
     rt: &T,
     alloc: Global,

@@ -12,6 +12,7 @@ ghost use Rattle.darkstar.specs.Served.{IsServedOn, IsUnserved, links_of, served
 mod closing;
 mod counting;
 mod crew;
+mod gate;
 mod helping;
 mod running;
 mod server;
@@ -25,7 +26,7 @@ use dk_host::{Hosting, OpenedStore};
 use dk_notice::NoticeBoard;
 use dk_pump::Tally;
 use dk_turn::TurnBuilder;
-use dk_workers::Gate;
+pub use gate::ServerGate;
 use std::alloc::{AllocGlobal, Global};
 use std::marker::Brand;
 use std::random::RandomSource;
@@ -85,7 +86,7 @@ fn serve_on_ledgers<
     C: Clock + Sync,
     P: Spawner,
     G: Game + Sync,
-    T: Gate + Sync,
+    T: ServerGate + Sync,
     R: Threads + Wait + RandomSource + AllocGlobal + Sync,
 >(
     rt: &R,
@@ -139,7 +140,7 @@ pub fn serve_store<
     C: Clock + Sync,
     P: Spawner,
     G: Game + Sync,
-    T: Gate + Sync,
+    T: ServerGate + Sync,
     R: Threads + Wait + RandomSource + AllocGlobal + Sync,
 >(
     rt: &R,

@@ -13,7 +13,7 @@ ghost use Rattle.darkstar.specs.Serves.{HasServedAll, IsServeEnd, IsServedOrLimi
 
 use crate::play_command::unopened_status;
 use crate::program::Ran;
-use crate::serve::{ServeFault, ServeTerms, Served, serve_store};
+use crate::serve::{ServeFault, ServeTerms, Served, ServerGate, serve_store};
 use dk_command::GameName;
 use dk_demos::{Channels, Timer};
 use dk_disk::Home;
@@ -22,7 +22,6 @@ use dk_game::Game;
 use dk_host::open_store;
 use dk_pump::Tally;
 use dk_status::Status;
-use dk_workers::Gate;
 use std::alloc::{AllocGlobal, Global};
 use std::random::RandomSource;
 use std::sync::Wait;
@@ -47,7 +46,7 @@ impl Service {
         L: Listener<In = I, Out = O, Whole = E> + Send,
         C: Clock + Sync,
         P: Spawner,
-        G: Gate + Sync,
+        G: ServerGate + Sync,
     >(
         self,
         rt: &T,
@@ -91,7 +90,7 @@ impl Service {
         L: Listener<In = I, Out = O, Whole = E> + Send,
         C: Clock + Sync,
         P: Spawner,
-        G: Gate + Sync,
+        G: ServerGate + Sync,
     >(
         self,
         rt: &T,
@@ -141,7 +140,7 @@ impl Service {
         L: Listener<In = I, Out = O, Whole = E> + Send,
         C: Clock + Sync,
         P: Spawner,
-        G: Gate + Sync,
+        G: ServerGate + Sync,
     >(
         self,
         rt: &T,
@@ -193,7 +192,7 @@ impl Service {
 }
 
 /// How the program ends after a server.
-fn served_status(outcome: Result<(), ServeFault>) -> Status
+pub(crate) fn served_status(outcome: Result<(), ServeFault>) -> Status
     ensures { result ≡ status_of_serving outcome }
 {
     match outcome {

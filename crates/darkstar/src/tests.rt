@@ -10,6 +10,7 @@ mod serving;
 mod stopping;
 
 use crate::program::run;
+use crate::serve::ServerGate;
 use dk_disk::{MemoryHome, Torn};
 use dk_edge::{
     Clock, FixedClock, Link, Listener, MemoryListener, MemorySink, MemorySource, Sink, Source,
@@ -17,7 +18,7 @@ use dk_edge::{
 };
 use dk_status::Status;
 use dk_types::{NoMemory, Side, Words};
-use dk_workers::{Gate, OpenGate};
+use dk_workers::OpenGate;
 use rows::ROWS;
 use std::alloc::{AllocError, AllocGlobal, Global};
 use std::random::RandomSource;
@@ -136,7 +137,7 @@ fn command<
     O: Sink + Send,
     L: Listener<In = I, Out = O, Whole = E> + Send,
     C: Clock + Sync,
-    G: Gate + Sync,
+    G: ServerGate + Sync,
 >(
     rt: &T,
     words: &str,

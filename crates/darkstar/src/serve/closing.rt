@@ -5,6 +5,7 @@ ghost use Rattle.dk_notice.specs.Notices.{nothing_told, said_on};
 ghost use Rattle.dk_core.specs.Listings.{world_of};
 ghost use Rattle.darkstar.specs.Served.{IsOutcome, IsServedOn, IsSound, IsUnserved, links_of};
 
+use super::gate::ServerGate;
 use super::running::run_server;
 use super::verdict::{Counts, ServeFault, reported};
 use super::{ServeTerms, Served};
@@ -15,7 +16,6 @@ use dk_host::{Host, Hosting, OpenedStore, WorldBook};
 use dk_notice::NoticeBoard;
 use dk_pump::Tally;
 use dk_turn::{Naming, TurnBuilder};
-use dk_workers::Gate;
 use std::alloc::{AllocGlobal, Global};
 use std::random::RandomSource;
 use std::sync::{Wait, ledger};
@@ -51,7 +51,7 @@ pub(crate) fn serve_on_turn<
     C: Clock + Sync,
     P: Spawner,
     G: Game + Sync,
-    T: Gate + Sync,
+    T: ServerGate + Sync,
     R: Threads + Wait + RandomSource + AllocGlobal + Sync,
 >(
     rt: &R,

@@ -3,6 +3,7 @@ ghost use Rattle.std.specs.Prelude.{◌≡◌, ◌+◌, ◌≤◌, IfOk, vec_len
 
 use super::ServeTerms;
 use super::counting::MemberDone;
+use super::gate::ServerGate;
 use super::server::Server;
 use dk_disk::Home;
 use dk_edge::{Activity, Clock, Link, Listener};
@@ -10,7 +11,6 @@ use dk_game::Game;
 use dk_host::{Hosting, WorldBook};
 use dk_pump::{Doorway, LinkCount, Place};
 use dk_turn::{Naming, Pass, Waking};
-use dk_workers::Gate;
 use std::alloc::{AllocError, AllocGlobal, Global};
 use std::random::RandomSource;
 use std::sync::Wait;
@@ -39,7 +39,7 @@ pub(crate) struct Member<
     D: Doorway,
     C: Clock,
     G: Game,
-    T: Gate,
+    T: ServerGate,
     R: Wait,
 > {
     pub(crate) server: &'s Server<'a, 'n, W, J, M, L, D, C, G, T, R>,
@@ -58,7 +58,7 @@ impl<
     D: Doorway,
     C: Clock,
     G: Game,
-    T: Gate,
+    T: ServerGate,
     R: Wait + RandomSource + AllocGlobal,
 > Activity for Member<'s, 'a, 'n, W, J, M, K, L, D, C, G, T, R> {
     type Done = MemberDone<D, K>;

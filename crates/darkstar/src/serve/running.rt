@@ -7,6 +7,7 @@ ghost use Rattle.darkstar.specs.Served.{IsAllServed, IsBoundAt, links_of};
 use super::ServeTerms;
 use super::counting::{Counted, MemberDone, gather, settle};
 use super::crew::{Member, Waiting, roles};
+use super::gate::ServerGate;
 use super::helping::Helping;
 use super::server::Server;
 use super::verdict::Verdict;
@@ -16,7 +17,7 @@ use dk_game::Game;
 use dk_host::{Host, Hosting, WorldBook};
 use dk_pump::{Arrivals, Door, Doorway, LinkCount, Tally};
 use dk_turn::{Naming, Pass};
-use dk_workers::{Gate, drain};
+use dk_workers::drain;
 use std::alloc::{AllocGlobal, Global};
 use std::marker::Brand;
 use std::random::RandomSource;
@@ -57,7 +58,7 @@ fn run_members<
     C: Clock + Sync,
     P: Spawner,
     G: Game + Sync,
-    T: Gate + Sync,
+    T: ServerGate + Sync,
     R: Threads + Wait + RandomSource + AllocGlobal + Sync,
 >(
     server: &Server<'_, '_, W, J, M, L, D, C, G, T, R>,
@@ -100,7 +101,7 @@ fn serve_at_door<
     C: Clock + Sync,
     P: Spawner,
     G: Game + Sync,
-    T: Gate + Sync,
+    T: ServerGate + Sync,
     R: Threads + Wait + RandomSource + AllocGlobal + Sync,
 >(
     rt: &R,
@@ -172,7 +173,7 @@ fn drain_now<
     M: Home + Send,
     C: Clock,
     G: Game + Sync,
-    T: Gate + Sync,
+    T: ServerGate + Sync,
     R: Threads + Wait + Sync,
 >(
     rt: &R,
@@ -204,7 +205,7 @@ pub(crate) fn run_server<
     C: Clock + Sync,
     P: Spawner,
     G: Game + Sync,
-    T: Gate + Sync,
+    T: ServerGate + Sync,
     R: Threads + Wait + RandomSource + AllocGlobal + Sync,
 >(
     rt: &R,

@@ -3,15 +3,16 @@ ghost use Rattle.std.specs.Prelude.{◌≡◌, IfErr};
 ghost use Rattle.darkstar.specs.Served.{HasWorkCause};
 
 use super::counting::MemberDone;
+use super::gate::ServerGate;
 use super::helping::Helping;
 use super::verdict::Verdict;
 use dk_disk::Home;
 use dk_edge::{Clock, Link, Listener};
 use dk_game::Game;
 use dk_host::{Host, Hosting, WorldBook};
-use dk_pump::{Door, Doorway, Help, Place, keep_time};
+use dk_pump::{Door, Doorway, Help, Place, PlaceEnd, keep_time};
 use dk_turn::{Naming, Pass, Waking};
-use dk_workers::{Gate, Worked, serve_jobs, work_next};
+use dk_workers::{Worked, serve_jobs, work_next};
 use std::alloc::{AllocGlobal, Global};
 use std::marker::Model;
 use std::mem;
@@ -33,7 +34,7 @@ pub(crate) struct Server<
     D: Doorway,
     C: Clock,
     G: Game,
-    T: Gate,
+    T: ServerGate,
     R: Wait,
 > {
     pub(crate) rt: &'a R,
@@ -56,7 +57,7 @@ impl<
     D: Doorway,
     C: Clock,
     G: Game,
-    T: Gate,
+    T: ServerGate,
     R: Wait,
 > Model for Server<'a, 'n, W, J, M, L, D, C, G, T, R> {
     ghost use Rattle.std.specs.Prelude.{◌≡◌};
@@ -78,7 +79,7 @@ impl<
     D: Doorway,
     C: Clock,
     G: Game,
-    T: Gate,
+    T: ServerGate,
     R: Wait,
 > Server<'a, 'n, W, J, M, L, D, C, G, T, R> {
     /// Ticks until the server is ending.
@@ -97,6 +98,7 @@ impl<
                 Verdict::no_memory()
             }
         };
+        self.tell(&verdict);
         MemberDone {
             verdict,
             count: None,
@@ -119,9 +121,18 @@ impl<
             number,
             self.door.ending(),
         );
+        let verdict = Verdict::of_worker(worked);
+        self.tell(&verdict);
         MemberDone {
-            verdict: Verdict::of_worker(worked),
+            verdict,
             count: None,
+        }
+    }
+
+    // Tells the gate of a fault that ends the workers.
+    fn tell(&self, verdict: &Verdict) {
+        if let Some(fault) = verdict.fault() {
+            self.gate.give_up(fault);
         }
     }
 }
@@ -137,7 +148,7 @@ impl<
     D: Doorway,
     C: Clock,
     G: Game,
-    T: Gate,
+    T: ServerGate,
     R: Wait + RandomSource + AllocGlobal,
 > Server<'a, 'n, W, J, M, L, D, C, G, T, R> {
     /// Serves sessions, as long as there are links for them, and runs jobs between, by a pass of their own.
@@ -159,9 +170,13 @@ impl<
         } = helper;
         match served {
             Some(done) => {
+                let end = Verdict::of_place(done.end);
+                if let PlaceEnd::Exhausted { .. } = done.end {
+                    self.tell(&end);
+                }
                 let (_, count) = done.place.into_parts();
                 MemberDone {
-                    verdict: verdict.or(Verdict::of_place(done.end)),
+                    verdict: verdict.or(end),
                     count: Some(count),
                 }
             }
@@ -186,7 +201,7 @@ struct Helper<
     D: Doorway,
     C: Clock,
     G: Game,
-    T: Gate,
+    T: ServerGate,
     R: Wait,
 > {
     server: &'s Server<'a, 'n, W, J, M, L, D, C, G, T, R>,
@@ -206,7 +221,7 @@ impl<
     D: Doorway,
     C: Clock,
     G: Game,
-    T: Gate,
+    T: ServerGate,
     R: Wait,
 > Helper<'s, 'a, 'n, W, J, M, L, D, C, G, T, R> {
     // Claims a job and runs it until it is committed. Where it is the last for which its thread asks, a worker is woken for the rest.
@@ -239,7 +254,7 @@ impl<
     D: Doorway,
     C: Clock,
     G: Game,
-    T: Gate,
+    T: ServerGate,
     R: Wait,
 > Help for Helper<'s, 'a, 'n, W, J, M, L, D, C, G, T, R> {
     /// Runs some jobs, as long as there are any. Where another thread is at it, that goes on with what this one would run.
@@ -268,9 +283,11 @@ impl<
                     }
                 }
                 Err(end) => {
-                    let first = mem::replace(&mut self.verdict, Verdict::good());
-                    self.verdict = first.or(Verdict::of_worker(end));
                     server.door.end();
+                    let verdict = Verdict::of_worker(end);
+                    server.tell(&verdict);
+                    let first = mem::replace(&mut self.verdict, Verdict::good());
+                    self.verdict = first.or(verdict);
                     return;
                 }
             }

@@ -1,6 +1,7 @@
 //! Two workers that meet: a play by the top call whose gate holds a run before its commit until another run is committed.
 
 use super::{Files, SOUND, command};
+use crate::serve::ServerGate;
 use dk_edge::{FixedClock, MemoryListener};
 use dk_status::Status;
 use dk_types::RunNo;
@@ -61,6 +62,8 @@ impl Gate for MeetingGate {
         }
     }
 }
+
+impl ServerGate for MeetingGate {}
 
 #[test]
 fn workers_meet(rt: HostRuntime) -> Result<(), Fail> {

@@ -3,6 +3,7 @@ ghost use Rattle.std.specs.Prelude.{◌≡◌, false};
 ghost use Rattle.dk_edge.specs.Listening.{listening_at};
 
 use super::{Files, SOUND, command};
+use crate::serve::ServerGate;
 use dk_edge::{
     Bells, Binding, Clock, FixedClock, Listener, MemoryLink, MemorySink, MemorySource, TcpListen,
 };
@@ -89,6 +90,8 @@ impl Gate for CommitCount {
         self.commits.fetch_add(1, Ordering::SeqCst);
     }
 }
+
+impl ServerGate for CommitCount {}
 
 /// A listener to which nobody comes. It says so once a gate has heard of a second commit, or it has looked often.
 #[derive(Drop)]
