@@ -6,7 +6,7 @@ use dk_workers::{Gate, OpenGate};
 /// A gate of a server.
 pub trait ServerGate: Gate {
     /// Comes when a fault has ended whoever runs jobs. From then on no session is answered, and none ends whose end is still
-    /// to be run. What it does may be a stop of the program, which the store stands as any other.
+    /// to be run.
     fn give_up(&self, _fault: ServeFault) {}
 }
 
