@@ -56,6 +56,12 @@ pub trait Link {
         ensures take { (remaining self.new ≡ remaining self.old) × (take_counted self.new ≡ take_counted self.old) }
         ensures put { (contents self.new ≡ contents self.old) × (put_counted self.new ≡ put_counted self.old) };
 
+    /// Nothing is left to take, and nothing to put: it may wait a little, for what the connection still gives.
+    fn rest(&mut self)
+        ensures take { (remaining self.new ≡ remaining self.old) × (take_counted self.new ≡ take_counted self.old) }
+        ensures put { (contents self.new ≡ contents self.old) × (put_counted self.new ≡ put_counted self.old) }
+    {}
+
     /// How often taking has failed.
     fn take_faults(&self) -> u64
         ensures { result ≡ take_counted self.now };

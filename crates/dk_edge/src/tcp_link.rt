@@ -23,6 +23,9 @@ const LEAST_QUICK_POLLS_COUNT: u64 = 2;
 /// How long a stream or a bell is waited for at most, in ms.
 const WAIT_MS: u64 = 1_000;
 
+/// How long where nothing more is taken, in ms: the run of a connection's end rings no bell.
+const ENDED_WAIT_MS: u64 = 10;
+
 /// The tokens of the stream and of the bell.
 const STREAM: Token = Token(0);
 
@@ -95,13 +98,13 @@ impl<S: Read + Write + OpenStream + AsRawFd + Drop> TcpLink<S> {
 
     // Behind some polls that found nothing, waits a little for the stream or the bell. From the last of these polls on the
     // bell is rung, so that what came before it is found by the next.
-    fn rest(&mut self)
+    fn rest_for(&mut self, most_ms: u64)
         ensures take { self.new.take_faults.count ≡ self.old.take_faults.count }
         ensures put { self.new.put_faults.count ≡ self.old.put_faults.count }
     {
         self.idle = self.idle.saturating_add(1);
         if self.awaits {
-            self.sleep();
+            self.sleep(most_ms);
         } else if self.idle >= self.quick_polls() {
             self.awaits = true;
             self.bell.await_ring();
@@ -109,11 +112,11 @@ impl<S: Read + Write + OpenStream + AsRawFd + Drop> TcpLink<S> {
     }
 
     // Waits a little for the stream or the bell.
-    fn sleep(&mut self)
+    fn sleep(&mut self, most_ms: u64)
         ensures take { self.new.take_faults.count ≡ self.old.take_faults.count }
         ensures put { self.new.put_faults.count ≡ self.old.put_faults.count }
     {
-        let most = Some(Duration::from_millis(WAIT_MS));
+        let most = Some(Duration::from_millis(most_ms));
         // Where the system refuses to wait, the next poll comes at once.
         if self.ready.poll(&mut self.events, most).is_err() {
             self.drained = false;
@@ -159,7 +162,7 @@ impl<S: Read + Write + OpenStream + AsRawFd + Drop> Link for TcpLink<S> {
     ) -> Poll<Result<usize, Failed>> {
         // Among many that are awake a stream that was drained is not asked again before it tells of more.
         if self.drained && self.quick_polls() == LEAST_QUICK_POLLS_COUNT {
-            self.rest();
+            self.rest_for(WAIT_MS);
             if self.drained {
                 return context.yield_now();
             }
@@ -172,7 +175,7 @@ impl<S: Read + Write + OpenStream + AsRawFd + Drop> Link for TcpLink<S> {
             }
             Err(error) if is_passing(error.kind()) => {
                 self.drained = error.kind() == ErrorKind::WouldBlock;
-                self.rest();
+                self.rest_for(WAIT_MS);
                 context.yield_now()
             }
             Err(_) => {
@@ -201,6 +204,10 @@ impl<S: Read + Write + OpenStream + AsRawFd + Drop> Link for TcpLink<S> {
 
     fn belong_to(&mut self, conn: ConnNo) {
         self.bell.name(conn);
+    }
+
+    fn rest(&mut self) {
+        self.rest_for(ENDED_WAIT_MS);
     }
 
     fn take_faults(&self) -> u64 {

@@ -67,6 +67,13 @@ impl<K: Link + Drop> Watched<K> {
         self.link.belong_to(conn);
     }
 
+    /// As the link's.
+    pub(crate) fn rest(&mut self)
+        ensures { self.new ≡ self.old }
+    {
+        self.link.rest();
+    }
+
     /// As the link's poll.
     pub(crate) fn poll_take(
         &mut self,
