@@ -90,6 +90,17 @@ impl<'h, W: Hosting, J: Naming, M: Home, R: Wait, K: Link + Drop> SessionFuture<
             None => false,
         }
     }
+
+    /// Rests the link of a session that is read no more, for which no take waits.
+    pub(crate) fn rest(&mut self)
+        ensures { self.new ≡ self.old }
+    {
+        if let Some(underway) = &mut self.underway {
+            if underway.session.course.end.is_some() {
+                underway.session.link.rest();
+            }
+        }
+    }
 }
 
 impl<W: Hosting, J: Naming, M: Home, R: Wait, K: Link + Drop> Future

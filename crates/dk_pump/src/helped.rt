@@ -78,6 +78,8 @@ impl<W: Hosting, J: Naming, M: Home, H: Help, R: Wait, K: Link + Drop> Future
             Poll::Pending => {
                 if self.session.take_entered() {
                     self.help.help();
+                } else {
+                    self.session.rest();
                 }
                 Poll::Pending
             }

@@ -65,10 +65,6 @@ impl<W: Hosting, J: Naming, K: Link + Drop> Session<W, J, K> {
             let wrote = self.write_on(rt, host, context);
             let read = self.read_on(rt, host, context);
             if wrote.is_pending() && read.is_pending() {
-                // A link that is read no more is not waited for by a take. What was entered is helped with first.
-                if self.course.end.is_some() && !self.entered {
-                    self.link.rest();
-                }
                 return Poll::Pending;
             }
         }
