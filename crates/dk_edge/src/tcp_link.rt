@@ -26,6 +26,9 @@ const WAIT_MS: u64 = 1_000;
 /// How long where nothing more is taken, in ms: the run of a connection's end rings no bell.
 const ENDED_WAIT_MS: u64 = 10;
 
+/// How many waits for a stream may find nothing, in all, before its first login: about ten seconds.
+const SILENT_WAITS_COUNT: u64 = 10;
+
 /// The tokens of the stream and of the bell.
 const STREAM: Token = Token(0);
 
@@ -34,9 +37,32 @@ const BELL: Token = Token(1);
 /// How many events one wait takes.
 const EVENTS_COUNT: usize = 2;
 
+/// What the system says of a stream and of a bell. It is made before its stream comes, so that a connection for which the
+/// process may open no more files is left waiting.
+#[derive(Drop)]
+pub(crate) struct Readiness {
+    ready: mio::Poll,
+    events: Events,
+    waker: Waker,
+}
+
+impl Readiness {
+    pub(crate) fn new<R: Net + Wait>(rt: &R, alloc: Global) -> io::Result<Readiness> {
+        let ready = mio::Poll::new(rt)?;
+        let events = Events::with_capacity(alloc, EVENTS_COUNT)?;
+        let waker = Waker::new(ready.registry(), BELL)?;
+        Ok(Readiness {
+            ready,
+            events,
+            waker,
+        })
+    }
+}
+
 /// A link over a stream of the system that was set not to block. It tells nothing of its bytes. A poll that finds the stream
 /// not ready asks for another poll; where some in a row found nothing to take and put nothing, a poll first waits for the
-/// stream or the link's bell, so that an idle link costs almost nothing and is woken at once.
+/// stream or the link's bell, so that an idle link costs almost nothing and is woken at once. A stream that is silent for some
+/// ten seconds before it belongs to a connection has ended for who takes from it, so that it keeps no other out.
 #[derive(Drop)]
 pub struct TcpLink<S: Read + Write + OpenStream + AsRawFd + Drop> {
     stream: S,
@@ -49,6 +75,10 @@ pub struct TcpLink<S: Read + Write + OpenStream + AsRawFd + Drop> {
     drained: bool,
     // Whether the bell is rung, and the next poll that finds nothing sleeps.
     awaits: bool,
+    // How many waits for the stream found nothing.
+    silent: u64,
+    // Whether it belongs to a connection.
+    is_named: bool,
     take_faults: FaultCount,
     put_faults: FaultCount,
 }
@@ -57,30 +87,35 @@ impl<S: Read + Write + OpenStream + AsRawFd + Drop> TcpLink<S> {
     /// A link over this connection, which was set not to block, with one of these bells.
     pub(crate) fn new<R: Net + Wait>(
         rt: &R,
-        alloc: Global,
+        readiness: Readiness,
         bells: Arc<Bells>,
         stream: S,
     ) -> io::Result<TcpLink<S>>
         ensures take { IfOk result (λ link. link.take_faults.count ≡ 0) }
         ensures put { IfOk result (λ link. link.put_faults.count ≡ 0) }
     {
-        let ready = mio::Poll::new(rt)?;
+        let Readiness {
+            ready,
+            events,
+            waker,
+        } = readiness;
         let both = Interest::READABLE | Interest::WRITABLE;
         ready
             .registry()
             .register(&mut SourceFd(&stream.as_raw_fd()), STREAM, both)?;
-        let waker = Waker::new(ready.registry(), BELL)?;
         let Some(bell) = HungBell::hang(rt, bells, waker) else {
             return Err(io::Error::from(ErrorKind::OutOfMemory));
         };
         Ok(TcpLink {
             stream,
             ready,
-            events: Events::with_capacity(alloc, EVENTS_COUNT)?,
+            events,
             bell,
             idle: 0,
             drained: false,
             awaits: false,
+            silent: 0,
+            is_named: false,
             take_faults: FaultCount::new(),
             put_faults: FaultCount::new(),
         })
@@ -124,6 +159,7 @@ impl<S: Read + Write + OpenStream + AsRawFd + Drop> TcpLink<S> {
         }
         // Who was woken has something to do, which is not waited for.
         if self.events.is_empty() {
+            self.silent = self.silent.saturating_add(1);
             self.drained = false;
             return;
         }
@@ -160,6 +196,10 @@ impl<S: Read + Write + OpenStream + AsRawFd + Drop> Link for TcpLink<S> {
         context: &mut Context<'_>,
         into: &mut [u8],
     ) -> Poll<Result<usize, Failed>> {
+        // Who is still silent and has not logged in is waited for no longer.
+        if !self.is_named && self.silent >= SILENT_WAITS_COUNT {
+            return Poll::Ready(Ok(0));
+        }
         // Among many that are awake a stream that was drained is not asked again before it tells of more.
         if self.drained && self.quick_polls() == LEAST_QUICK_POLLS_COUNT {
             self.rest_for(WAIT_MS);
@@ -203,6 +243,7 @@ impl<S: Read + Write + OpenStream + AsRawFd + Drop> Link for TcpLink<S> {
     }
 
     fn belong_to(&mut self, conn: ConnNo) {
+        self.is_named = true;
         self.bell.name(conn);
     }
 

@@ -6,13 +6,20 @@ ghost use Rattle.dk_edge.specs.Listening.{listening_at};
 use crate::bells::Bells;
 use crate::listener::{Binding, Listener};
 use crate::std_streams::{StdSink, StdSource};
-use crate::tcp_link::TcpLink;
+use crate::tcp_link::{Readiness, TcpLink};
 use dk_types::limits::NUMBERS_END;
 use dk_types::{Failed, FaultCount};
 use std::alloc::Global;
-use std::io;
 use std::net::{Ipv4Addr, Net, OpenListener, OpenStream, TcpListener};
 use std::sync::{Arc, Wait};
+use std::time::{Clock, Duration};
+use std::{io, thread};
+
+/// How often a connection is asked for at most, where the system refuses it or it ends before it is a link.
+const TRIES_COUNT: u64 = 600;
+
+/// How long the next try waits, in ms.
+const PAUSE_MS: u64 = 100;
 
 /// A source over one handle of a connection.
 pub type TcpSource<S> = StdSource<S>;
@@ -20,9 +27,11 @@ pub type TcpSource<S> = StdSource<S>;
 /// A sink over another handle of it.
 pub type TcpSink<S> = StdSink<S>;
 
-/// Listens at a port of 127.0.0.1. It gives links for as long as they come, up to 2^62 of them. Each link has a bell.
+/// Listens at a port of 127.0.0.1. It gives links for as long as they come, up to 2^62 of them. Each link has a bell. A
+/// connection that ends before it is a link is let go of, and one for which the process may open no more files waits until
+/// others have ended; a minute in which the system gives none is a fault.
 #[derive(Drop)]
-pub struct TcpListen<'a, R: Net + Wait> {
+pub struct TcpListen<'a, R: Net + Wait + Clock> {
     rt: &'a R,
     alloc: Global,
     bells: Arc<Bells>,
@@ -34,7 +43,7 @@ pub struct TcpListen<'a, R: Net + Wait> {
     ghost few: { given ≤ NUMBERS_END },
 }
 
-impl<'a, R: Net + Wait> TcpListen<'a, R> {
+impl<'a, R: Net + Wait + Clock> TcpListen<'a, R> {
     /// A listener of this runtime's system, which does not listen yet.
     pub fn new(rt: &'a R, alloc: Global, bells: Arc<Bells>) -> TcpListen<'a, R>
         ensures binding { result.binding ≡ Binding.NotCalled }
@@ -73,15 +82,29 @@ impl<'a, R: Net + Wait> TcpListen<'a, R> {
     fn next_whole(&self) -> io::Result<TcpLink<R::Stream>>
         ensures fresh { IfOk result (λ link. (link.take_faults.count ≡ 0) × (link.put_faults.count ≡ 0)) }
     {
+        let readiness = Readiness::new(self.rt, self.alloc)?;
         let stream = self.next()?;
         stream.set_nodelay(true)?;
         stream.set_nonblocking(true)?;
         let bells = Arc::try_clone(&self.bells)?;
-        TcpLink::new(self.rt, self.alloc, bells, stream)
+        TcpLink::new(self.rt, readiness, bells, stream)
+    }
+
+    // The next connection that becomes a link, within some tries.
+    fn next_of_tries(&self) -> io::Result<TcpLink<R::Stream>>
+        ensures fresh { IfOk result (λ link. (link.take_faults.count ≡ 0) × (link.put_faults.count ≡ 0)) }
+    {
+        for _ in 1..TRIES_COUNT {
+            if let Ok(link) = self.next_whole() {
+                return Ok(link);
+            }
+            thread::sleep(self.rt, Duration::from_millis(PAUSE_MS));
+        }
+        self.next_whole()
     }
 }
 
-impl<'a, R: Net + Wait> Listener for TcpListen<'a, R> {
+impl<'a, R: Net + Wait + Clock> Listener for TcpListen<'a, R> {
     type In = TcpSource<R::Stream>;
 
     type Out = TcpSink<R::Stream>;
@@ -125,7 +148,7 @@ impl<'a, R: Net + Wait> Listener for TcpListen<'a, R> {
             self.ended = true;
             return Ok(None);
         }
-        let Ok(link) = self.next_whole() else {
+        let Ok(link) = self.next_of_tries() else {
             self.faults.rise();
             return Err(Failed);
         };
