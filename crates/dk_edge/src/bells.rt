@@ -52,6 +52,13 @@ impl Bell {
             .compare_exchange(FREE, UNNAMED, Ordering::SeqCst, Ordering::SeqCst)
             .is_ok()
     }
+
+    // Lets go of what wakes its thread, which is an open file. Where somebody rings it at this moment, who takes it next does.
+    fn silence(&self) {
+        if let Some(mut waker) = self.waker.try_lock() {
+            *waker = None;
+        }
+    }
 }
 
 /// The bells of a server.
@@ -189,6 +196,7 @@ impl Drop for HungBell {
             if !bell.awaited.swap(false, Ordering::SeqCst) {
                 bells.awake.fetch_sub(1, Ordering::SeqCst);
             }
+            bell.silence();
             bell.conn.store(FREE, Ordering::SeqCst);
         }
     }

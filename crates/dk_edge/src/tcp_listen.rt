@@ -10,16 +10,26 @@ use crate::tcp_link::{Readiness, TcpLink};
 use dk_types::limits::NUMBERS_END;
 use dk_types::{Failed, FaultCount};
 use std::alloc::Global;
+use std::io::{self, ErrorKind};
 use std::net::{Ipv4Addr, Net, OpenListener, OpenStream, TcpListener};
 use std::sync::{Arc, Wait};
+use std::thread;
 use std::time::{Clock, Duration};
-use std::{io, thread};
 
-/// How often a connection is asked for at most, where the system refuses it or it ends before it is a link.
-const TRIES_COUNT: u64 = 600;
+/// How many connections the system may refuse before one becomes a link, besides those that wait for room.
+const MOST_REFUSED_COUNT: u64 = 600;
 
 /// How long the next try waits, in ms.
 const PAUSE_MS: u64 = 100;
+
+/// What the system answers where all of its programs together may open no more files (`ENFILE`).
+const SYSTEM_FILES_SPENT: i32 = 23;
+
+/// Where the process may open no more (`EMFILE`).
+const PROCESS_FILES_SPENT: i32 = 24;
+
+/// Where it has no room for a connection (`ENOBUFS`).
+const BUFFERS_SPENT: i32 = 105;
 
 /// A source over one handle of a connection.
 pub type TcpSource<S> = StdSource<S>;
@@ -28,8 +38,9 @@ pub type TcpSource<S> = StdSource<S>;
 pub type TcpSink<S> = StdSink<S>;
 
 /// Listens at a port of 127.0.0.1. It gives links for as long as they come, up to 2^62 of them. Each link has a bell. A
-/// connection that ends before it is a link is let go of, and one for which the process may open no more files waits until
-/// others have ended; a minute in which the system gives none is a fault.
+/// connection that ends before it is a link is let go of, and one for which there are no more files or no memory waits until
+/// others have ended, for as long as that takes. It fails where for a minute the system has refused it otherwise, or before any
+/// other was given.
 #[derive(Drop)]
 pub struct TcpListen<'a, R: Net + Wait + Clock> {
     rt: &'a R,
@@ -90,17 +101,30 @@ impl<'a, R: Net + Wait + Clock> TcpListen<'a, R> {
         TcpLink::new(self.rt, readiness, bells, stream)
     }
 
-    // The next connection that becomes a link, within some tries.
-    fn next_of_tries(&self) -> io::Result<TcpLink<R::Stream>>
+    // The next connection that becomes a link. It is asked for as long as only room for it is wanting that others' ends give
+    // back, and where the system refuses it otherwise some times.
+    fn next_link(&self) -> io::Result<TcpLink<R::Stream>>
         ensures fresh { IfOk result (λ link. (link.take_faults.count ≡ 0) × (link.put_faults.count ≡ 0)) }
     {
-        for _ in 1..TRIES_COUNT {
-            if let Ok(link) = self.next_whole() {
-                return Ok(link);
+        let mut refused: u64 = 0;
+        for _ in self.rt.forever() {
+            match self.next_whole() {
+                Ok(link) => return Ok(link),
+                Err(error) if self.given > 0 && wants_room(&error) => {}
+                Err(error) if refused >= MOST_REFUSED_COUNT => return Err(error),
+                Err(_) => refused = refused.saturating_add(1),
             }
             thread::sleep(self.rt, Duration::from_millis(PAUSE_MS));
         }
-        self.next_whole()
+        unreachable!()
+    }
+}
+
+// Whether the system gave nothing for want of files or of memory, of which there are more when others have ended.
+fn wants_room(error: &io::Error) -> bool {
+    match error.raw_os_error() {
+        Some(SYSTEM_FILES_SPENT | PROCESS_FILES_SPENT | BUFFERS_SPENT) => true,
+        _ => error.kind() == ErrorKind::OutOfMemory,
     }
 }
 
@@ -148,7 +172,7 @@ impl<'a, R: Net + Wait + Clock> Listener for TcpListen<'a, R> {
             self.ended = true;
             return Ok(None);
         }
-        let Ok(link) = self.next_of_tries() else {
+        let Ok(link) = self.next_link() else {
             self.faults.rise();
             return Err(Failed);
         };
