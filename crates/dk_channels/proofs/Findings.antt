@@ -6,8 +6,6 @@ use Rattle.std.specs.Result.{IsErrAnd, IfErr}
 use Rattle.std.proofs.lemmas.Result.{IfErr-weaker}
 use Rattle.dk_types.specs.declared.number.ObjectId.{ObjectId}
 use Rattle.dk_types.specs.declared.job.Session.{Session}
-use Rattle.dk_types.specs.declared.item.Item.{Item}
-use Rattle.dk_types.specs.declared.item.Read.{Read}
 use Rattle.dk_types.specs.declared.fault.AppFault.TheVariants.{Refused}
 use Rattle.dk_types.specs.declared.mode.Mode.{Mode}
 use Rattle.dk_model.specs.declared.records.SessionRecord.{SessionRecord}
@@ -66,11 +64,7 @@ module _ {S : Type 0} {sights : Sights S} where
       → Does sights refusal_fault a b f (Err e) → TellsFound sort before b.set found e
   found_never {a = a} {b = b} k sort before found number never p n is d agrees = absurd (never (current a.set d) (current b.set d) (p.does (Err (Refused k)) (ap (λ (h : Refusal). failure (refusal_fault h)) is ∙ ap failure (number n)) d agrees))
 
-  -- one that is none over a kind, or none over a length, and is passed on
-  pub kind_unfound : {a b : Txn S ReadsAndWrites} {A B : Type 0} {f : Act A} {e : Refusal} (r : Result B Refusal) (before : ReadsAndWrites) (found : DurableWorld → Option ℕ) → Avoids 3 f
-      → Does sights refusal_fault a b f (Err e) → IsErrAnd r (λ h. h ≡ e) → IfErr r (TellsFound refusal.WrongKind before b.set found)
-  kind_unfound {b = b} {e = e} r before found never p is = passed (TellsFound refusal.WrongKind before b.set found) e r is (found_never 3 refusal.WrongKind before found (λ n. refl) never p)
-
+  -- one that is none over a length, and is passed on
   pub length_unfound : {a b : Txn S ReadsAndWrites} {A B : Type 0} {f : Act A} {e : Refusal} (r : Result B Refusal) (before : ReadsAndWrites) (found : DurableWorld → Option ℕ) → Avoids 4 f
       → Does sights refusal_fault a b f (Err e) → IsErrAnd r (λ h. h ≡ e) → IfErr r (TellsFound refusal.TooLong before b.set found)
   length_unfound {b = b} {e = e} r before found never p is = passed (TellsFound refusal.TooLong before b.set found) e r is (found_never 4 refusal.TooLong before found (λ n. refl) never p)

@@ -13,11 +13,11 @@ use Rattle.dk_model.specs.Recovered.{HasWorld, HasDurable, file_on}
 use Rattle.dk_journal.specs.Moments.{Runs}
 use Rattle.dk_journal.specs.Ranks.{IsLesser}
 use Rattle.dk_journal.specs.Recoveries.{Recovering, IsEither, IsWorld, HeldNeverFalls}
-use Rattle.dk_journal.specs.Stores.{HasStore, AreSettled}
+use Rattle.dk_journal.specs.Stores.{HasStore}
 use Rattle.dk_journal.specs.declared.journal.Journal.{Journal}
 use Rattle.dk_journal.proofs.Seen.{live}
 use Rattle.dk_journal.proofs.Standings.{holding, image_on, other_file, blank_looks}
-use Rattle.dk_journal.proofs.Stores.{twice, both_sides, store_recovers}
+use Rattle.dk_journal.proofs.Stores.{twice, store_recovers}
 use Rattle.dk_image.proofs.ValidWorlds.{valid_spells}
 use Rattle.dk_checkpoint.specs.Given.{IsGiven, IsReplacing, next_header, behind_gate, only_image}
 use Rattle.dk_journal.proofs.Recoveries.{recovering_weakened}
@@ -36,12 +36,6 @@ left_alone side other P old new is run t from to =
 
 pub no_time : (side : Side) (past : DiskHistory) (t : ℕ) → past.clock ≤ t → t ≤ past.clock → past.disks t side ≡ now past side
 no_time side past t from to = ap (λ k. past.disks k side) (omega (arith, from, to))
-
--- nothing is pending once it is made
-pub settled_after : (side : Side) (P : Disk → Type 0) (old new : DiskHistory) (file : List ℕ) → AreSettled old → Runs side P old new → now new side ≡ settled file → AreSettled new
-settled_after side P old new file were run is =
-    let same = stays_other side P old new run in
-    both_sides (λ s. now new s ≡ settled (now new s).reads) side (is ∙ ap (λ (d : Disk). settled d.reads) (sym is)) (same ∙ were (other_side side) ∙ ap (λ (d : Disk). settled d.reads) (sym same))
 
 -- nothing was done
 pub not_yet : (past : DiskHistory) (side : Side) (journal : Journal) (lists : Durable) (header : StoreHeader) (payloads : List (List ℕ)) (before given : DurableWorld) → IsGiven past side journal lists header payloads before given → Recovering (IsEither before given) past past

@@ -9,12 +9,12 @@ use Rattle.dk_types.specs.declared.refused.WireRefused.TheVariants.{Short, Extra
 use Rattle.dk_types.specs.declared.limits.TheConstants.{NUMBERS_END}
 use Rattle.dk_types.proofs.FieldLaws.{u64_exact}
 use Rattle.dk_types.specs.declared.side.Side.{Side}
-use Rattle.dk_disk.specs.Disk.{Disk, settled}
+use Rattle.dk_disk.specs.Disk.{settled}
 use Rattle.dk_disk.specs.DiskHistories.{DiskHistory, now}
 use Rattle.dk_model.specs.DurableWorlds.{DurableWorld, empty_world}
 use Rattle.dk_model.specs.Images.{SpellsImage}
 use Rattle.dk_model.specs.Validity.{next_of}
-use Rattle.dk_model.specs.Stores.{StoreHeader, Reads, Look, Blank, Live, Faulty, header_spelling, look}
+use Rattle.dk_model.specs.Stores.{StoreHeader, Reads, Live, Faulty, header_spelling, look}
 use Rattle.dk_journal.specs.Headers.{store_header}
 use Rattle.dk_journal.specs.Moments.{Runs, Looks, IsAsRead}
 use Rattle.dk_journal.specs.Opened.{IsOpened}
@@ -43,9 +43,6 @@ is_live file h payloads is = live file h payloads is.fits is.reads
 
 pub not_faulty : (file : List ℕ) (h : StoreHeader) (payloads : List (List ℕ)) (at : ℕ) → IsStoreFile file h payloads → look file ≡ Faulty at → ⊥
 not_faulty file h payloads at is bad = let no : Live h ≡ Faulty at = sym (is_live file h payloads is) ∙ bad in absurd cc
-
-pub not_blank : (file : List ℕ) (h : StoreHeader) (payloads : List (List ℕ)) → IsStoreFile file h payloads → look file ≡ Blank → ⊥
-not_blank file h payloads is bad = let no : Live h ≡ Blank = sym (is_live file h payloads is) ∙ bad in absurd cc
 
 module _ (file : List ℕ) (side : Side) (header : Header) (scan : Scan) (opened : IsOpened file side header scan) (h : StoreHeader) (payloads : List (List ℕ)) (is : IsStoreFile file h payloads) where
   same_header : store_header header ≡ h

@@ -57,9 +57,6 @@ module _ (all : FinMap conn_cmp MarkedConnection) where
     pub change_none : None ≡ get all k → all ≡ change k f all
     change_none e = ap (λ r. changed_at r k f all) e
 
-    pub removed_none : None ≡ get all k → remove all k ≡ change k f all
-    removed_none e = remove_none k e ∙ change_none e
-
   -- the same where it is put back as it was
   pub put_back : (k : ConnNo) (l : MarkedConnection) → Some l ≡ get all k → insert (remove all k) k l ≡ all
   put_back k l e =

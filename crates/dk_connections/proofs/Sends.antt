@@ -9,7 +9,7 @@ use Rattle.dk_model.proofs.Walks.{closed_more}
 use Rattle.dk_connections.specs.MarkedConnections.{MarkedConnection, all_of, change, left, linked, IsAlive, KeepsMarks}
 use Rattle.dk_connections.proofs.Changes.{all_of-change, all_of-left, swept_alive}
 use Rattle.dk_connections.proofs.Closings.{without-closed}
-use Rattle.dk_connections.proofs.Marks.{keeps_change, keeps_left, keeps_same, marks_then}
+use Rattle.dk_connections.proofs.Marks.{keeps_change, keeps_left, marks_then}
 
 -- some of the messages are in their outboxes, and the rest are to come
 pub record Sending (before now : FinMap conn_cmp MarkedConnection) (outs rest : List (ConnNo × Out)) (shut : List ConnNo) : Type 0 where
@@ -17,14 +17,6 @@ pub record Sending (before now : FinMap conn_cmp MarkedConnection) (outs rest : 
   pub closed : shut ++ closed_by rest (all_of now) ≡ closed_by outs (all_of before)
   pub marks : KeepsMarks before now
   pub alive : IsAlive now
-
-pub sending_starts : (all : FinMap conn_cmp MarkedConnection) (outs : List (ConnNo × Out)) (closed : List ConnNo) → closed ≡ [] → IsAlive all → Sending all all outs outs closed
-sending_starts all outs closed none alive = record {
-  world = refl;
-  closed = ap (λ cs. cs ++ closed_by outs (all_of all)) none;
-  marks = keeps_same all;
-  alive = alive;
-}
 
 -- a connection that was closed comes next
 closed_next : (a b : Bool) (closed later : List ConnNo) (conn : ConnNo)
@@ -65,9 +57,6 @@ pub record Closing (before now : FinMap conn_cmp MarkedConnection) (conns rest :
   pub world : without_done (with_closed rest (all_of now)) ≡ without_done (with_closed conns (all_of before))
   pub marks : KeepsMarks before now
   pub alive : IsAlive now
-
-pub closing_starts : (all : FinMap conn_cmp MarkedConnection) (conns : List ConnNo) → IsAlive all → Closing all all conns conns
-closing_starts all conns alive = record { world = refl; marks = keeps_same all; alive = alive }
 
 -- one more
 pub closing_next : (before now after : FinMap conn_cmp MarkedConnection) (conns rest : List ConnNo) (k : ConnNo)

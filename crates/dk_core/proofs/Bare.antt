@@ -1,21 +1,15 @@
 -- A core that is opened on a world in which nothing stands.
-use Rattle.std.proofs.Common.{◌≡◌, ◌↔◌, ℕ, ◌≤◌, Option, Some, None, [], Ok, map, refl, ap, ◌∙◌, arith}
+use Rattle.std.proofs.Common.{◌≡◌, ◌↔◌, ℕ, ◌≤◌, Option, Some, None, [], map, refl, ap, ◌∙◌, arith}
 use Rattle.std.specs.FinMap.{get, get-empty, empty}
 use Rattle.dk_types.specs.declared.number.RunNo.{RunNo}
 use Rattle.dk_types.specs.declared.durable.Durable.{Durable}
 use Rattle.dk_types.specs.declared.limits.TheConstants.{NUMBERS_END}
 use Rattle.dk_types.specs.Names.{bytes_cmp}
 use Rattle.dk_types.specs.Keys.{id_cmp, key_cmp}
-use Rattle.dk_model.specs.DurableWorlds.{DurableWorld}
 use Rattle.dk_model.specs.Effects.{with_set, task_of}
-use Rattle.dk_model.specs.Events.{Meaning}
-use Rattle.dk_model.specs.Runs.{give}
 use Rattle.dk_model.specs.Validity.{IsValid, next_of}
-use Rattle.dk_model.proofs.Acts.{lawful_rules, lawful_done}
 use Rattle.dk_model.proofs.Maps.{not_both}
 use Rattle.dk_core.specs.Listings.{world_of}
-use Rattle.dk_core.specs.declared.world.Core.{Core}
-use Rattle.dk_core.specs.Cores.{Represents, IsStanding}
 
 -- before the first commit, or after run 0 alone
 abbrev pub IsFew : ℕ → Option RunNo → Type 0
@@ -39,14 +33,3 @@ bare_valid d o n t few =
       commits = valid.1;
       begun = valid.2;
     }
-
--- it stands for the history of no events, by whatever rules
-pub standing_first : (d : DurableWorld) (budget : Option ℕ) (c : Core) → ((rules : Meaning) → Represents rules d budget [] c) → IsStanding c
-standing_first d budget c stands = record {
-  rules = λ job. give (Ok tt);
-  opened = d;
-  budget = budget;
-  events = [];
-  lawful = lawful_rules (λ job. lawful_done tt);
-  stands = stands (λ job. give (Ok tt));
-}

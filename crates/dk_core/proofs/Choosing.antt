@@ -1,14 +1,13 @@
 -- What is picked by the indexes is what the definitions pick.
-use Rattle.std.proofs.Common.{◌≡◌, ℕ, ◌==◌, true, false, if◌then◌else◌, List, [], ◌∷◌, Bor, Option, Some, None, IfSome, is_some, length, refl, sym, ap, ◌∙◌, arith, eqb-true}
+use Rattle.std.proofs.Common.{◌≡◌, ℕ, ◌==◌, true, false, if◌then◌else◌, List, [], ◌∷◌, Option, Some, None, IfSome, is_some, length, refl, sym, ap, ◌∙◌, arith, eqb-true}
 use Rattle.std.specs.List.{AllByRecursion}
-use Rattle.std.specs.Option.{option_or, option_map, option_copied}
+use Rattle.std.specs.Option.{option_or}
 use Rattle.std.specs.FinMap.{get, len, entries, len-entries}
 use Rattle.dk_types.specs.declared.number.RunNo.{RunNo}
 use Rattle.dk_types.specs.declared.number.ConnNo.{ConnNo}
 use Rattle.dk_types.specs.declared.number.TaskKey.{TaskKey}
 use Rattle.dk_types.specs.declared.job.Job.{Job}
 use Rattle.dk_types.specs.declared.job.Job.TheVariants as job
-use Rattle.dk_types.specs.declared.durable.Pending.{Pending}
 use Rattle.dk_model.specs.Worlds.{Claim}
 use Rattle.dk_model.specs.Picks.{mapped, task_job, or_else, first_of_list, first_runs, is_initialize, is_claimed, pick_task, pick_input}
 use Rattle.dk_model.proofs.Maps.{runs_total}
@@ -52,10 +51,6 @@ either_job : (c : Core) (a b : Option Choice) → IfSome a (IsThere c) → or_el
 either_job c None b t = refl
 either_job c (Some x) b t = let j = job_there c x t in ap (λ o. or_else o (job_of c b)) j.is ∙ sym j.is
 
-pub either_there : (c : Core) (a b : Option Choice) → IfSome a (IsThere c) → IfSome b (IsThere c) → IfSome (option_or a b) (IsThere c)
-either_there c None b t u = u
-either_there c (Some x) b t u = t
-
 later : (n : ℕ) → (n ≡ 0 → ⊥) → (n == 0) ≡ false
 later n h = elim (n == 0) as (λ b. (n == 0) ≡ b → b ≡ false) [ true ↦ λ e. absurd (h (eqb-true n 0 e)) | false ↦ λ _. refl ] refl
 
@@ -65,17 +60,6 @@ module _ (c : Core) (task input : Option Choice) (due : IsDueTask c task) (ready
   input_first after marks =
       (λ i. if later c.world.commits some i then first_of_list (first_runs (world_of c)) else if after i then or_else (pick_input (world_of c)) (pick_task (world_of c)) else or_else (pick_task (world_of c)) (pick_input (world_of c)))
       ∙ (λ i. or_else (ready marks i) (due marks i)) ∙ either_job c input task ready_there
-
-  pub task_first : c.after_task ≡ false → IsPick c (option_or task input)
-  task_first after marks =
-      (λ i. if later c.world.commits some i then first_of_list (first_runs (world_of c)) else if after i then or_else (pick_input (world_of c)) (pick_task (world_of c)) else or_else (pick_task (world_of c)) (pick_input (world_of c)))
-      ∙ (λ i. or_else (due marks i) (ready marks i)) ∙ either_job c task input due_there
-
--- before the first commit
-pub first_picked : (c : Core) (x : Option Choice) → c.world.commits ≡ 0 → IsFirstRun c x → IsPick c x
-first_picked c x zero first marks =
-    (λ i. if zero i == 0 then first_of_list (first_runs (world_of c)) else if c.after_task then or_else (pick_input (world_of c)) (pick_task (world_of c)) else or_else (pick_task (world_of c)) (pick_input (world_of c)))
-    ∙ first zero marks
 
 -- where there are no claims, the first run is none of them
 pub first_free : (c : Core) → len c.claims.claims ≡ 0 → IsFirstRun c (Some choose.First)
@@ -93,9 +77,3 @@ first_taken c some zero marks =
     let x = some_entry c.claims.claims (entries c.claims.claims) (all_entries runs_total (λ e. get c.claims.claims e.0 ≡ Some e.1) c.claims.claims (λ k x e. e)) (λ n. some (len-entries c.claims.claims ∙ n)) in
     let taken : is_claimed is_initialize (world_of c) ≡ true = has_there is_initialize c.claims.claims x.0 x.1 x.2 (ap is_initialize (marks.first zero x.0 x.1 x.2)) in
     λ i. first_of_list (if taken i then [] else job.Initialize ∷ [])
-
--- a task that is not told is not there
-pub gone : (r : Option (Bor Pending)) (o : Option Kept) (f : Kept → Pending) → option_copied r ≡ option_map f o → is_some r ≡ false → o ≡ None
-gone None None f e n = refl
-gone None (Some t) f e n = absurd cc
-gone (Some x) o f e n = absurd cc

@@ -85,10 +85,6 @@ module _ (claims : TheClaims) (next granted : ℕ) (most : Option ℕ) (counted 
     shorter : len (remove claims run) ≡ len claims - 1
     shorter = len-remove runs_total claims run ∙ ap (λ b. cond b (len claims - 1) (len claims)) held
 
-    -- a claim that is there is counted
-    pub some_granted : (n : ℕ) → most ≡ Some n → 0 < len claims → 1 ≤ granted
-    some_granted n e some = let few = (subst (IsBudgeted (len claims) granted) e counted.budgeted).0 in omega (arith, few, some)
-
     -- a claim is given back
     pub counted_released : (less : ℕ) → ((n : ℕ) → most ≡ Some n → less ≡ granted - 1) → IsCounted (remove claims run) next less most
     counted_released less is = record {

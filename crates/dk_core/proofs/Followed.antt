@@ -13,17 +13,6 @@ use Rattle.dk_core.specs.declared.world.Core.{Core}
 use Rattle.dk_core.specs.declared.claimed.Claimed.{Claimed}
 use Rattle.dk_core.specs.Cores.{world_of, Represents, Adds, IsStanding, IsGranted}
 
--- it stands for some history still
-pub standing_then : (old new : Core) (e : Event) → IsStanding old → Adds old new (e ∷ []) → IsStanding new
-standing_then old new e s enters = record {
-  rules = s.rules;
-  opened = s.opened;
-  budget = s.budget;
-  events = s.events ++ e ∷ [];
-  lawful = s.lawful;
-  stands = enters s.rules s.opened s.budget s.events s.lawful s.stands;
-}
-
 -- the event is one that may happen in the world that it was
 pub happened : (rules : Meaning) (d : DurableWorld) (budget : Option ℕ) (events : List Event) (old new : Core) (e : Event) → Represents rules d budget events old → Represents rules d budget (events ++ e ∷ []) new
     → Happens rules (world_of old) e (world_of new)

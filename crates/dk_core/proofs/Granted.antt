@@ -17,10 +17,10 @@ use Rattle.dk_types.specs.Keys.{key_cmp}
 use Rattle.dk_model.specs.DurableWorlds.{DurableWorld}
 use Rattle.dk_model.specs.Worlds.{Claim}
 use Rattle.dk_model.specs.Deliveries.{conn_of, for_conn, without_done}
-use Rattle.dk_model.specs.Events.{Meaning, has_left, granted_of, with_claim, without_claim}
+use Rattle.dk_model.specs.Events.{Meaning, has_left, granted_of}
 use Rattle.dk_model.specs.Events as events
 use Rattle.dk_model.specs.Lawful.{AreLawful}
-use Rattle.dk_model.specs.Picks.{is_task_of, is_of, pick, mapped, task_job, first_job}
+use Rattle.dk_model.specs.Picks.{is_task_of, is_of, mapped, task_job, first_job}
 use Rattle.dk_model.specs.Picks as picks
 use Rattle.dk_model.proofs.Maps.{runs_total, exact_keys, get-insert_here, some_is}
 use Rattle.dk_model.proofs.Works.{IsOwnKey}
@@ -35,7 +35,7 @@ use Rattle.dk_core.specs.declared.choice.Choice.TheVariants as choose
 use Rattle.dk_core.specs.declared.world.Core.{Core}
 use Rattle.dk_core.specs.declared.claimed.Claimed.{Claimed}
 use Rattle.dk_core.specs.Claiming.{Claiming, with_grant, without_grant}
-use Rattle.dk_core.specs.Numbers.{HasNumbers, HasNumbers-prop}
+use Rattle.dk_core.specs.Numbers.{HasNumbers}
 use Rattle.dk_core.specs.Cores.{world_of, IsTracked, Represents, Adds, IsGranted}
 use Rattle.dk_core.specs.Picking.{job_of, AreMarks, IsThere, IsPick}
 use Rattle.dk_core.specs.Marking.{is_task, conn_in, tasks_marked, tasks_freed, IsMarked, IsFreed}
@@ -119,12 +119,6 @@ module _ (rules : Meaning) (lawful : AreLawful rules) (d : DurableWorld) (budget
 -- the core with other claims
 abbrev pub with_claims : (c : Core) (claims : Claiming) → HasNumbers c.world.commits claims c.connections.connections → Core
 with_claims c claims numbers = record c { claims = claims; numbers = numbers }
-
--- where they are the same, it is the same core
-pub same_claims : (c : Core) (claims : Claiming) (numbers : HasNumbers c.world.commits claims c.connections.connections) → claims ≡ c.claims → with_claims c claims numbers ≡ c
-same_claims c claims numbers same =
-    subst (λ x. (n : HasNumbers c.world.commits x c.connections.connections) → with_claims c x n ≡ c) (sym same)
-    (λ n. ap (with_claims c c.claims) (HasNumbers-prop c.world.commits c.claims c.connections.connections n c.numbers)) numbers
 
 pub claims_granted : (old new : Core) (pass : ℕ) (x : Choice) (j : Job) (claims : Claiming) (numbers : HasNumbers old.world.commits claims old.connections.connections) → IsPick old (Some x) → IsThere old x → (old.world.commits ≡ 0 → x ≡ choose.First)
     → job_of old (Some x) ≡ Some j → has_left old.claims.budget ≡ true → old.claims.next < NUMBERS_END → claims ≡ with_grant (record { pass = pass; job = j; at = old.moment }) old.claims

@@ -1,5 +1,5 @@
 -- The marks tell which connections and tasks claimed runs have, after each event.
-use Rattle.std.proofs.Common.{◌≡◌, ℕ, ◌+◌, ◌<◌, Bool, true, false, ◌||◌, ◌&&◌, not, nat_eq, List, Some, None, sym, ap, ◌∙◌, arith, inl, inr, eqb-true}
+use Rattle.std.proofs.Common.{◌≡◌, ℕ, ◌+◌, ◌<◌, Bool, true, false, ◌||◌, ◌&&◌, not, List, Some, None, sym, ap, ◌∙◌, arith, inl, inr}
 use Rattle.std.specs.FinMap.{FinMap, get, insert, remove}
 use Rattle.dk_types.specs.declared.number.RunNo.{RunNo}
 use Rattle.dk_types.specs.declared.number.ConnNo.{ConnNo}
@@ -15,18 +15,6 @@ use Rattle.dk_tasks.specs.Tasks.{Kept}
 use Rattle.dk_connections.specs.MarkedConnections.{MarkedConnection, unclaimed, IsSwept, KeepsMarks, KeepsMarksBut, MarksBy}
 use Rattle.dk_core.specs.Cores.{IsTracked}
 use Rattle.dk_core.proofs.Having.{never, has_which, has_there, has_insert, has_remove}
-
-same_conn : (a b c : ConnNo) → nat_eq c.0 a.0 ≡ true → nat_eq c.0 b.0 ≡ true → a ≡ b
-same_conn a b c e f = let same : a.0 ≡ b.0 = sym (eqb-true c.0 a.0 e) ∙ eqb-true c.0 b.0 f in λ i. record { 0 = same i }
-
--- the test for a connection passes at one number alone
-pub of_one : (a b : ConnNo) (j : Job) → is_of a j ≡ true → is_of b j ≡ true → a ≡ b
-of_one a b (job.Login c name) e f = same_conn a b c e f
-of_one a b (job.Message c name body) e f = same_conn a b c e f
-of_one a b (job.Channel c name channel body) e f = same_conn a b c e f
-of_one a b (job.Disconnect c name graceful) e f = same_conn a b c e f
-of_one a b job.Initialize e f = absurd cc
-of_one a b (job.Task key due period kind arg) e f = absurd cc
 
 -- the connections get one more, whose number was to be drawn next
 pub tracked_connect : (w : World) (name : List ℕ) (all after : FinMap conn_cmp MarkedConnection) (tasks : FinMap key_cmp Kept) → IsTracked w all tasks

@@ -1,5 +1,5 @@
 -- How many of the planned tasks are pending: all at first, one fewer after each commit of one, and none in the end.
-use Rattle.std.proofs.Common.{◌≡◌, ℕ, ◌+◌, ◌<◌, ◌≤◌, zero, suc, Bool, true, false, cond, ◌&&◌, nat_eq, is_some, Option, Some, None, refl, sym, ap, ◌∙◌, inl, inr, arith, count_by}
+use Rattle.std.proofs.Common.{◌≡◌, ℕ, ◌+◌, ◌<◌, ◌≤◌, zero, suc, Bool, true, cond, ◌&&◌, nat_eq, is_some, Option, Some, None, refl, sym, ap, ◌∙◌, inl, inr, arith, count_by}
 use Rattle.std.specs.FinMap.{FinMap, get, remove, contains_key}
 use Rattle.std.proofs.lemmas.List.Sums.{sum_by-cons}
 use Rattle.std.proofs.lemmas.Bool.Decides.{eqb_tells}
@@ -25,17 +25,6 @@ one_if b = cond b 1 0
 abbrev pub left : TheTasks → RunNo → (ℕ → Bool) → ℕ → ℕ → ℕ
 left tasks root test before zero = 0
 left tasks root test before (suc n) = one_if (contains_key tasks (task_key root before) && test before) + left tasks root test (before + 1) n
-
-one_most : (b : Bool) → one_if b ≤ 1
-one_most true = omega arith
-one_most false = omega arith
-
--- no more than there are
-pub left_most : (tasks : TheTasks) (root : RunNo) (test : ℕ → Bool) (before n : ℕ) → left tasks root test before n ≤ n
-left_most tasks root test before zero = omega arith
-left_most tasks root test before (suc n) =
-    let rest = left_most tasks root test (before + 1) n in
-    let one = one_most (contains_key tasks (task_key root before) && test before) in omega (arith, rest, one)
 
 -- where none is pending, none is left
 pub left_none : (tasks : TheTasks) (root : RunNo) (test : ℕ → Bool) (before n : ℕ) → ((key : TaskKey) → get tasks key ≡ None) → left tasks root test before n ≡ 0

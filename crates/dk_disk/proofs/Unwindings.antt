@@ -9,10 +9,10 @@ use Rattle.dk_disk.specs.Disk.{overwritten}
 use Rattle.dk_disk.specs.DiskHistories.{other_side}
 use Rattle.dk_disk.specs.MemoryFiles.{Files, file_of, size_of}
 use Rattle.dk_disk.specs.Record.{Call, Write}
-use Rattle.dk_disk.specs.Step.{change_of, reads_after, step_size, IsWithin, IsAddressable}
+use Rattle.dk_disk.specs.Step.{change_of, reads_after, step_size, IsWithin}
 use Rattle.dk_disk.specs.declared.step.Step.{Step}
 use Rattle.dk_disk.specs.declared.step.Step.TheVariants as step
-use Rattle.dk_disk.specs.UndoRecord.{Undo, undo_for, traced, kept_of, IsTraced}
+use Rattle.dk_disk.specs.UndoRecord.{Undo, undo_for, traced, kept_of}
 use Rattle.dk_disk.specs.Unwinding.{Unwound, undone, change_behind, before, unwound}
 use Rattle.dk_disk.proofs.Images.{overwritten_length}
 
@@ -144,13 +144,6 @@ both_balance One s fails old new within this other = omega (arith, balance s fai
 pub within_size : (files : Files) (side : Side) → length (file_of files side).reads ≤ size_of files
 within_size files Zero = omega arith
 within_size files One = omega arith
-
--- its range has no fewer bytes than it keeps
-pub kept_traced : (s : Step) (made : Bool) (file : List ℕ) → IsAddressable s → IsTraced (traced s) (length (kept_of s made file))
-kept_traced (step.Write at bytes) true file range = (range, omega (arith, length-take (length bytes.now) (drop at file)))
-kept_traced (step.Write at bytes) false file range = (range, omega arith)
-kept_traced (step.Cut to) made file range = tt
-kept_traced step.Sync made file range = tt
 
 -- all calls are still to be taken back
 pub unwound_begins : (undos : List Undo) (n : ℕ) (zero one : List ℕ) (past : Unwound) → n ≡ length undos → past ≡ record { zero = zero; one = one; calls = [] } → joined (unwound (take (n - 0) undos) past.zero past.one) past.calls ≡ unwound undos zero one

@@ -65,10 +65,6 @@ bar_empty : channel_of (channel_object 1 0 []).bytes ≡ Some (members_are [] tr
 unfolding channel_of next_channel next_u8 u8_at list_at items_at list_spelling next_u32 u32_at next_end end_at
 bar_empty = refl
 
-foo_one : channel_of (channel_object 0 1 alice_member).bytes ≡ Some (members_are (alice_session ∷ []) false)
-unfolding channel_of next_channel next_u8 u8_at list_at items_at list_spelling next_u32 u32_at next_end end_at next_member next_name name_at next_u64 u64_at utf8_valid_len is_utf8 chars encode
-foo_one = refl
-
 foo_two : channel_of (channel_object 0 2 (alice_member ++ bob_member)).bytes ≡ Some (members_are (alice_session ∷ bob_session ∷ []) false)
 unfolding channel_of next_channel next_u8 u8_at list_at items_at list_spelling next_u32 u32_at next_end end_at next_member next_name name_at next_u64 u64_at utf8_valid_len is_utf8 chars encode
 foo_two = refl

@@ -1,13 +1,13 @@
 -- Messages one behind another.
 use Rattle.std.proofs.Common.{◌≡◌, ℕ, ◌+◌, ◌-◌, ◌≤◌, ◌<◌, List, [], ◌∷◌, ◌++◌, length, take, drop, refl, sym, ap, subst, ◌∙◌, append_assoc, length-append, arith}
-use Rattle.std.proofs.lemmas.List.{drop-drop, length-drop, length-take, append-nil}
+use Rattle.std.proofs.lemmas.List.{drop-drop, length-drop, length-take}
 use Rattle.dk_types.specs.Fields.{u32_spelling}
 use Rattle.dk_wire.proofs.LengthLaws.{length-u32}
 use Rattle.dk_model.specs.Frames.{Frame, Message, Stage, InSession, AreInTurn, States, body_most, stage_after, stream_of}
 use Rattle.dk_frame.specs.Fields.{Has}
 use Rattle.dk_frame.specs.Fronts.{IsWhole, IsMessage, AreTaken, AddsTaken}
 use Rattle.dk_frame.proofs.FrontLemmas.{whole_front}
-use Rattle.dk_frame.proofs.Turns.{AreInTurn-append, stage_after-append, stream_of-append, none_taken, taken_more, drop_behind}
+use Rattle.dk_frame.proofs.Turns.{AreInTurn-append, stage_after-append, stream_of-append, taken_more, drop_behind}
 
 -- a length, the opcode of a message and its body are a message at the front
 pub message_front : (bytes fields : List ℕ) (len : ℕ) → States bytes len (2 ∷ fields) → 0 < len → len ≤ 1 + length fields → length (take (len - 1) fields) ≤ body_most → IsMessage bytes (take (len - 1) fields) (drop (len - 1) fields)
@@ -31,10 +31,6 @@ pub record Along (bytes : List ℕ) (old new : List Frame) (rest : List ℕ) : T
   pub adds : AddsTaken InSession bytes old new taken
   pub rest_is : rest ≡ drop taken bytes
 
--- no message yet
-pub along_none : (bytes : List ℕ) (old : List Frame) → Along bytes old old bytes
-along_none bytes old = record { taken = 0; adds = record { more = []; now = sym (append-nil old); are = none_taken InSession bytes }; rest_is = refl }
-
 -- one more message
 pub along_more : (bytes : List ℕ) (old new : List Frame) (rest body behind : List ℕ) → Along bytes old new rest → IsMessage rest body behind → Along bytes old (new ++ Message body ∷ []) behind
 along_more bytes old new rest body behind along is =
@@ -49,13 +45,6 @@ along_more bytes old new rest body behind along is =
       };
       rest_is = is.behind_is ∙ ap (drop n) along.rest_is ∙ drop-drop n along.taken bytes;
     }
-
--- all of them take what does not follow
-pub along_all : (bytes : List ℕ) (old new : List Frame) (rest : List ℕ) → Along bytes old new rest → AddsTaken InSession bytes old new (length bytes - length rest)
-along_all bytes old new rest along =
-    let within = along.adds.are.within in
-    let size : along.taken ≡ length bytes - length rest = omega (arith, within, ap (λ (b : List ℕ). length b) along.rest_is, length-drop along.taken bytes) in
-    subst (λ (n : ℕ). AddsTaken InSession bytes old new n) size along.adds
 
 -- frames are taken behind others
 taken_further : (start stage then : Stage) (bytes : List ℕ) (frames later : List Frame) (taken more : ℕ) → AreTaken start bytes frames taken stage → AreTaken stage (drop taken bytes) later more then → AreTaken start bytes (frames ++ later) (taken + more) then

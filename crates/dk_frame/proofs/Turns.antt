@@ -1,6 +1,6 @@
 -- Frames one behind another.
 use Rattle.std.proofs.Common.{◌≡◌, ℕ, ◌+◌, ◌≤◌, List, [], ◌∷◌, ◌++◌, length, drop, map, Some, None, option_map, refl, sym, ap, subst, ◌∙◌, append_assoc, length-append, arith}
-use Rattle.std.proofs.lemmas.List.{drop_at, drop_all, drop-drop, length-drop, append-nil}
+use Rattle.std.proofs.lemmas.List.{drop_at, drop-drop, length-drop, append-nil}
 use Rattle.std.proofs.lemmas.List.Concat.{flat_map-append}
 use Rattle.dk_model.specs.Frames.{Frame, Stage, AtLogin, InSession, LoggedOut, MayCome, AreInTurn, IsPartial, IsBad, Fault, stage_behind, stage_after, stream_of, opcode_of, frame_spelling}
 use Rattle.dk_frame.specs.declared.frames.Frames.{Frames}
@@ -25,10 +25,6 @@ stream_of-append frames later = flat_map-append frame_spelling frames later
 pub stream_of-one : (f : Frame) → stream_of (f ∷ []) ≡ frame_spelling f
 stream_of-one f = append-nil (frame_spelling f)
 
--- no frame is taken yet
-pub none_taken : (start : Stage) (bytes : List ℕ) → AreTaken start bytes [] 0 start
-none_taken start bytes = record { in_turn = tt; comes_to = refl; parts = refl; takes = refl; within = omega arith }
-
 -- one more frame is taken
 pub taken_more : (start stage : Stage) (bytes : List ℕ) (frames : List Frame) (taken more : ℕ) (f : Frame) → AreTaken start bytes frames taken stage → IsWhole stage (drop taken bytes) f more → AreTaken start bytes (frames ++ f ∷ []) (taken + more) (stage_behind f)
 taken_more start stage bytes frames taken more f are whole =
@@ -46,20 +42,6 @@ taken_more start stage bytes frames taken more f are whole =
       parts = parted ∙ ap (λ (b : List ℕ). stream_of (frames ++ f ∷ []) ++ b) (sym cut);
       takes = sym size;
       within = omega (arith, size, ap (λ (b : List ℕ). length b) parted, length-append (stream_of (frames ++ f ∷ [])) tail);
-    }
-
--- bytes that were taken whole are those of the frames, also where others follow them
-pub taken_whole : (start stage : Stage) (front bytes : List ℕ) (frames : List Frame) (taken : ℕ) → AreTaken start front frames taken stage → taken ≡ length front → AreTaken start (front ++ bytes) frames (taken + 0) stage
-taken_whole start stage front bytes frames taken are all =
-    let behind : drop taken front ≡ [] = drop_all taken front (omega (arith, all)) in
-    let own : front ≡ stream_of frames = are.parts ∙ ap (λ (b : List ℕ). stream_of frames ++ b) behind ∙ append-nil (stream_of frames) in
-    let cut : drop (taken + 0) (front ++ bytes) ≡ bytes = drop_at front bytes (taken + 0) (omega (arith, all)) in
-    record {
-      in_turn = are.in_turn;
-      comes_to = are.comes_to;
-      parts = ap (λ (b : List ℕ). b ++ bytes) own ∙ ap (λ (b : List ℕ). stream_of frames ++ b) (sym cut);
-      takes = omega (arith, are.takes);
-      within = omega (arith, all, length-append front bytes);
     }
 
 -- what stands behind so many of the bytes that follow others

@@ -1,11 +1,8 @@
 -- What the jobs of sessions do, from the calls that they made.
-use Rattle.std.proofs.Common.{◌≡◌, ℕ, ◌+◌, ◌<◌, ◌≤◌, zero, suc, if◌then◌else◌, Option, Some, None, is_some, List, [], ◌∷◌, length, drop, get_or, Result, Ok, Err, refl, sym, ap, subst, ◌∙◌, arith}
-use Rattle.std.specs.Result.{IsErrAnd}
+use Rattle.std.proofs.Common.{◌≡◌, ℕ, ◌+◌, ◌<◌, ◌≤◌, zero, suc, if◌then◌else◌, Option, Some, None, is_some, List, [], ◌∷◌, length, drop, get_or, Result, Ok, refl, sym, ap, subst, ◌∙◌, arith}
 use Rattle.dk_types.specs.declared.number.ObjectId.{ObjectId}
 use Rattle.dk_types.specs.declared.job.Session.{Session}
 use Rattle.dk_types.specs.declared.job.Job.{Job}
-use Rattle.dk_types.specs.declared.number.TaskKey.{TaskKey}
-use Rattle.dk_types.specs.declared.fault.AppFault.{AppFault}
 use Rattle.dk_model.specs.Platforms.{platform_bound, find_session, leave}
 use Rattle.dk_model.specs.Records.{session_name}
 use Rattle.dk_model.specs.Runs.{Run, Act, give, and_then}
@@ -13,10 +10,9 @@ use Rattle.dk_model.specs.Steps.{displace, displace_found, displace_recorded, le
 use Rattle.dk_overlay.specs.ReadsAndWrites.{ReadsAndWrites}
 use Rattle.dk_refs.specs.Lookups.{is_recorded}
 use Rattle.dk_txn.specs.declared.txn.Txn.{Txn}
-use Rattle.dk_txn.specs.Does.{KeepsFor, DoesFor, Does, Resumes, failure}
+use Rattle.dk_txn.specs.Does.{Does, Resumes}
 use Rattle.dk_txn.proofs.Kit.{does_as}
 use Rattle.dk_game.specs.declared.halt.Halt.{Halt}
-use Rattle.dk_game.specs.declared.halt.Halt.TheVariants as halt
 use Rattle.dk_game.specs.Halted.{halt_fault}
 use Rattle.dk_txn.specs.Sights.{Sights}
 
@@ -33,15 +29,6 @@ pub displaced_does : {S : Type 0} {sights : Sights S} {a b : Txn S ReadsAndWrite
     → Does sights halt_fault a b (and_then (is_recorded name) (λ there. if there then found_and_displaced name game else give (Ok tt))) r → Does sights halt_fault a b (displace_recorded name game) r
 unfolding and_then is_recorded
 displaced_does name game p = does_as _ (λ s. displaced_as (platform_bound s (session_name name)) name game s) p
-
-memory_told : {A : Type 0} (s : Result A AppFault) → failure None ≡ Some s → ⊥
-memory_told s t = cc
-
--- want of memory tells nothing of what was to be done
-pub out_of_memory : {P : TaskKey → ℕ → Type 0} {S : Type 0} {sights : Sights S} {a b : Txn S ReadsAndWrites} {A : Type 0} {f : Act A} {r : Result A Halt}
-    → KeepsFor P sights a b → IsErrAnd r (λ h. h ≡ halt.NoMemory) → DoesFor P sights halt_fault a b f r
-out_of_memory {r = Ok x} k is = absurd is
-out_of_memory {r = Err h} k is = record { keeps = k; does = λ s t d agrees. absurd (memory_told s (ap (λ x. failure (halt_fault x)) (sym is) ∙ t)) }
 
 turn : (channels : List (List ℕ)) (i : ℕ) (x : List ℕ) → i < length channels → drop i channels ≡ get_or channels i x ∷ drop (suc i) channels
 turn [] i x h = absurd (omega (arith, h))

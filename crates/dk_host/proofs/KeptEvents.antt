@@ -1,6 +1,5 @@
 -- What is kept of a call is the event that it enters, and it finds a place.
 use Rattle.std.proofs.Common.{◌≡◌, ◌&&◌, ℕ, ◌+◌, ◌-◌, ◌≤◌, ◌<◌, Bool, true, false, if◌then◌else◌, List, [], ◌∷◌, ◌++◌, length, Option, Some, None, Result, Ok, Err, take, refl, sym, ap, subst, ◌∙◌, arith, length-append}
-use Rattle.std.proofs.lemmas.List.{append-nil}
 use Rattle.dk_types.specs.declared.event.Event.{Event}
 use Rattle.dk_types.specs.declared.event.Event.TheVariants as event
 use Rattle.dk_types.specs.declared.event.ClaimReply.TheVariants as claimed
@@ -127,16 +126,3 @@ module _ (o : Opened) (keeps : Bool) (events kept : List Event) (owed capacity :
       let legal_one : IsLegal o (events ++ e ∷ []) = subst (λ es. IsLegal o (events ++ es)) (sym one) legal in
       let fits = places_fit owed e (length kept) capacity (place_there o events e owed legal_one (t.owes on)) spare (t.room on) in
       omega (arith, fits, longs)
-
-  -- no event was entered
-  pub told_still : (more : List Event) → [] ≡ more → IsKeptAs o keeps (events ++ more) kept owed capacity
-  told_still more none = subst (λ es. IsKeptAs o keeps (events ++ es) kept owed capacity) none (subst (λ es. IsKeptAs o keeps es kept owed capacity) (sym (append-nil events)) t)
-
-  -- nothing is kept
-  pub told_off : (after : List Event) → keeps ≡ false → IsKeptAs o keeps after kept owed capacity
-  told_off after off = record {
-    same = λ on. let no : true ≡ false = sym on ∙ off in absurd (cc no);
-    none = t.none;
-    owes = λ on. let no : true ≡ false = sym on ∙ off in absurd (cc no);
-    room = λ on. let no : true ≡ false = sym on ∙ off in absurd (cc no);
-  }

@@ -1,7 +1,6 @@
 -- What the store keeps where its file is read back.
-use Rattle.std.proofs.Common.{◌≡◌, ℕ, ◌+◌, ◌≤◌, Bool, IsTrue, List, ◌++◌, Option, Some, None, Result, Err, IsErrOf, refl, sym, ap, subst, ◌∙◌, arith}
+use Rattle.std.proofs.Common.{◌≡◌, ℕ, ◌+◌, ◌≤◌, Bool, IsTrue, List, ◌++◌, Option, Some, None, Result, Err, IsErrOf, sym, ap, subst, ◌∙◌, arith}
 use Rattle.std.proofs.lemmas.List.{append-nil}
-use Rattle.dk_types.specs.Faults.{HasRisen}
 use Rattle.dk_types.specs.declared.durable.Entry.{Entry}
 use Rattle.dk_types.specs.declared.event.Event.{Event}
 use Rattle.dk_types.specs.declared.limits.TheConstants.{NUMBERS_END}
@@ -21,11 +20,11 @@ use Rattle.dk_journal.specs.declared.journal.Journal.{Journal}
 use Rattle.dk_journal.proofs.Recoveries.{all_at, since_on, held_on}
 use Rattle.dk_commit_log.specs.Logs.{IsStoreFile, IsLogOf}
 use Rattle.dk_commit_log.specs.Ranges.{between}
-use Rattle.dk_host.specs.Stores.{HoldsLog, IsStored, Stored}
+use Rattle.dk_host.specs.Stores.{HoldsLog, IsStored}
 use Rattle.dk_commit_log.specs.declared.refused.LogRefused.{LogRefused}
 use Rattle.dk_commit_log.specs.declared.refused.LogRefused.TheVariants as log
 use Rattle.dk_host.specs.declared.refused.TailRefused.TheVariants as tail
-use Rattle.dk_host.specs.Tails.{IsLogPart, BeginsAt, IsLeftReading, refusal_of}
+use Rattle.dk_host.specs.Tails.{IsLogPart, BeginsAt, refusal_of}
 use Rattle.dk_host.proofs.Storing.{holds_running}
 
 -- files that were looked at hold the store as they did
@@ -120,17 +119,6 @@ pub damage_of : (e : LogRefused) (at : ℕ) → refusal_of e ≡ tail.Damaged at
 damage_of log.DiskFault at is = absurd cc
 damage_of log.NoMemory at is = absurd cc
 damage_of (log.Damaged p) at is = let same : p ≡ at = cc in ap log.Damaged same
-
-pub not_older : (e : LogRefused) (n : ℕ) → refusal_of e ≡ tail.Older n → ⊥
-not_older log.DiskFault n is = absurd cc
-not_older log.NoMemory n is = absurd cc
-not_older (log.Damaged p) n is = absurd cc
-
--- what it leaves of the store
-pub left_reading : (old new : Stored) (e : LogRefused) → old.faults ≡ None → new.faults ≡ None → (e ≡ log.DiskFault → HasRisen old.counted new.counted) → ((e ≡ log.DiskFault → ⊥) → new.counted ≡ old.counted) → IsLeftReading (refusal_of e) old new
-left_reading old new log.DiskFault ran runs risen steady = (ran, runs, risen refl)
-left_reading old new log.NoMemory ran runs risen steady = (ran, runs, steady (λ no. absurd cc))
-left_reading old new (log.Damaged p) ran runs risen steady = (ran, runs, steady (λ no. absurd cc))
 
 -- which error a step's exit is
 pub exit_of : {A E : Type 0} (r : Result A E) (y e : E) → r ≡ Err y → IsErrOf r e → y ≡ e

@@ -1,7 +1,6 @@
 -- What the store keeps where it is written anew.
-use Rattle.std.proofs.Common.{◌≡◌, ⊎_elim, ℕ, ◌+◌, ◌<◌, ◌≤◌, ◌^◌, Bool, IsTrue, List, [], length, Option, Some, None, Result, Ok, Err, IfOk, refl, sym, ap, subst, ◌∙◌, arith}
+use Rattle.std.proofs.Common.{◌≡◌, ⊎_elim, ℕ, ◌≤◌, Bool, IsTrue, List, [], Option, Some, None, Result, Ok, Err, IfOk, refl, sym, ap, subst, ◌∙◌, arith}
 use Rattle.std.proofs.lemmas.List.{append-nil}
-use Rattle.dk_types.specs.Faults.{HasRisen}
 use Rattle.dk_types.specs.declared.durable.Durable.{Durable}
 use Rattle.dk_types.specs.declared.event.Event.{Event}
 use Rattle.dk_types.specs.declared.limits.TheConstants.{NUMBERS_END}
@@ -16,18 +15,15 @@ use Rattle.dk_model.specs.Tails.{IsAfterSome, IsAfterSomeOrTail}
 use Rattle.dk_model.proofs.Tails.{after_all, after_more}
 use Rattle.dk_journal.specs.declared.journal.Journal.{Journal}
 use Rattle.dk_journal.specs.Recoveries.{Recovering, HeldNeverFalls, IsEither}
-use Rattle.dk_journal.specs.Stores.{HasStore, AreSettled}
+use Rattle.dk_journal.specs.Stores.{HasStore}
 use Rattle.dk_journal.proofs.Recoveries.{recovering_weakened, since_on, held_on}
-use Rattle.dk_journal.proofs.Stores.{store_settled}
 use Rattle.dk_checkpoint.specs.Given.{IsGiven, next_header, only_image}
 use Rattle.dk_checkpoint.specs.Refusals.{HasBegun}
 use Rattle.dk_checkpoint.specs.declared.refused.CheckpointRefused.{CheckpointRefused as NotWritten}
 use Rattle.dk_checkpoint.specs.declared.refused.CheckpointRefused.TheVariants as not_written
 use Rattle.dk_core.specs.declared.prepared.Prepared.{Prepared}
-use Rattle.dk_host.specs.declared.refused.CheckpointRefused.{CheckpointRefused}
-use Rattle.dk_host.specs.declared.refused.CheckpointRefused.TheVariants as refused
-use Rattle.dk_host.specs.Checkpoints.{AnswersAt, GoesOn, Rewrites, faults_after, image_after, refusal_of}
-use Rattle.dk_host.specs.Stores.{HasRecovered, HoldsNow, HoldsLog, IsStored, Stored}
+use Rattle.dk_host.specs.Checkpoints.{faults_after, image_after}
+use Rattle.dk_host.specs.Stores.{HasRecovered, HoldsNow, HoldsLog, IsStored}
 use Rattle.dk_host.proofs.Logged.{log_of_image}
 use Rattle.dk_host.proofs.Nexts.{sound}
 use Rattle.dk_host.proofs.Storing.{holds_running}
@@ -52,10 +48,6 @@ module _ (o : Opened) (began : DiskHistory) (tells : Bool) (old : DiskHistory) (
 
   held : IsTrue tells → HoldsNow old game journal d
   held h = (holds_running o began tells old opening game journal base front commits places s h).stands
-
-  -- nothing is pending
-  pub settled_now : IsTrue tells → AreSettled old
-  settled_now h = store_settled old journal.side journal (held h).header (held h).payloads d (held h).store
 
   -- the store's own world is what is given
   is_given : (h : IsTrue tells) → IsGiven old side journal lists (held h).header (held h).payloads d d
@@ -139,38 +131,3 @@ module _ (o : Opened) (began : DiskHistory) (tells : Bool) (old : DiskHistory) (
 module _ (o : Opened) (front : List Event) (epoch : ℕ) (lists : Durable) (given : lists ≡ world_lists (world_after o front).durable) where
   image_is : image_spelling lists ≡ image_after o front
   image_is = ap image_spelling given
-
-  length_is : length (image_spelling lists) ≡ length (image_after o front)
-  length_is = ap length image_is
-
-  pub answers_ok : (length (image_spelling lists) < 2 ^ 32) × (epoch + 1 < NUMBERS_END) → AnswersAt o front epoch (Ok tt)
-  answers_ok within = (subst (λ n. n < 2 ^ 32) length_is within.0, within.1)
-
-  pub answers_refused : (e : NotWritten) → (HasBegun {A = Journal × Side} (Err e) → (length (image_spelling lists) < 2 ^ 32) × (epoch + 1 < NUMBERS_END))
-      → ((n : ℕ) → e ≡ not_written.TooLarge n → (n ≡ length (image_spelling lists)) × (2 ^ 32 ≤ n))
-      → ((n : ℕ) → e ≡ not_written.EpochEnd n → (n ≡ epoch) × (NUMBERS_END ≤ n + 1) × (length (image_spelling lists) < 2 ^ 32))
-      → AnswersAt o front epoch (Err (refusal_of e))
-  answers_refused not_written.DiskFault within large spent = (subst (λ n. n < 2 ^ 32) length_is (within tt).0, (within tt).1)
-  answers_refused (not_written.TooLarge n) within large spent = ((large n refl).0 ∙ length_is, (large n refl).1)
-  answers_refused (not_written.EpochEnd n) within large spent = ((spent n refl).0, (spent n refl).1, subst (λ k. k < 2 ^ 32) length_is (spent n refl).2)
-  answers_refused not_written.NoMemory within large spent = tt
-
--- what is left of the store, where it was refused
-pub rewrites_refused : (old new : Stored) (e : NotWritten) (n : ℕ) → old.faults ≡ None → new.faults ≡ faults_after (Err e) n → n ≡ new.counted → (e ≡ not_written.DiskFault → HasRisen old.counted new.counted) → ((e ≡ not_written.DiskFault → ⊥) → new.counted ≡ old.counted)
-    → new.epoch ≡ old.epoch → new.journal_length ≡ old.journal_length → Rewrites old new (Err (refusal_of e))
-rewrites_refused old new not_written.DiskFault n ran faults count risen steady epoch long = (ran, faults ∙ ap Some count, risen refl, epoch)
-rewrites_refused old new (not_written.TooLarge m) n ran faults count risen steady epoch long = record { ran = ran; runs = faults; counted = steady (λ no. absurd cc); epoch = epoch; journal_length = long }
-rewrites_refused old new (not_written.EpochEnd m) n ran faults count risen steady epoch long = record { ran = ran; runs = faults; counted = steady (λ no. absurd cc); epoch = epoch; journal_length = long }
-rewrites_refused old new not_written.NoMemory n ran faults count risen steady epoch long = record { ran = ran; runs = faults; counted = steady (λ no. absurd cc); epoch = epoch; journal_length = long }
-
-goes_on : {old mid new : Stored} → GoesOn mid new → old.faults ≡ None → mid.counted ≡ old.counted → mid.journal_length ≡ old.journal_length → mid.epoch ≡ old.epoch → GoesOn old new
-goes_on h ran counted long epoch = record { ran = ran; runs = h.runs; counted = h.counted ∙ counted; epoch = h.epoch ∙ epoch; journal_length = h.journal_length ∙ long }
-
--- and where the store's pass went on before
-pub rewrites_on : (old mid new : Stored) (r : Result (Unit {0}) CheckpointRefused) → old.faults ≡ None → mid.faults ≡ None → mid.counted ≡ old.counted → mid.journal_length ≡ old.journal_length → mid.epoch ≡ old.epoch → Rewrites mid new r → Rewrites old new r
-rewrites_on old mid new (Ok x) ran runs counted long epoch h = (ran, h.1, h.2 ∙ ap (λ n. n + 1) epoch, h.3 ∙ counted)
-rewrites_on old mid new (Err (refused.Stopped f)) ran runs counted long epoch h = let no : Some f ≡ None = sym h.0 ∙ runs in absurd cc
-rewrites_on old mid new (Err refused.DiskFault) ran runs counted long epoch h = (ran, h.1, subst (λ n. HasRisen n new.counted) counted h.2, h.3 ∙ epoch)
-rewrites_on old mid new (Err (refused.TooLarge m)) ran runs counted long epoch h = goes_on h ran counted long epoch
-rewrites_on old mid new (Err (refused.EpochEnd m)) ran runs counted long epoch h = goes_on h ran counted long epoch
-rewrites_on old mid new (Err refused.NoMemory) ran runs counted long epoch h = goes_on h ran counted long epoch

@@ -25,8 +25,7 @@ use Rattle.dk_journal.specs.Refusals.{IsAppendFault}
 use Rattle.dk_journal.specs.Moments.{Runs, HasOrNot, NeverFalls}
 use Rattle.dk_journal.specs.Ranks.{IsLesser, IsOutranked}
 use Rattle.dk_journal.specs.Recoveries.{Recovering}
-use Rattle.dk_journal.specs.Standing.{Stands as StandsAt, IsAtRest}
-use Rattle.dk_journal.proofs.Readings.{reads_within}
+use Rattle.dk_journal.specs.Standing.{Stands as StandsAt}
 use Rattle.dk_journal.proofs.Recoveries.{all_weakened, since_on, held_on}
 use Rattle.dk_journal.proofs.Standings.{appended}
 use Rattle.dk_image.proofs.Worlds.{next_world}
@@ -172,13 +171,6 @@ module _ (o : Opened) (began : DiskHistory) (tells : Bool) (past : DiskHistory) 
               (λ x. of_commit_later o front more pass s.waits.0.pass seq claimed.run f.outcome s.waits.1.0.outcome x unchanged (sym (ap (λ (y : Event). (world_after o (front ++ y ∷ [])).durable) (sym named) ∙ was)))
               (subst (λ (x : Event). AreOfCommits o (front ++ x ∷ []) l.entries) named ours)));
         }
-
--- what the journal asks for
-pub at_rest : (past : DiskHistory) (game : List ℕ) (journal : Journal) (d : DurableWorld) → HoldsNow past game journal d → IsAtRest journal.side journal.length past
-at_rest past game journal d h = record {
-  settled = h.store.stands.settled;
-  within = let inside = reads_within (now past journal.side).reads (header_spelling h.header) h.payloads h.store.stands.reads in omega (arith, h.store.stands.place, inside);
-}
 
 -- where the store runs
 pub runs_not : {A : Type 0} (n : ℕ) → Some n ≡ None → A

@@ -181,10 +181,3 @@ world_valid header payloads d world = ⊎_elim
     (λ first. take_all_valid header.format empty_world d payloads empty_valid first.1)
     (λ more. take_all_valid header.format more.1.first d more.1.others more.1.valid more.1.rest)
     world
-
--- an image is of one world
-pub image_one : (format : ℕ) (d e : DurableWorld) (payload : List ℕ) → SpellsImage format d payload → SpellsImage format e payload → d ≡ e
-image_one format d e payload a b =
-    let same = prefix_free (IsImageValue format) image_spelling (image_at format) (image_exact format) (world_lists d) (world_lists e) [] [] a.value b.value
-    (ap (λ (l : List ℕ). l ++ []) (sym a.bytes ∙ b.bytes)) in
-    lists_tell d e same.0

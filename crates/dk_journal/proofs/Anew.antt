@@ -29,6 +29,3 @@ module _ (side : Side) (rest : List ℕ) (old : DiskHistory) (ready : IsReady si
 
         pub opened : (d : DiskHistory) → Runs side (IsWriting 0 (1 ∷ []) (now c side)) c d → Runs side (AreBlankOr most (1 ∷ rest)) old d
         opened d run = goes_further side (AreBlankOr most (1 ∷ rest)) old c d (filled c three) (weakened side _ (AreBlankOr most (1 ∷ rest)) c d (λ e. opening most rest (now c side) e full room) run)
-
-        pub made : (d : DiskHistory) → now d side ≡ settled (overwritten 0 (1 ∷ []) (now c side).reads) → now d side ≡ settled (1 ∷ rest)
-        made d is = is ∙ ap (λ (e : Disk). settled (overwritten 0 (1 ∷ []) e.reads)) full

@@ -8,8 +8,8 @@ use Rattle.dk_disk.specs.Disk.{Disk, IsImage, settled, overwritten, after_write,
 use Rattle.dk_disk.specs.DiskHistories.{DiskHistory, now}
 use Rattle.dk_disk.proofs.Images.{settled_only, settled_image, failed_write_image}
 use Rattle.dk_model.specs.Stores.{Reads, is_blank, header_fields, header_spelling, StoreHeader}
-use Rattle.dk_journal.specs.Standing.{Stands, IsReady, IsAtRest}
-use Rattle.dk_journal.proofs.Going.{begun, weakened}
+use Rattle.dk_journal.specs.Standing.{Stands, IsAtRest}
+use Rattle.dk_journal.proofs.Going.{weakened}
 use Rattle.dk_journal.specs.Moments.{Runs, IsWriting, IsClearing, IsBlankUpTo, HasSome, AreBlankOr, IsNewOrEmpty}
 use Rattle.dk_journal.proofs.Gates.{one_byte, made_as_failed}
 
@@ -219,11 +219,6 @@ module _ (header : StoreHeader) (behind : List ℕ) (spelled : behind ≡ header
 
   pub made_rests : (new : DiskHistory) → now new side ≡ settled (1 ∷ behind) → IsAtRest side 65 new
   made_rests new is = record { settled = is ∙ ap (λ (d : Disk). settled d.reads) (sym is); within = omega (arith, behind_length, ap (λ (d : Disk). length d.reads) is) }
-
--- before it is begun
-pub not_begun : (header : List ℕ) (side : Side) (past : DiskHistory) → IsReady side past → length (now past side).reads ≤ 65 → Runs side (IsNewOrEmpty header) past past
-not_begun header side past ready short =
-    begun side (IsNewOrEmpty header) past (λ image left. inl (subst (IsBlankUpTo 65) (sym (settled_only (now past side).reads image (subst (λ (d : Disk). IsImage d image) ready.settled left))) (ready.blank, short)))
 
 -- and some image is there while it is made
 pub some_while : (side : Side) (most : ℕ) (this : List ℕ) (old new : DiskHistory) → Runs side (AreBlankOr most this) old new → Runs side HasSome old new

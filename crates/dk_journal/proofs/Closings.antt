@@ -1,6 +1,6 @@
 -- A file whose header is being closed is as it was, or blank.
-use Rattle.std.proofs.Common.{◌≡◌, ◌⊎◌, inl, inr, ⊎_elim, ℕ, ◌<◌, ◌==◌, true, false, List, [], ◌∷◌, length, get_or, take, drop, sym, ◌∙◌, ap, subst, arith}
-use Rattle.std.proofs.lemmas.Bool.{cases_eq, eqb-false}
+use Rattle.std.proofs.Common.{◌≡◌, ◌⊎◌, inl, inr, ⊎_elim, ℕ, ◌<◌, true, List, [], ◌∷◌, length, get_or, drop, sym, ◌∙◌, ap, subst, arith}
+use Rattle.std.proofs.lemmas.Bool.{cases_eq}
 use Rattle.std.proofs.lemmas.List.{drop_more}
 use Rattle.dk_types.specs.declared.side.Side.{Side}
 use Rattle.dk_disk.specs.Disk.{Disk, IsImage, settled, overwritten, after_write, after_failed_write}
@@ -8,18 +8,12 @@ use Rattle.dk_disk.specs.DiskHistories.{DiskHistory, now}
 use Rattle.dk_disk.proofs.Images.{settled_only, settled_image}
 use Rattle.dk_model.specs.Stores.{is_blank}
 use Rattle.dk_journal.specs.Moments.{Runs, Looks, IsWriting, AreSameOrBlank}
-use Rattle.dk_journal.specs.Standing.{IsReady}
 use Rattle.dk_journal.proofs.Going.{begun, weakened, goes_further, looked_runs, looks_now}
 use Rattle.dk_journal.proofs.Gates.{one_byte, made_as_failed}
 use Rattle.dk_journal.proofs.Blanks.{blank_shut, written_some}
-use Rattle.dk_journal.proofs.Lookings.{byte_is}
 
 pub same_settled : (file : List ℕ) (d : Disk) → d ≡ settled file → AreSameOrBlank file d
 same_settled file d is = (λ image left. inl (settled_only file image (subst (λ (x : Disk). IsImage x image) is left)), (file, subst (λ (x : Disk). IsImage x file) (sym is) (settled_image file)))
-
--- the byte that was read is no open gate
-pub shut_blank : (file : List ℕ) (gate : ℕ) → 0 < length file → gate ∷ [] ≡ take 1 (drop 0 file) → (gate == 1) ≡ false → is_blank file ≡ true
-shut_blank file gate some read shut = blank_shut file (λ e. eqb-false gate 1 shut (sym (byte_is file 0 gate some read) ∙ e))
 
 -- while the gate is being closed
 closing_each : (file : List ℕ) (old d : Disk) → old ≡ settled file → 0 < length file → get_or file 0 0 ≡ 1 → IsWriting 0 (0 ∷ []) old d → (image : List ℕ) → IsImage d image → (image ≡ file) ⊎ (is_blank image ≡ true)
@@ -52,22 +46,9 @@ closing_each file old d is some gate may =
 pub closing_gate : (file : List ℕ) (old d : Disk) → old ≡ settled file → 0 < length file → get_or file 0 0 ≡ 1 → IsWriting 0 (0 ∷ []) old d → AreSameOrBlank file d
 closing_gate file old d is some gate may = (closing_each file old d is some gate may, written_some 0 (0 ∷ []) file old d is may)
 
--- the gate is closed
-pub is_shut : (side : Side) (new : DiskHistory) (file : List ℕ) → now new side ≡ settled (overwritten 0 (0 ∷ []) file) → IsReady side new
-is_shut side new file is = record {
-  settled = is ∙ ap (λ (d : Disk). settled d.reads) (sym is);
-  blank = ap (λ (d : Disk). is_blank d.reads) is ∙ blank_shut (overwritten 0 (0 ∷ []) file) (λ open_gate. let no : 0 ≡ 1 = open_gate in absurd (omega (arith, no)));
-}
-
 -- a file that is only looked at
 pub looked_same : (side : Side) (old new : DiskHistory) → now old side ≡ settled (now old side).reads → Looks old new → Runs side (AreSameOrBlank (now old side).reads) old new
 looked_same side old new is looks = looked_runs side (AreSameOrBlank (now old side).reads) old old new (begun side (AreSameOrBlank (now old side).reads) old (same_settled (now old side).reads (now old side) is)) looks
-
--- and is blank
-pub looked_blank : (side : Side) (old new : DiskHistory) → now old side ≡ settled (now old side).reads → Looks old new → is_blank (now old side).reads ≡ true → IsReady side new
-looked_blank side old new is looks blank =
-    let same : now new side ≡ now old side = looks_now old new looks side in
-    record { settled = same ∙ is ∙ ap (λ (d : Disk). settled d.reads) (sym same); blank = ap (λ (d : Disk). is_blank d.reads) same ∙ blank }
 
 -- looked at, and then closed
 pub closed_runs : (side : Side) (old mid new : DiskHistory) → now old side ≡ settled (now old side).reads → Looks old mid → 0 < length (now old side).reads → get_or (now old side).reads 0 0 ≡ 1 → Runs side (IsWriting 0 (0 ∷ []) (now mid side)) mid new → Runs side (AreSameOrBlank (now old side).reads) old new

@@ -2,9 +2,9 @@
 use Rattle.std.proofs.Common.{◌≡◌, ◌⊎◌, inl, inr, ⊎_elim, ℕ, ◌<◌, ◌≤◌, refl, sym, ◌∙◌, ap, subst, arith}
 use Rattle.std.proofs.lemmas.Bool.{cases_lt}
 use Rattle.dk_types.specs.declared.side.Side.{Side}
-use Rattle.dk_disk.specs.Disk.{Disk, after_sync}
-use Rattle.dk_disk.specs.DiskHistories.{DiskHistory, now, other_side, Elapses, Stays, Becomes}
-use Rattle.dk_journal.specs.Moments.{Runs, Looks, IsAsRead}
+use Rattle.dk_disk.specs.Disk.{Disk}
+use Rattle.dk_disk.specs.DiskHistories.{DiskHistory, now, other_side, Elapses, Stays}
+use Rattle.dk_journal.specs.Moments.{Runs, Looks}
 
 -- a moment is one of before the call, or has what there is now
 at_moment : (old new : DiskHistory) (t : ℕ) (s : Side) → Elapses old new → t ≤ new.clock → ((t ≤ old.clock) × (new.disks t s ≡ old.disks t s)) ⊎ ((old.clock < t) × (new.disks t s ≡ now new s))
@@ -89,12 +89,3 @@ looked_runs side P old mid new run looks = record {
       (λ before. subst P (sym (looks.kept t side before)) (run.each t from before))
       (cases_lt mid.clock t);
 }
-
--- a file that is synced, or not
-pub synced_runs : (side : Side) (old new : DiskHistory) → Elapses old new → Becomes side (after_sync (now old side)) old new → Runs side (IsAsRead (now old side)) old new
-synced_runs side old new time is =
-    goes_on side (IsAsRead (now old side)) old old new (begun side (IsAsRead (now old side)) old (inl refl)) time (inr is.this) is.other
-
-pub unsynced_runs : (side : Side) (old new : DiskHistory) → Elapses old new → Stays old new → Runs side (IsAsRead (now old side)) old new
-unsynced_runs side old new time same =
-    goes_on side (IsAsRead (now old side)) old old new (begun side (IsAsRead (now old side)) old (inl refl)) time (inl (same side)) (same (other_side side))

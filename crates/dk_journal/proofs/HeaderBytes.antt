@@ -2,7 +2,6 @@
 use Rattle.std.proofs.Common.{◌≡◌, ◌⊎◌, ℕ, ◌+◌, ◌-◌, ◌<◌, ◌≤◌, ◌==◌, ◌&&◌, ⊎_elim, inl, inr, ◌||◌, leb, ltb, All, Some, None, Bool, true, false, List, [], ◌∷◌, ◌++◌, length, get_or, take, drop, replicate, refl, sym, ◌∙◌, ap, subst, arith, length-append, append_assoc, take-append-drop}
 use Rattle.std.proofs.lemmas.List.{length-take, length-drop, drop-drop, drop_more, get_or-take, get_or-drop, get_or_past, length-replicate}
 use Rattle.std.proofs.lemmas.List.Elements.{All-head, All-tail}
-use Rattle.std.proofs.lemmas.List.Folds.{list_all_at}
 use Rattle.std.proofs.lemmas.Bool.{cases_lt, eqb-true, le-leb, leb-true, ltb-true}
 use Rattle.std.specs.List.{list_all}
 use Rattle.std.proofs.lemmas.Nat.{be_bytes_2, be_bytes_8}
@@ -96,10 +95,6 @@ visible_passes (x ∷ xs) all =
     let rest = visible_passes xs (All-tail IsVisible x xs all) in
     rw (le-leb 33 x here.0, le-leb x 126 here.1, rest) refl
 
-pub unseen_fails : (xs : List ℕ) (at : ℕ) → at < length xs → (IsVisible (get_or xs at 0) → ⊥) → list_all is_visible xs ≡ false
-unseen_fails xs at lt unseen =
-    list_all_at is_visible xs at 0 lt (false_of (is_visible (get_or xs at 0)) (λ passes. let both = both_true (leb 33 (get_or xs at 0)) (leb (get_or xs at 0) 126) passes in unseen (leb-true 33 (get_or xs at 0) both.0, leb-true (get_or xs at 0) 126 both.1)))
-
 -- the tests that are passed before the id
 pub record IsBegun (bytes : List ℕ) : Type 0 where
   pub are_letters : pointwise nat_eq (take 8 (drop 1 bytes)) letters ≡ true
@@ -117,9 +112,6 @@ module _ (bytes : List ℕ) where
 
   most_passes : IsBegun bytes → ltb 44 (game_length_in bytes) ≡ false
   most_passes is = false_of (ltb 44 (game_length_in bytes)) (λ over. omega (arith, is.most, ltb-true 44 (game_length_in bytes) over))
-
-  pub unseen_fault : IsBegun bytes → list_all is_visible (game_in bytes) ≡ false → header_fault bytes ≡ Some 20
-  unseen_fault is unseen = rw (is.are_letters, is.known, epoch_passes is, least_passes is, most_passes is, unseen) refl
 
   pub unfilled_fault : IsBegun bytes → list_all is_visible (game_in bytes) ≡ true → list_all (λ byte. byte == 0) (drop (20 + game_length_in bytes) bytes) ≡ false → header_fault bytes ≡ Some (20 + game_length_in bytes)
   unfilled_fault is seen unfilled = rw (is.are_letters, is.known, epoch_passes is, least_passes is, most_passes is, seen, unfilled) refl

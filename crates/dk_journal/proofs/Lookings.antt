@@ -1,27 +1,18 @@
 -- What a file is, by its length, its first byte and its header.
-use Rattle.std.proofs.Common.{◌≡◌, ◌≢◌, ⊎_elim, ℕ, ◌<◌, ◌≤◌, ltb, false, Some, None, List, [], ◌∷◌, length, get_or, take, drop, refl, sym, ◌∙◌, ap, arith}
+use Rattle.std.proofs.Common.{◌≡◌, ⊎_elim, ℕ, ◌<◌, ◌≤◌, ltb, false, Some, None, List, [], ◌∷◌, length, get_or, take, drop, refl, sym, ◌∙◌, ap, arith}
 use Rattle.std.proofs.lemmas.List.{append-nil, drop_more, get_or-take}
-use Rattle.std.proofs.lemmas.Bool.{ltb-true, lt-ltb}
-use Rattle.dk_model.specs.Stores.{Blank, Live, Faulty, StoreHeader, IsHeader, header_spelling, header_fault, header_in, is_blank, look, look_of_header}
+use Rattle.std.proofs.lemmas.Bool.{ltb-true}
+use Rattle.dk_model.specs.Stores.{Live, Faulty, StoreHeader, IsHeader, header_spelling, header_fault, header_in, is_blank, look, look_of_header}
 use Rattle.dk_journal.specs.Scanning.{IsScanned}
-use Rattle.dk_journal.proofs.Blanks.{blank_short, blank_shut, blank_is}
+use Rattle.dk_journal.proofs.Blanks.{blank_is}
 use Rattle.dk_journal.proofs.HeaderBytes.{false_of, header_length}
 
 -- the byte that was read
 pub byte_is : (file : List ℕ) (at byte : ℕ) → at < length file → byte ∷ [] ≡ take 1 (drop at file) → get_or file at 0 ≡ byte
 byte_is file at byte lt read = let there : byte ∷ [] ≡ get_or file at 0 ∷ [] = read ∙ ap (take 1) (drop_more file at 0 lt) in cc
 
-pub look_short : (file : List ℕ) → length file ≤ 1 → look file ≡ Blank
-look_short file le = rw (blank_short file le) refl
-
-pub look_shut : (file : List ℕ) (gate : ℕ) → 1 < length file → gate ∷ [] ≡ take 1 (drop 0 file) → gate ≢ 1 → look file ≡ Blank
-look_shut file gate long read shut = rw (blank_shut file (λ e. shut (sym (byte_is file 0 gate (omega (arith, long)) read) ∙ e))) refl
-
 not_blank : (file : List ℕ) → 1 < length file → get_or file 0 0 ≡ 1 → is_blank file ≡ false
 not_blank file long open_gate = false_of (is_blank file) (λ blank. ⊎_elim (λ short. omega (arith, long, short)) (λ shut. shut open_gate) (blank_is file blank))
-
-pub look_torn : (file : List ℕ) → 1 < length file → 1 ∷ [] ≡ take 1 (drop 0 file) → length file < 65 → look file ≡ Faulty 0
-look_torn file long read short = rw (not_blank file long (byte_is file 0 1 (omega (arith, long)) read), lt-ltb (length file) 65 short) refl
 
 pub look_whole : (file : List ℕ) → 1 ∷ [] ≡ take 1 (drop 0 file) → 65 ≤ length file → look file ≡ look_of_header (take 64 file) (header_fault (take 64 file))
 look_whole file read long =

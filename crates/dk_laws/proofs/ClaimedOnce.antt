@@ -9,7 +9,7 @@ use Rattle.dk_types.specs.declared.event.Event.{Event}
 use Rattle.dk_types.specs.declared.event.Event.TheVariants as event
 use Rattle.dk_model.specs.DurableWorlds.{DurableWorld}
 use Rattle.dk_model.specs.Worlds.{World, Claim}
-use Rattle.dk_model.specs.Events.{Meaning, Happens}
+use Rattle.dk_model.specs.Events.{Meaning}
 use Rattle.dk_model.specs.Histories.{Leads}
 use Rattle.dk_model.specs.Openings.{opening}
 use Rattle.dk_model.specs.Sights.{grants}
@@ -25,14 +25,6 @@ pub record AreOthers (run : RunNo) (events : List Event) : Type 0 where
 
 others_more : (run : RunNo) (e : Event) (events : List Event) → grants run e ≡ false → commits_run run e ≡ false → AreOthers run events → AreOthers run (e ∷ events)
 others_more run e events g k o = record { granted = rw g o.granted; committed = rw k o.committed }
-
--- only a commit of a claimed run commits it
-commits_claimed : (rules : Meaning) (w : World) (run : RunNo) (e : Event) (after : World) → Happens rules w e after → get w.claims run ≡ None → commits_run run e ≡ false
-commits_claimed rules w run e after h none = elim (fate run rules w e after h) [
-  | inl f ↦ f.commits
-  | inr (inl f) ↦ none_some f.claim (sym none ∙ f.held)
-  | inr (inr f) ↦ f.commits
-]
 
 -- a number that is drawn, and belongs to no claim, is never claimed
 pub record IsOver (run : RunNo) (events : List Event) (after : World) : Type 0 where

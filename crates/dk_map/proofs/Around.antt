@@ -7,7 +7,7 @@ use Rattle.std.specs.declared.cmp.Ordering.TheVariants.{Less, Equal, Greater}
 use Rattle.std.specs.Ordering.{is_lt, is_eq, ordering_reverse, eq_by_cmp}
 use Rattle.std.specs.Cmp.{IsTotalOrder}
 use Rattle.std.specs.FinMap.Entries.{below_all, by_order}
-use Rattle.dk_map.specs.Entries.{find, put, IsOrdered, without, first_above, first_entry}
+use Rattle.dk_map.specs.Entries.{find, put, IsOrdered, without, first_above}
 
 -- the first of two tests that both hold
 first : (a b : Bool) → T (a && b) → T a
@@ -176,11 +176,6 @@ module _ {K V : Type 0} (R : K → K → Ordering) where
         | true ↦ refl
         | false ↦ above_front q l e r p
       ]
-
--- the first of all the entries stands before e or is e
-pub first_left : {K V : Type 0} (l : List (K × V)) (e : K × V) (r : List (K × V)) → first_entry (l ++ e ∷ r) ≡ option_or (first_entry l) (Some e)
-first_left [] e r = refl
-first_left (x ∷ l) e r = refl
 
 -- of three answers, the last is not asked where the second is there
 pub or_nearer : {A : Type 0} (r : Option A) (e : A) (far : Option A) → option_or (option_or r (Some e)) far ≡ option_or r (Some e)

@@ -1,9 +1,9 @@
 -- A balanced tree is low: its height is at most twice the logarithm of its entries.
-use Rattle.std.proofs.Common.{◌≡◌, ℕ, suc, ◌+◌, ◌/◌, ◌^◌, ◌-◌, ◌<◌, ◌≤◌, max, ◌∷◌, length, length-append, ◌⊎◌, inl, inr, arith, Option, None, Some, Box}
+use Rattle.std.proofs.Common.{◌≡◌, ℕ, suc, ◌+◌, ◌/◌, ◌^◌, ◌-◌, ◌<◌, ◌≤◌, max, ◌∷◌, length, length-append, ◌⊎◌, inl, inr, arith}
 use Rattle.std.proofs.lemmas.Bool.{cases_order}
 use Rattle.std.proofs.Math.Pow.{pow_mono}
 use Rattle.std.proofs.Math.Nat.{two-pow-succ}
-use Rattle.dk_map.specs.Balance.{IsLow, DifferByAtMost, IsAvl, IsAvlCell, root_entries, cell_entries, node_entries, node_height}
+use Rattle.dk_map.specs.Balance.{IsLow, DifferByAtMost, node_entries, node_height}
 use Rattle.dk_map.specs.declared.tree.Node.{Node}
 
 -- a number is below two, or it is not
@@ -34,16 +34,6 @@ low_node l r m n p q d =
 -- the same of a node, at the height that is stored for it
 pub low_entries : {K V : Type 0} (n : Node K V) (h : ℕ) → h ≡ node_height n → IsLow n.left.1 (length n.left.0) → IsLow n.right.1 (length n.right.0) → DifferByAtMost 1 n.left.1 n.right.1 → IsLow h (length (node_entries n))
 low_entries n h is p q d = rw (is, length-append n.left.0 ((n.key, n.value) ∷ n.right.0)) (low_node n.left.1 n.right.1 (length n.left.0) (length n.right.0) p q d)
-
--- each full cell is low
-low_cell : {K V : Type 0} (cell : Option (Node K V)) (h : ℕ) → IsAvlCell cell h → IsLow h (length (cell_entries cell))
-low_cell None h a = absurd a
-low_cell (Some n) h a = a.2
-
--- each tree is low
-pub low_tree : {K V Z : Type 0} (root : Option (Box (Option (Node K V)) Z)) (h : ℕ) → IsAvl root h → IsLow h (length (root_entries root))
-low_tree None h a = rw a (omega arith)
-low_tree (Some b) h a = low_cell b.value h a
 
 -- a height is below 128, or it is not
 split : (h : ℕ) → (h < 128) ⊎ (128 ≤ h)

@@ -116,14 +116,6 @@ lawful_refuse n = record { at = λ s. refused s (Refused n) }
 pub lawful_needs : {A Needs Less : Type 0} {Has : A → Type 0} {act : Act A} → (Needs → Less) → IsLawful Less Has act → IsLawful Needs Has act
 lawful_needs h p = record { at = λ s. let q = p.at s in record { goes = q.goes; fit = λ n. q.fit (h n); leaves = λ n. q.leaves (h n); has = λ n. q.has (h n) } }
 
-weaker : {A : Type 0} {P Q : A → Type 0} (r : Result A AppFault) → ((x : A) → P x → Q x) → HasIfOk P r → HasIfOk Q r
-weaker (Ok x) h p = h x p
-weaker (Err fault) h p = tt
-
--- less may be said of the answer
-pub lawful_says : {A Needs : Type 0} {P Q : A → Type 0} {act : Act A} → ((x : A) → P x → Q x) → IsLawful Needs P act → IsLawful Needs Q act
-lawful_says {act = act} h p = record { at = λ s. let q = p.at s in record { goes = q.goes; fit = q.fit; leaves = q.leaves; has = λ n f. weaker ((act s).0) h (q.has n f) } }
-
 -- an `if` between two acts; each may count on the test's answer
 pub lawful_if : {A Needs : Type 0} {Has : A → Type 0} {f g : Act A} (b : Bool) → IsLawful (Needs × (b ≡ true)) Has f → IsLawful (Needs × (b ≡ false)) Has g → IsLawful Needs Has (if b then f else g)
 lawful_if true p q = lawful_needs (λ n. (n, refl)) p

@@ -5,8 +5,7 @@ use Rattle.std.proofs.lemmas.List.Sums.{AllPass-from_list_all}
 use Rattle.std.proofs.lemmas.Str.{utf8_valid_len-IsUtf8, IsUtf8-from_ascii}
 use Rattle.std.proofs.lemmas.Str.Ascii.{IsAscii-from_all}
 use Rattle.dk_types.specs.Names.{IsName}
-use Rattle.dk_model.specs.Validity.{IsBody}
-use Rattle.dk_model.specs.Scripts.{IsLineName, IsText, is_name_byte, is_text_byte}
+use Rattle.dk_model.specs.Scripts.{IsLineName, is_name_byte}
 
 -- a visible byte is ASCII
 name_byte_small : (b : ℕ) → is_name_byte b ≡ true → b < 128
@@ -19,11 +18,3 @@ line_name name h = record {
   most = omega (arith, h.most);
   text = utf8_valid_len-IsUtf8 name (IsUtf8-from_ascii name (IsAscii-from_all name (λ k d l. name_byte_small _ (AllPass-from_list_all is_name_byte name h.visible k d l))));
 }
-
--- a byte of a text is a byte
-text_byte_small : (b : ℕ) → is_text_byte b ≡ true → b < 256
-text_byte_small b h = grind (arith, nat_tests)
-
--- a text is a body
-pub text_body : (text : List ℕ) → IsText text → IsBody text
-text_body text h = record { short = omega (arith, h.0); bytes = λ k d l. text_byte_small _ (AllPass-from_list_all is_text_byte text h.1 k d l) }

@@ -8,11 +8,10 @@ use Rattle.dk_types.specs.declared.object.Object.{Object}
 use Rattle.dk_types.specs.declared.fault.AppFault.{AppFault}
 use Rattle.dk_types.specs.declared.job.Out.{Out}
 use Rattle.dk_types.specs.declared.limits.TheConstants.{OBJECTS_MOST_COUNT, MESSAGES_MOST_COUNT}
-use Rattle.dk_types.specs.declared.mode.Mode.{Mode}
 use Rattle.dk_model.specs.Keys.{key_cmp}
 use Rattle.dk_model.specs.DurableWorlds.{Task}
 use Rattle.dk_model.specs.Runs as act
-use Rattle.dk_model.specs.Runs.{Run, Act, give, and_then, carry_on, within, refuse, send}
+use Rattle.dk_model.specs.Runs.{Run, Act, give, and_then, carry_on, refuse, send}
 use Rattle.dk_model.specs.References.{get_as, get_for_update_as, save_as}
 use Rattle.dk_model.specs.Sendings.{SendsAtMost}
 
@@ -113,11 +112,6 @@ carried_tasks (Err e) g q s = refl
 pub then_sends : {A B : Type 0} {m n : ℕ} {f : Act A} {g : A → Act B} → SendsAtMost m f → ((x : A) → SendsAtMost n (g x)) → SendsAtMost (m + n) (and_then f g)
 unfolding and_then
 then_sends {f = f} {g = g} p q = record { bound = λ s. omega (arith, p.bound s, carried (f s).0 g q (f s).1); tasks = λ s. carried_tasks (f s).0 g q (f s).1 ∙ p.tasks s }
-
--- a step in a mode of its own
-pub within_sends : {A : Type 0} {n : ℕ} {f : Act A} (mode : Mode) → SendsAtMost n f → SendsAtMost n (within mode f)
-unfolding within
-within_sends mode p = record { bound = λ s. p.bound (record s { mode = mode }); tasks = λ s. p.tasks (record s { mode = mode }) }
 
 -- a value is read and nothing sent
 pub get_as_sends : {A : Type 0} (kind : ℕ) (read : List ℕ → Option A) (id : ObjectId) → SendsAtMost 0 (get_as kind read id)

@@ -1,10 +1,10 @@
 -- What a stop may leave of a history stays so while the history goes on.
-use Rattle.std.proofs.Common.{◌≡◌, List, [], ◌∷◌, ◌++◌, refl, sym, ◌∙◌, ap, append_assoc}
+use Rattle.std.proofs.Common.{List, [], ◌++◌, refl, sym, ◌∙◌, ap, append_assoc}
 use Rattle.std.proofs.lemmas.List.{append-nil}
 use Rattle.dk_types.specs.declared.event.Event.{Event}
 use Rattle.dk_model.specs.DurableWorlds.{DurableWorld}
 use Rattle.dk_model.specs.Legal.{Opened, world_after}
-use Rattle.dk_model.specs.Tails.{IsAfterSome, IsAfterSomeOrTail}
+use Rattle.dk_model.specs.Tails.{IsAfterSome}
 
 -- the world after all of the events
 pub after_all : (o : Opened) (events : List Event) → IsAfterSome o events (world_after o events).durable
@@ -14,11 +14,3 @@ after_all o events = record { front = events; later = []; parts = sym (append-ni
 pub after_more : (o : Opened) (events more : List Event) (d : DurableWorld) → IsAfterSome o events d → IsAfterSome o (events ++ more) d
 after_more o events more d some =
     record { front = some.front; later = some.later ++ more; parts = ap (λ (l : List Event). l ++ more) some.parts ∙ append_assoc some.front some.later more; world = some.world }
-
--- with no tail yet, or with any
-pub without_tail : (o : Opened) (events tail : List Event) (d : DurableWorld) → IsAfterSome o events d → IsAfterSomeOrTail o events tail d
-without_tail o events tail d some = after_more o events tail d some
-
--- with the tail
-pub with_tail : (o : Opened) (events tail : List Event) → IsAfterSomeOrTail o events tail (world_after o (events ++ tail)).durable
-with_tail o events tail = after_all o (events ++ tail)

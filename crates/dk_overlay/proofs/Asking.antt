@@ -38,10 +38,6 @@ get_pushed [] y (suc i) x e = cc
 get_pushed (z ∷ xs) y zero x e = inl e
 get_pushed (z ∷ xs) y (suc i) x e = elim (get_pushed xs y i x e) [ inl h ↦ inl h | inr h ↦ inr (ap suc h.0, h.1) ]
 
--- a read that was made is among more
-pub WasRead-front : (reads : List (Item × Read)) (e : Item × Read) (item : Item) (read : Read) → WasRead reads item read → WasRead (reads ++ e ∷ []) item read
-WasRead-front reads e item read w = (w.0, get_front reads e w.0 (item, read) w.1)
-
 pub WasRead-last : (reads : List (Item × Read)) (item : Item) (read : Read) → WasRead (reads ++ (item, read) ∷ []) item read
 WasRead-last reads item read = (length reads, get_last reads (item, read))
 

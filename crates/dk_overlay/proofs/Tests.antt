@@ -42,10 +42,6 @@ pub not_false : (a : Bool) → not a ≡ true → a ≡ false
 not_false true h = cc
 not_false false h = refl
 
-pub true_from_T : (b : Bool) → T b → b ≡ true
-true_from_T true h = refl
-true_from_T false h = absurd h
-
 pub first_of_and : (a b : Bool) → T (a && b) → T a
 first_of_and true b p = tt
 first_of_and false b p = p
@@ -62,8 +58,3 @@ pub less_from_T : (o : Ordering) → T (is_lt o) → o ≡ Less
 less_from_T Less p = refl
 less_from_T Equal p = absurd p
 less_from_T Greater p = absurd p
-
-pub less_from : (o : Ordering) → is_lt o ≡ true → o ≡ Less
-less_from Less p = refl
-less_from Equal p = cc
-less_from Greater p = cc

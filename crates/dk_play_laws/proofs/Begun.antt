@@ -127,10 +127,6 @@ paired_then (p ∷ before) [] after f g = absurd f
 paired_then [] [] (r ∷ after) f g = absurd g
 paired_then (p ∷ before) (q ∷ mid) [] f g = absurd g
 
--- nothing was called
-pub only_none : (workers : List (Known Event)) (main : Known Event) → HaveOnlyWorked workers workers main main
-only_none workers main = record { main = stands_entered main; each = paired_same workers }
-
 pub only_then : (a b c : List (Known Event)) (p q r : Known Event) → HaveOnlyWorked a b p q → HaveOnlyWorked b c q r → HaveOnlyWorked a c p r
 only_then a b c p q r f g = record { main = entered_then [] [] p q r f.main g.main; each = paired_then a b c f.each g.each }
 

@@ -52,11 +52,6 @@ met_seen from to (p ∷ before) (q ∷ after) pairs behind =
 met_seen from to [] (q ∷ after) pairs behind = absurd pairs
 met_seen from to (p ∷ before) [] pairs behind = absurd pairs
 
--- one worker's way through a drain
-record IsWay (from to : List Event) (p q r s : Known Event) : Type 0 where
-  first : HasMet from to p q
-  work : HasWorkedOn q r
-
 -- the own events of a worker beyond a front
 record Entered (n : ℕ) (from log : List Event) : Type 0 where
   events : List Event

@@ -40,11 +40,6 @@ away_steady = record { same = λ o h. h; next = λ a b c p q h. p (q h); gone = 
 abbrev ends : Bool → ℕ
 ends b = if b then 1 else 2
 
--- it counts two at most
-ends_most : (b : Bool) → ends b ≤ 2
-ends_most true = omega arith
-ends_most false = omega arith
-
 -- it counts one at least
 ends_least : (b : Bool) → 1 ≤ ends b
 ends_least true = omega arith

@@ -1,12 +1,9 @@
 -- A session goes on: its pass has seen more, its counts have not fallen, and for what it waits.
-use Rattle.std.proofs.Common.{◌≡◌, ◌⊎◌, ℕ, ◌<◌, ◌≤◌, Bool, List, ◌++◌, Option, Some, None, Result, IsSome, inl, inr, refl, sym, ap, subst, ◌∙◌, append_assoc, arith}
+use Rattle.std.proofs.Common.{◌≡◌, ◌⊎◌, ℕ, ◌<◌, ◌≤◌, Bool, List, ◌++◌, Option, Some, None, IsSome, inl, inr, refl, sym, ap, subst, ◌∙◌, append_assoc, arith}
 use Rattle.std.proofs.lemmas.Bool.Decides.{eqb_tells}
 use mathlib.Core.List.{IsPrefix}
 use Rattle.futures.specs.Task.{IsArmed, Keeps, Lasting}
 use Rattle.futures.specs.declared.task.context.Context.{Context}
-use Rattle.futures.specs.declared.task.Poll.{Poll}
-use Rattle.futures.specs.declared.task.Poll.TheVariants.{Ready, Pending}
-use Rattle.dk_types.specs.declared.fault.Failed.{Failed}
 use Rattle.dk_types.specs.Faults.{HasRisen}
 use Rattle.dk_types.specs.declared.number.ConnNo.{ConnNo}
 use Rattle.dk_types.specs.declared.event.Event.{Event}
@@ -16,8 +13,7 @@ use Rattle.dk_turn.specs.Fronts.{Known}
 use Rattle.dk_turn.proofs.Beginnings.{prefix_self}
 use Rattle.dk_pump.specs.declared.ends.SessionEnd.{SessionEnd}
 use Rattle.dk_pump.specs.declared.course.Course.{Course}
-use Rattle.dk_pump.specs.declared.putting.PutRefused.{PutRefused}
-use Rattle.dk_pump.specs.Sessions.{LinkState, KeepsPut, EndsReading, CountsWaits, WaitsToPut}
+use Rattle.dk_pump.specs.Sessions.{LinkState, KeepsPut, EndsReading}
 use Rattle.dk_pump.specs.Waiting.{FindsNothing, HasNothing, WaitsToRead, WaitsToWrite, MayWait, IsLater, IsStill}
 
 -- ---- counts
@@ -107,14 +103,6 @@ may_wait o pass at mid pass' link l₁ l₂ link' c c' a b d writing reading sti
 }
 
 -- ---- counts of one poll
-
-pub waits_most : (r : Poll (Result ℕ Failed)) (a b : ℕ) → CountsWaits a b r → a ≤ b
-waits_most (Ready r) a b h = omega (arith, h)
-waits_most Pending a b h = risen_most a b h
-
-pub put_waits_most : (r : Poll (Result (Unit {0}) PutRefused)) (a b : ℕ) → WaitsToPut r a b → a ≤ b
-put_waits_most (Ready r) a b h = omega (arith, h)
-put_waits_most Pending a b h = risen_most a b h
 
 -- ---- a context of a poll that is pending
 

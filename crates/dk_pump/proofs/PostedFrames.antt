@@ -55,16 +55,6 @@ module _ (o : Opened) (count pass : ℕ) (conn : ConnNo) where
         (enters_then o count pass (taken pass conn (inputs_of p.done)) (event.Post pass conn asked posted.Taken ∷ []) front mid front' p.enters e);
   }
 
-  -- all were
-  pub posted_all : (all : List Frame) (front front' : List Event) → IsPosting o count pass conn all [] front front' → PostsFrames o count pass conn all (Ok progress.All) front front'
-  posted_all all front front' p =
-      let is : all ≡ p.done = p.parts ∙ append-nil p.done in
-      record {
-        events = taken pass conn (inputs_of p.done);
-        posts = (ap (λ fs. taken pass conn (inputs_of fs)) (sym is), ap (stage_after InSession) is ∙ p.stage);
-        enters = p.enters;
-      }
-
   -- behind a LOGOUT there is nothing
   last_logout : (rest : List Frame) → AreInTurn InSession (Logout ∷ rest) → rest ≡ []
   last_logout [] turn = refl

@@ -1,5 +1,5 @@
 -- The steps of a polled session: whatever it began with, what it did goes on.
-use Rattle.std.proofs.Common.{◌≡◌, ℕ, ◌<◌, ◌≤◌, Bool, true, false, cond, List, [], ◌∷◌, ◌++◌, Option, Some, None, Ok, Err, IsSome, unwrap_or, if◌then◌else◌, refl, sym, subst, ◌∙◌}
+use Rattle.std.proofs.Common.{◌≡◌, ℕ, ◌<◌, ◌≤◌, Bool, true, false, cond, List, [], ◌∷◌, ◌++◌, Option, Some, None, Ok, Err, IsSome, unwrap_or, refl, sym, subst, ◌∙◌}
 use Rattle.std.proofs.lemmas.List.{append-nil}
 use Rattle.std.proofs.lemmas.List.Folds.{list_any-append}
 use Rattle.std.specs.List.{All, list_any}
@@ -37,7 +37,7 @@ use Rattle.dk_pump.proofs.InOrder.{reads_behind, writes_behind}
 use Rattle.dk_pump.proofs.Later.{prefix_then, entered_begins}
 use Rattle.dk_pump.proofs.PostedBehind.{posted_whole, posted_to_end, refused_behind}
 use Rattle.dk_pump.proofs.ReadParts.{IsOfCall, refused_by_call, read_meanwhile, read_as, read_to_call, read_to_end, read_piece, pending_more, logs_in, logs_in_not, never_logs_in, posts_all, reads_out, cuts_off}
-use Rattle.dk_pump.proofs.WriteParts.{given_on, written_meanwhile, unwritten_meanwhile, unwritten_over, begins_writing, puts_on, goes_without, gives_up, hands_more, hands_without, went_without, gives_up_without, puts_all}
+use Rattle.dk_pump.proofs.WriteParts.{given_on, written_meanwhile, unwritten_meanwhile, unwritten_over, begins_writing, puts_on, goes_without, gives_up, hands_more, hands_without, gives_up_without}
 use Rattle.dk_pump.proofs.WrittenOn.{told_one, or_right}
 
 -- a session whose reading goes on, with this connection or none
@@ -349,28 +349,3 @@ module _ (o : Opened) (keeps : Bool) (count : ℕ) where
       (read_meanwhile o keeps n (Some conn) x.end x.decoder given.left link.left given.take_counted link.take_counted pass.front [] s.writes s.reads s.read link.left link.take_counted pass'.front [] (entered_begins o pass.number [] pass.front pass'.front e) refl refl)
       (subst (λ ws. HasWritten o keeps n (Some conn) x given.contents link.contents given.put_counted link.put_counted pass'.front ws) (sym (append-nil s.writes))
       (written_at o keeps n conn c.failed x given.contents link.contents given.put_counted link.put_counted pass.front pass'.front s.writes (entered_begins o pass.number [] pass.front pass'.front e) there s.written))) there
-
-  -- the connection is gone, and all was put that could be
-  pub ends_writing : (pass : Known Event) (link : LinkState) (c : Course) (conn : ConnNo) → c.conn ≡ Some conn → c.write ≡ None → c.gone ≡ true → (c.failed ≡ false → c.outgoing ≡ [])
-      → GoesOn o keeps count pass link c [] pass link (record c { write = Some (if c.failed then written.WriteFault else written.Done) }) []
-  ends_writing pass link c conn is none gone empty =
-      elim c.failed as (λ f. c.failed ≡ f → GoesOn o keeps count pass link c [] pass link (record c { write = Some (if c.failed then written.WriteFault else written.Done) }) []) [
-        | false ↦ λ f. while_writing (λ x. x.gone ≡ true → x.outgoing ≡ [] → GoesOn o keeps count pass link x [] pass link (record x { write = Some (if x.failed then written.WriteFault else written.Done) }) []) c conn false is none f
-            (λ y gone empty began given s.
-            let x = record y { conn = Some conn; write = None; failed = false } in
-            let n = began.number in
-            by_writing began given pass link x [] s pass link (record x { write = Some written.Done }) [] [] refl (enters_none o count pass.number pass.front)
-            (read_meanwhile o keeps n (Some conn) x.end x.decoder given.left link.left given.take_counted link.take_counted pass.front [] s.writes s.reads s.read link.left link.take_counted pass.front [] (prefix_self pass.front) refl refl)
-            (subst (λ ws. HasWritten o keeps n (Some conn) (record x { write = Some written.Done }) given.contents link.contents given.put_counted link.put_counted pass.front ws) (sym (append-nil s.writes))
-            (puts_all o keeps n conn given.contents link.contents given.put_counted link.put_counted x.end pass.front s.writes
-            (subst (λ g. IsPutting o n conn g [] x.end given.contents link.contents given.put_counted link.put_counted pass.front s.writes) gone
-            (subst (λ bs. IsPutting o n conn x.gone bs x.end given.contents link.contents given.put_counted link.put_counted pass.front s.writes) empty s.written))))) gone (empty f)
-        | true ↦ λ f. while_writing (λ x. x.gone ≡ true → GoesOn o keeps count pass link x [] pass link (record x { write = Some (if x.failed then written.WriteFault else written.Done) }) []) c conn true is none f
-            (λ y gone began given s.
-            let x = record y { conn = Some conn; write = None; failed = true } in
-            let n = began.number in
-            by_writing began given pass link x [] s pass link (record x { write = Some written.WriteFault }) [] [] refl (enters_none o count pass.number pass.front)
-            (read_meanwhile o keeps n (Some conn) x.end x.decoder given.left link.left given.take_counted link.take_counted pass.front [] s.writes s.reads s.read link.left link.take_counted pass.front [] (prefix_self pass.front) refl refl)
-            (subst (λ ws. HasWritten o keeps n (Some conn) (record x { write = Some written.WriteFault }) given.contents link.contents given.put_counted link.put_counted pass.front ws) (sym (append-nil s.writes))
-            (went_without o keeps n conn given.contents link.contents given.put_counted link.put_counted x.gone x.end pass.front s.writes s.written gone))) gone
-      ] refl

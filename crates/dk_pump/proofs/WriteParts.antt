@@ -168,16 +168,6 @@ module _ (o : Opened) (keeps : Bool) (pass : ℕ) (conn : ConnNo) (a b : Option 
           last = λ is. (list_any-append (tells_end conn) writes more ∙ or_right (list_any (tells_end conn) writes) _ (told_one pass conn most outs gone' ∙ is), ended is);
         }
 
-    -- it told that the connection is gone
-    pub went_without : gone ≡ true → IsWrittenOut o keeps pass conn ends.WriteFault end a b k l front writes
-    went_without is = record { is = (h.given_up, (h.last is).0); put = h.put; counts = h.counts; all = tt; ended = (h.last is).1 }
-
     -- there was no memory
     pub gives_up_without : (end' : Option SessionEnd) → IsSome end' → IsWrittenOut o keeps pass conn ends.NoMemory end' a b k l front writes
     gives_up_without end' ended = record { is = h.given_up; put = h.put; counts = tt; all = tt; ended = ended }
-
-  -- all was put
-  pub puts_all : (end : Option SessionEnd) (front writes : List Event) → IsPutting o pass conn true [] end a b k l front writes → IsWrittenOut o keeps pass conn ends.Done end a b k l front writes
-  puts_all end front writes h =
-      let last = h.last refl in
-      record { is = last.0; put = subst (Appends a b) (sym (h.parts ∙ append-nil h.put)) h.appended; counts = h.counts; all = last.1; ended = last.2 }

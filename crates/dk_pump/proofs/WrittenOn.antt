@@ -10,14 +10,12 @@ use Rattle.std.specs.Io.KnownBytes.{Appends}
 use Rattle.dk_types.specs.Faults.{HasRisen}
 use Rattle.dk_types.specs.declared.number.ConnNo.{ConnNo}
 use Rattle.dk_types.specs.declared.job.Out.{Out}
-use Rattle.dk_types.specs.declared.job.Out.TheVariants as out
 use Rattle.dk_types.specs.declared.event.Event.{Event}
 use Rattle.dk_types.specs.declared.event.Event.TheVariants as event
 use Rattle.dk_model.specs.Worlds.{Connection}
 use Rattle.dk_model.specs.Events.{outbox, outbox_at}
-use Rattle.dk_model.specs.Frames.{out_spelling, HasBodyWithin}
+use Rattle.dk_model.specs.Frames.{out_spelling}
 use Rattle.dk_model.specs.Histories.{Leads}
-use Rattle.dk_model.specs.Lawful.{HasShortBody}
 use Rattle.dk_model.specs.Legal.{Opened, opening_of}
 use Rattle.dk_model.specs.Messages.{same_conn, messages, handed, handed_by}
 use Rattle.dk_laws.proofs.Handed.{messages_handed}
@@ -33,14 +31,6 @@ use Rattle.dk_pump.specs.Reading.{EndsSession, Disconnects}
 use Rattle.dk_pump.specs.Writing.{frames_of, IsHand, AreHands, tells_end, hands_to, IsGivenUp, WritesSession, IsWriting, EndsHands, HandsOn}
 use Rattle.dk_pump.proofs.Entering.{enters_none, enters_then}
 use Rattle.dk_pump.proofs.Streams.{appends_none, appends_then}
-
--- a short body is within the limit of frames
-pub body_within : (o : Out) → HasShortBody o → HasBodyWithin o
-body_within out.Accepted h = tt
-body_within out.Refused h = tt
-body_within (out.Message body) h = h
-body_within (out.Channel channel body) h = h
-body_within out.Close h = tt
 
 -- ---- what was put
 
@@ -182,15 +172,6 @@ module _ (o : Opened) (count pass : ℕ) (conn : ConnNo) where
     enters = enters_then o count pass h.events _ front mid front' h.enters e;
     ends = λ is. or_right gone _ (list_any-append (tells_end conn) h.events _ ∙ or_right (list_any (tells_end conn) h.events) _ (told_one pass conn most outs end' ∙ is));
   }
-
-  -- the connection is gone
-  pub handed_on : (gone : Bool) (front front' : List Event) → IsHandingOn o count pass conn gone true front front' → HandsOn o count pass conn gone ends.WriteFault front front'
-  handed_on gone front front' h = record { events = h.events; hands = h.hands; ends = h.ends refl; enters = h.enters }
-
-  -- memory was refused
-  pub stops_handing : (gone end : Bool) (front mid front' : List Event) → IsHandingOn o count pass conn gone end front mid → Enters o count pass [] mid front' → HandsOn o count pass conn gone ends.NoMemory front front'
-  stops_handing gone end front mid front' h e =
-      record { events = h.events ++ []; hands = hands-append pass conn h.events [] h.hands tt; ends = tt; enters = enters_then o count pass h.events [] front mid front' h.enters e }
 
   module _ (a b : Option (List ℕ)) (counted counted_at : ℕ) (front at : List Event) (w : IsWriting o count pass conn a b counted counted_at front at) where
     -- the events with one Hand more, and what they handed

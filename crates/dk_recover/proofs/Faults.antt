@@ -1,5 +1,5 @@
 -- What a scan's refusal is to one who opens the store.
-use Rattle.std.proofs.Common.{◌≡◌, ℕ, List, [], Err, refl, sym, subst}
+use Rattle.std.proofs.Common.{◌≡◌, ℕ, List, Err, refl, sym, subst}
 use Rattle.dk_types.specs.declared.side.Side.{Side}
 use Rattle.dk_model.specs.Stores.{StoreHeader}
 use Rattle.dk_model.specs.Recovered.{IsDamaged}
@@ -7,8 +7,8 @@ use Rattle.dk_journal.specs.Refusals.{IsScanFault}
 use Rattle.dk_journal.specs.declared.refused.JournalRefused.{JournalRefused}
 use Rattle.dk_journal.specs.declared.refused.JournalRefused.TheVariants as journal
 use Rattle.dk_recover.specs.declared.fault.OpenFault.{OpenFault}
-use Rattle.dk_recover.specs.declared.fault.OpenFault.TheVariants.{NoMemory, DiskFault, NotAStore, WrongGame, Damaged}
-use Rattle.dk_recover.specs.Records.{IsStep, IsWhole, IsFaultOf}
+use Rattle.dk_recover.specs.declared.fault.OpenFault.TheVariants.{NoMemory, DiskFault, NotAStore, Damaged}
+use Rattle.dk_recover.specs.Records.{IsStep, IsFaultOf}
 
 pub fault_step : (file : List ℕ) (header : StoreHeader) (done : List (List ℕ)) (at end : ℕ) (v : JournalRefused) (side : Side) (f : OpenFault) → IsFaultOf v side f → IsScanFault v
     → ((place : ℕ) → v ≡ journal.Damaged place → IsDamaged file header place) → IsStep file header done at end (Err f)
@@ -38,11 +38,3 @@ disk_fault journal.NoMemory here f is e = absurd cc
 disk_fault journal.DiskFault here f is e = is
 disk_fault (journal.Full length) here f is e = is
 disk_fault (journal.NotAStore p) here f is e = is
-
--- a refusal behind no record is one of the whole file
-pub first_whole : (file : List ℕ) (header : StoreHeader) (at end : ℕ) (f : OpenFault) → IsStep file header [] at end (Err f) → IsWhole file header (Err f)
-first_whole file header at end (Damaged side place) is = is
-first_whole file header at end NoMemory is = is
-first_whole file header at end DiskFault is = is
-first_whole file header at end (NotAStore side place) is = is
-first_whole file header at end (WrongGame found) is = is

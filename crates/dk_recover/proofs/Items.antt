@@ -1,5 +1,5 @@
 -- What holds of each item of a list holds of what is found in it.
-use Rattle.std.proofs.Common.{◌≡◌, cond, map, Option, Some, None, List, [], ◌∷◌, refl, sym, subst}
+use Rattle.std.proofs.Common.{◌≡◌, cond, Option, Some, None, List, [], ◌∷◌, refl, sym, subst}
 use Rattle.std.specs.declared.cmp.Ordering.{Ordering}
 use Rattle.std.specs.declared.cmp.Ordering.TheVariants.{Less, Equal, Greater}
 use Rattle.std.specs.Ordering.{is_eq}
@@ -15,15 +15,6 @@ chained_each P Fits to before (x ∷ xs) are = (to before x are.0, chained_each 
 
 pub list_each : {A : Type 0} (P : A → Type 0) (Fits : Option A → A → Type 0) → ((before : Option A) (x : A) → Fits before x → P x) → (xs : List A) → IsList Fits xs → AllByRecursion P xs
 list_each P Fits to xs is = chained_each P Fits to None xs is.each
-
--- two facts of each item
-pub each_both : {A : Type 0} (P Q : A → Type 0) (xs : List A) → AllByRecursion P xs → AllByRecursion Q xs → AllByRecursion (λ x. P x × Q x) xs
-each_both P Q [] p q = tt
-each_both P Q (x ∷ xs) p q = ((p.0, q.0), each_both P Q xs p.1 q.1)
-
-pub each_mapped : {A B : Type 0} (P : B → Type 0) (f : A → B) (xs : List A) → AllByRecursion (λ x. P (f x)) xs → AllByRecursion P (map f xs)
-each_mapped P f [] p = tt
-each_mapped P f (x ∷ xs) p = (p.0, each_mapped P f xs p.1)
 
 pub found_is : {K X : Type 0} (R : K → K → Ordering) (exact : IsAntisymmetric R) (P : K × X → Type 0) (es : List (K × X)) → AllByRecursion P es → (q : K) (x : X) → find R q es ≡ Some x → P (q, x)
 found_is R exact P [] each q x found = absurd cc

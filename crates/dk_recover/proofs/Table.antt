@@ -1,9 +1,9 @@
 -- Which of two files stands, by how they look.
-use Rattle.std.proofs.Common.{◌≡◌, ℕ, ◌<◌, ◌≤◌, ltb, leb, false, List, length, refl, sym, ap, subst, ◌∙◌, arith}
-use Rattle.std.proofs.lemmas.Bool.{lt-ltb, ltb-true, le-leb, leb-true}
+use Rattle.std.proofs.Common.{◌≡◌, ℕ, ◌<◌, ◌≤◌, ltb, false, List, length, refl, sym, ap, subst, ◌∙◌, arith}
+use Rattle.std.proofs.lemmas.Bool.{lt-ltb, ltb-true}
 use Rattle.dk_types.specs.declared.side.Side.{Side}
 use Rattle.dk_types.specs.declared.side.Side.TheVariants.{Zero, One}
-use Rattle.dk_model.specs.Stores.{Look, Blank, Live, look, NoStore, StandsOn, NoneStands, standing, standing_of}
+use Rattle.dk_model.specs.Stores.{Look, Live, look, StandsOn, NoneStands, standing, standing_of}
 use Rattle.dk_model.specs.Recovered.{file_on}
 use Rattle.dk_journal.specs.Headers.{store_header}
 use Rattle.dk_journal.specs.Opened.{IsOpened}
@@ -44,11 +44,3 @@ module _ (z o : List ℕ) (h k : Header) (s t : Scan) (first : IsOpened z Zero h
       let not_first : ltb k.epoch h.epoch ≡ false = false_of _ (λ more. omega (arith, a, ltb-true k.epoch h.epoch more)) in
       let not_second : ltb h.epoch k.epoch ≡ false = false_of _ (λ more. omega (arith, b, ltb-true h.epoch k.epoch more)) in
       both ∙ rw (not_first, not_second) refl
-
-pub blank_both : (z o : List ℕ) → look z ≡ Blank → look o ≡ Blank → length z ≤ 65 → standing z o ≡ NoStore
-blank_both z o first second short = by_looks z o Blank Blank first second ∙ rw (le-leb (length z) 65 short) refl
-
-pub blank_long : (z o : List ℕ) → look z ≡ Blank → look o ≡ Blank → 65 < length z → standing z o ≡ NoneStands Zero 0
-blank_long z o first second long =
-    let not_short : leb (length z) 65 ≡ false = false_of _ (λ short. omega (arith, long, leb-true (length z) 65 short)) in
-    by_looks z o Blank Blank first second ∙ rw not_short refl

@@ -1,20 +1,13 @@
 -- Files that are looked at, and then only read.
-use Rattle.std.proofs.Common.{◌≡◌, ◌⊎◌, inl, ⊎_elim, ℕ, ◌≤◌, List, refl, sym, ap, subst, ◌∙◌, arith}
+use Rattle.std.proofs.Common.{◌≡◌, ◌⊎◌, inl, ⊎_elim, ℕ, List, sym, ap, subst, ◌∙◌, arith}
 use Rattle.std.proofs.lemmas.Bool.{cases_lt}
 use Rattle.dk_disk.specs.Disk.{Disk}
 use Rattle.dk_disk.specs.DiskHistories.{DiskHistory, now, Elapses, Stays}
 use Rattle.dk_types.specs.declared.side.Side.{Side}
 use Rattle.dk_types.specs.declared.side.Side.TheVariants.{Zero, One}
-use Rattle.dk_disk.specs.Opening.{Opening, NotCalled, Refused, Opened}
 use Rattle.dk_journal.specs.Moments.{Looks, IsAsRead}
 use Rattle.dk_journal.proofs.Going.{looks_once}
 use Rattle.dk_recover.specs.Files.{OnlyReads}
-use Rattle.dk_recover.proofs.OnlyRead.{none_read, reads_looked}
-use Rattle.dk_reports.specs.Causes.{IsOpenedAt}
-
--- a call after which both files are what they were
-pub stays_reads : (old new : DiskHistory) → Elapses old new → Stays old new → OnlyReads old new
-stays_reads old new time stays = reads_looked old old new (none_read old) (looks_once old new time stays)
 
 looks_reads : (old mid new : DiskHistory) → Looks old mid → OnlyReads mid new → OnlyReads old new
 looks_reads old mid new looks reads = record {
@@ -40,10 +33,3 @@ module _ (P : List ℕ → List ℕ → Type 0) (old new : DiskHistory) (stays :
 
   pub onward : P (now old Zero).reads (now old One).reads → P (now new Zero).reads (now new One).reads
   onward has = subst (λ (o : List ℕ). P (now new Zero).reads o) (sym (same_reads One)) (subst (λ (z : List ℕ). P z (now old One).reads) (sym (same_reads Zero)) has)
-
--- a home whose opening failed, or not
-pub refused_at : (dir : List ℕ) (opening : Opening) → (opening ≡ NotCalled) ⊎ (opening ≡ Refused dir) → IsOpenedAt dir opening
-refused_at dir opening = ⊎_elim (λ e. subst (IsOpenedAt dir) (sym e) tt) (λ e. subst (IsOpenedAt dir) (sym e) refl)
-
-pub opened_at : (dir : List ℕ) (opening : Opening) → opening ≡ Opened dir → IsOpenedAt dir opening
-opened_at dir opening e = subst (IsOpenedAt dir) (sym e) refl

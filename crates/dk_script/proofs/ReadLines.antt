@@ -7,7 +7,7 @@ use Rattle.std.proofs.lemmas.List.{append-nil, length_push}
 use Rattle.dk_types.specs.declared.limits.TheConstants.{SCRIPT_MOST_BYTES}
 use Rattle.dk_model.specs.declared.script.Line.{Line}
 use Rattle.dk_model.specs.Lines.{lines_of, text_of}
-use Rattle.dk_model.specs.Scripts.{Spoken, PassedOver, Does, Sync, Says, IsLine, LineNames, MayStand, MaySay, names_after, names_said, names_at, AreWithin, phases_said, IsScript, IsOutside, IsUnended, IsBadLine, AllStand, first_line}
+use Rattle.dk_model.specs.Scripts.{Spoken, PassedOver, Does, Sync, Says, IsLine, LineNames, MayStand, MaySay, names_after, names_said, names_at, AreWithin, phases_said, IsScript, IsUnended, AllStand}
 use Rattle.dk_script.specs.Reading.{IsCut, Follows}
 use Rattle.dk_script.proofs.Written.{text_of-push}
 use Rattle.dk_script.proofs.LinesTold.{AllByRecursion-append}
@@ -120,37 +120,6 @@ module _ {bytes rest : List ℕ} {number : ℕ} {ended : List (List Line)} {line
 
   reached : length (text_of r.before) ≤ SCRIPT_MOST_BYTES
   reached = omega (arith, r.reached, front_length)
-
-  -- a line that may not be said here
-  pub bad-outside : IsOutside names line → IsBadLine bytes (number + 1)
-  bad-outside outside = record {
-    before = r.before;
-    rest = rest;
-    parted = front_is;
-    unended = r.unended;
-    counted = ap (λ n. n + 1) r.counted;
-    spoken = r.spoken;
-    within = r.within;
-    reached = reached;
-    bad = inl (some, subst (λ n. IsOutside n (first_line rest)) r.names_are (subst (IsOutside names) cut.first outside));
-  }
-
-  -- a line that has the byte behind as many as a script may have
-  pub bad-long : SCRIPT_MOST_BYTES + length after < length bytes → IsBadLine bytes (number + 1)
-  bad-long long = record {
-    before = r.before;
-    rest = rest;
-    parted = front_is;
-    unended = r.unended;
-    counted = ap (λ n. n + 1) r.counted;
-    spoken = r.spoken;
-    within = r.within;
-    reached = reached;
-    bad = inr (omega (arith, long), subst (λ (l : List ℕ). SCRIPT_MOST_BYTES ≤ length (text_of r.before) + length l) cut.first (by cut.parted));
-  } where
-    by : ((rest ≡ line ++ 10 ∷ after) ⊎ ((rest ≡ line) × (after ≡ []))) → SCRIPT_MOST_BYTES ≤ length (text_of r.before) + length line
-    by (inl e) = omega (arith, long, front_length, ap length e, length-append line (10 ∷ after))
-    by (inr e) = omega (arith, long, front_length, ap length e.0)
 
 -- the lines that are said are within
 said_lines : (names : LineNames) (l : Line) (phases : List (List Line)) → IsLine l → MayStand names l → AllStand (names_after names l) phases → AllStand names (onto_first l phases)

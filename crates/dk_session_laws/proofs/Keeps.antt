@@ -87,10 +87,6 @@ keeps_inside mode p = ends_within mode p (λ x t k. record { same = k.same; fres
 pub stands_in : {s : Run} (mode : Mode) → IsStanding s → IsStanding (record s { mode = mode })
 stands_in mode st = record { sessions = st.sessions; fresh = st.fresh }
 
--- `within`
-pub keeps_within : {A : Type 0} {outer : Mode} {f : Act A} (mode : Mode) → Keeps mode f → Keeps outer (within mode f)
-keeps_within mode p = record { at = λ s m st. keeps_inside mode (p.at (record s { mode = mode }) refl (stands_in mode st)) }
-
 -- a run that differs in its tasks and messages alone
 pub kept_aside : (s t : Run) → IsStanding s → t.world.objects ≡ s.world.objects → t.world.names ≡ s.world.names → t.world.last ≡ s.world.last → t.number ≡ s.number → t.objects_made ≡ s.objects_made → t.mode ≡ s.mode → IsKept s t
 kept_aside s t st objects names last number made mode = record {

@@ -14,9 +14,6 @@ use Rattle.dk_model.specs.Records.{session_bytes, next_session, session_of}
 use Rattle.dk_model.specs.Runs.{is_too_long}
 use Rattle.dk_records.specs.RecordLaws.{IsSessionRecord, each_session_exact}
 
-one_more : (n a b : ℕ) → n ≤ b → n + 1 ≤ (a + 1) + b
-one_more n a b h = omega (arith, h)
-
 -- names take a byte each at least
 names_long : (names : List (List ℕ)) → length names ≤ length (flat_map name_spelling names)
 unfolding name_spelling

@@ -6,13 +6,13 @@ use Rattle.std.proofs.lemmas.Bool.{cases_lt}
 use Rattle.std.specs.Prelude.{IfSome}
 use Rattle.std.specs.List.{position_or_len}
 use Rattle.std.specs.FinSet as sets
-use Rattle.std.specs.Io.KnownBytes.{Consumes, Keeps, IsAtEnd}
+use Rattle.std.specs.Io.KnownBytes.{Consumes}
 use Rattle.dk_types.specs.declared.limits.TheConstants.{SCRIPT_MOST_BYTES}
 use Rattle.dk_streams.specs.declared.reading.TheConstants.{PIECE_BYTES}
 use Rattle.dk_model.specs.declared.script.Line.{Line}
 use Rattle.dk_model.specs.Lines.{text_of}
 use Rattle.dk_model.specs.Scripts.{IsScript, IsBadLine, IsOutside, names_at, is_end, first_line}
-use Rattle.dk_streams.specs.Sources.{ReadsAll, ReadsFront, ReadsFew, ReadsNear, IsReadScript}
+use Rattle.dk_streams.specs.Sources.{ReadsAll, ReadsFront, ReadsNear, IsReadScript}
 
 -- the first line with one byte before it
 first_line-cons : (b : ℕ) (bs : List ℕ) (t : Bool) → is_end b ≡ t → first_line (b ∷ bs) ≡ cond t [] (b ∷ first_line bs)
@@ -81,26 +81,6 @@ script_read left left' bytes phases front script = record { bytes = bytes; all =
 pub bad_read : (left left' : Option (List ℕ)) (bytes : List ℕ) (line : ℕ) → ReadsFront left left' bytes → IsBadLine bytes line → IfSome left (λ xs. IsBadLine xs line)
 bad_read None left' bytes line front bad = tt
 bad_read (Some xs) left' bytes line front bad = subst (λ (l : List ℕ). IsBadLine l line) (sym front.parted) (front_bad bytes front.rest line bad front.whole)
-
--- what was read further than a script may go
-pub front_long : (left left' : Option (List ℕ)) (bytes : List ℕ) → Consumes left left' bytes → SCRIPT_MOST_BYTES < length bytes → ReadsFront left left' bytes
-front_long None left' bytes read long = tt
-front_long (Some xs) None bytes read long = absurd read
-front_long (Some xs) (Some ys) bytes read long = record { rest = ys; parted = read; left = refl; whole = λ short. absurd (omega (arith, long, short)) }
-
--- up to the end, where a last call gives none
-pub front_whole : (left mid left' : Option (List ℕ)) (bytes : List ℕ) → Consumes left mid bytes → Consumes mid left' [] → IsAtEnd mid → ReadsFront left left' bytes
-front_whole None mid left' bytes read last end = tt
-front_whole (Some xs) None left' bytes read last end = absurd read
-front_whole (Some xs) (Some ys) None bytes read last end = absurd last
-front_whole (Some xs) (Some ys) (Some zs) bytes read last end = record { rest = zs; parted = read ∙ ap (λ (l : List ℕ). bytes ++ l) last; left = refl; whole = λ short. sym last ∙ end }
-
--- what was read before a fault
-pub few_read : (left mid left' : Option (List ℕ)) (bytes : List ℕ) → Consumes left mid bytes → Keeps mid left' → length bytes ≤ SCRIPT_MOST_BYTES → ReadsFew left left'
-few_read None mid left' bytes read kept few = tt
-few_read (Some xs) None left' bytes read kept few = absurd read
-few_read (Some xs) (Some ys) None bytes read kept few = absurd kept
-few_read (Some xs) (Some ys) (Some zs) bytes read kept few = record { bytes = bytes; rest = ys; parted = read; left = ap (λ (l : List ℕ). Some l) kept; few = few }
 
 -- what was read, and one piece more
 pub near_read : (left mid left' : Option (List ℕ)) (bytes piece : List ℕ) → Consumes left mid bytes → Consumes mid left' piece → length bytes ≤ SCRIPT_MOST_BYTES → length piece ≤ PIECE_BYTES → ReadsNear left left'

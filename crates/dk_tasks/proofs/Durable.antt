@@ -9,8 +9,7 @@ use Rattle.dk_map.specs.Entries.{find}
 use Rattle.dk_model.specs.Keys.{key_cmp}
 use Rattle.dk_model.specs.DurableWorlds.{Task, with_value}
 use Rattle.dk_model.specs.Effects.{moved_at}
-use Rattle.dk_tasks.specs.Tasks.{Kept, bare, durable_tasks, changed_at, with_due, with_claim}
-use Rattle.dk_tasks.proofs.Found.{tied}
+use Rattle.dk_tasks.specs.Tasks.{Kept, bare, durable_tasks, changed_at, with_due}
 use Rattle.dk_tasks.proofs.Mapped.{find-changed, sorted-changed}
 use Rattle.dk_tasks.proofs.Orders.{key_total, key_same}
 
@@ -49,15 +48,3 @@ pub durable-with_due : (m : FinMap key_cmp Kept) (k : TaskKey) (due : ℕ) (t : 
 durable-with_due m k due t e =
     ap (λ r. durable_tasks (with_value m k (option_map (with_due due) r))) e ∙ durable-insert m k (with_due due t)
     ∙ ap (λ r. moved_at r k due (durable_tasks m)) (sym (get-durable m k ∙ ap (option_map task_in) e))
-
--- `set_claimed` leaves the durable world
-pub durable-with_claim : (m : FinMap key_cmp Kept) (k : TaskKey) (claimed : Bool) (t : Kept) → get m k ≡ Some t → durable_tasks (changed_at (with_claim claimed) k m) ≡ durable_tasks m
-durable-with_claim m k claimed t e =
-    same_map key_total key_same _ _ (λ q.
-    ap (λ r. get (durable_tasks (with_value m k (option_map (with_claim claimed) r))) q) e ∙ get-durable (insert m k (with_claim claimed t)) q
-    ∙ ap (option_map task_in) (get-insert key_total m k (with_claim claimed t) q)
-    ∙ elim (eq_by_cmp key_cmp q k) as (λ b. eq_by_cmp key_cmp q k ≡ b → option_map task_in (cond b (Some (with_claim claimed t)) (get m q)) ≡ option_map task_in (get m q)) [
-      | true ↦ λ b. sym (ap (option_map task_in) (ap (get m) (key_same q k (tied _ b)) ∙ e))
-      | false ↦ λ _. refl
-    ] refl
-    ∙ sym (get-durable m q))

@@ -27,11 +27,6 @@ All-filter P test (x ∷ xs) a =
     let rest = All-filter P test xs a.1 in
     elim (test x) as (λ b. AllByRecursion P (cond b (x ∷ filter test xs) (filter test xs))) [ true ↦ (a.0, rest) | false ↦ rest ]
 
--- what follows from what holds of all
-pub All-follows : {X : Type 0} {P Q : X → Type 0} → ((x : X) → P x → Q x) → (xs : List X) → AllByRecursion P xs → AllByRecursion Q xs
-All-follows f [] a = tt
-All-follows f (x ∷ xs) a = (f x a.0, All-follows f xs a.1)
-
 -- of two values put at a key the second stays
 pub put_again : {K X : Type 0} {R : K → K → Ordering} → IsTotalOrder R → (k : K) (x y : X) (es : List (K × X)) → put R k x (put R k y es) ≡ put R k x es
 put_again o k x y [] = ap (λ c. by_order c ((k, x) ∷ (k, y) ∷ []) ((k, x) ∷ []) ((k, y) ∷ (k, x) ∷ [])) (tied_itself o k)

@@ -1,10 +1,8 @@
 -- The map that callers see, beside the entries that the store keeps.
-use Rattle.std.proofs.Common.{◌≡◌, refl, sym, ap, subst, ◌∙◌, cond, List, length, None, Some, is_some, map}
+use Rattle.std.proofs.Common.{◌≡◌, refl, sym, ap, subst, ◌∙◌, List, length, is_some, map}
 use Rattle.std.specs.Prelude.{T}
 use Rattle.std.specs.Option.{option_map}
-use Rattle.std.specs.Ordering.{is_eq}
-use Rattle.std.specs.Cmp.{tied_itself}
-use Rattle.std.specs.FinMap.{FinMap, entries, get, contains_key, len, insert, remove, get-remove}
+use Rattle.std.specs.FinMap.{FinMap, entries, get, contains_key, len, insert, remove}
 use Rattle.dk_types.specs.declared.number.TaskKey.{TaskKey}
 use Rattle.dk_map.specs.Entries.{find, put, without, IsOrdered}
 use Rattle.dk_map.proofs.Counts.{found_of}
@@ -34,11 +32,6 @@ module _ {m : FinMap key_cmp Kept} (es : List (TaskKey × Stored)) (v : kept_tas
   pub kept_some : (k : TaskKey) → is_some (find key_cmp k es) ≡ contains_key m k
   kept_some k = sym (found_of kept_of (find key_cmp k es) (kept_get k) refl)
 
-  -- where none is seen, none is kept
-  pub kept_none : (k : TaskKey) → get m k ≡ None → find key_cmp k es ≡ None
-  kept_none k e =
-      elim (find key_cmp k es) as (λ r. option_map kept_of r ≡ None → r ≡ None) [ None ↦ λ _. refl | Some s ↦ λ n. cc ] (kept_get k ∙ e)
-
   -- how many there are
   pub kept_len : length es ≡ len m
   kept_len = sym (length-changed key_cmp kept_of es) ∙ len_seen (map kept_entry es) v (kept_ordered es h)
@@ -54,7 +47,3 @@ module _ {m : FinMap key_cmp Kept} (es : List (TaskKey × Stored)) (v : kept_tas
 -- a task that is kept at its key is the whole task
 pub stamped-kept_of : (s : Stored) (k : TaskKey) → s.task.key ≡ k → stamped k (kept_of s) ≡ (s.task, s.stamp)
 stamped-kept_of s k e = λ i. (record { key = sym e i; due = s.task.due; period = s.task.period; kind = s.task.kind; arg = s.task.arg }, s.stamp)
-
--- a key that was taken out is not there
-pub get-remove_same : (m : FinMap key_cmp Kept) (k : TaskKey) → get (remove m k) k ≡ None
-get-remove_same m k = get-remove key_total m k k ∙ ap (λ c. cond (is_eq c) None (get m k)) (tied_itself key_total k)

@@ -35,13 +35,6 @@ module _ {E : Type 0} (number : E → ℕ) where
   pub continues_self : (n : ℕ) (log : List E) → Continues number n log log
   continues_self n log = record { begins = prefix_self log; none_beyond = refl }
 
-  -- what continues a continuation continues the beginning
-  pub continues_on : (n : ℕ) (seen mid log : List E) → Continues number n seen mid → Continues number n mid log → Continues number n seen log
-  continues_on n seen mid log c d = record {
-    begins = let p = c.begins in let q = d.begins in (p.0 ++ q.0, sym (append_assoc seen p.0 q.0) ∙ (ap (λ w. w ++ q.0) p.1 ∙ q.1));
-    none_beyond = d.none_beyond ∙ c.none_beyond;
-  }
-
   -- what another pass enters is not beyond what this one has seen of its own
   pub continues_past : (m n : ℕ) (seen log added : List E) → m ≢ n → All (λ e. number e ≡ n) added → Continues number m seen log → Continues number m seen (log ++ added)
   continues_past m n seen log added apart all c = record {

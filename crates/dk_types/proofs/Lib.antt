@@ -1,4 +1,3 @@
-pub mod FaultCounts
 pub mod Steps
 pub mod Numbers
 pub mod FieldLaws

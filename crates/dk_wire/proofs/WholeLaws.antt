@@ -1,7 +1,6 @@
 -- Whole payloads, where reading is exact.
-use Rattle.std.proofs.Common.{◌≡◌, ℕ, ◌+◌, Bool, true, false, cond, eqb, List, [], ◌∷◌, ◌++◌, length, Result, Ok, Err, refl, sym, ap, subst, ◌∙◌, arith}
+use Rattle.std.proofs.Common.{◌≡◌, ℕ, ◌+◌, Bool, true, false, cond, eqb, List, [], ◌++◌, length, Result, Ok, Err, refl, sym, ap, subst, ◌∙◌}
 use Rattle.std.specs.Prelude.{MatchResult}
-use Rattle.std.proofs.Math.Dec.{eqb-suc-zero}
 use Rattle.std.proofs.lemmas.Bool.{eqb-true}
 use Rattle.std.proofs.lemmas.List.{append-nil, nil_from_length}
 use Rattle.dk_wire.specs.declared.payload.PayloadRefused.{PayloadRefused}
@@ -29,11 +28,6 @@ ended : (at : ℕ) → next_end (record { at = at; bytes = [] }) ≡ Ok tt
 unfolding next_end end_at
 ended at = refl
 
--- the first byte that is left is told
-not_ended : (at b : ℕ) (more : List ℕ) → next_end (record { at = at; bytes = b ∷ more }) ≡ Err at
-unfolding next_end end_at
-not_ended at b more = rw (eqb-suc-zero (length more)) refl
-
 module _ {A : Type 0} (Fits : A → Type 0) (spelling : A → List ℕ) (reading : Rest → Result (A × Rest) ℕ) (exact : IsExact Fits spelling reading) where
   -- a payload that is read fits, and is the spelling
   pub whole_takes : (payload : List ℕ) (x : A) → IsBytes payload → whole reading payload ≡ Ok x → Fits x × (payload ≡ spelling x)
@@ -50,11 +44,6 @@ module _ {A : Type 0} (Fits : A → Type 0) (spelling : A → List ℕ) (reading
   whole_again x fits =
       let read : reading (record { at = 0; bytes = spelling x }) ≡ Ok (x, record { at = 0 + length (spelling x); bytes = [] }) = ap (λ (bytes : List ℕ). reading (record { at = 0; bytes = bytes })) (sym (append-nil (spelling x))) ∙ exact.again 0 x [] fits in
       rw (read, ended (0 + length (spelling x))) refl
-
-  -- behind a whole spelling the place is the spelling's length
-  pub whole_extra : (x : A) (b : ℕ) (more : List ℕ) → Fits x → whole reading (spelling x ++ b ∷ more) ≡ Err (length (spelling x))
-  whole_extra x b more fits =
-      rw (exact.again 0 x (b ∷ more) fits, not_ended (0 + length (spelling x)) b more) (ap (λ (p : ℕ). Err p) (omega arith))
 
   -- what gives the value of a whole payload decodes it
   pub decodes : (payload : List ℕ) (result : Result A PayloadRefused) → IsBytes payload → MatchResult result (λ x. whole reading payload ≡ Ok x) (λ e. Misses e (whole reading payload)) → Decodes Fits spelling reading payload result

@@ -12,8 +12,6 @@ use Rattle.dk_turn.specs.Fronts.{Known, known, Continues, IsDealt}
 use Rattle.dk_play_laws.specs.PhasedLaw.{IsSeenBy}
 use Rattle.dk_play_laws.specs.Seen.{AreNumbered, AreBehind, HaveSeen}
 use Rattle.dk_play_laws.proofs.Phasing.{plays_seen, spent_seen, seen_all}
-use Rattle.dk_workers.specs.Faults.{IsWorkFault}
-use Rattle.dk_workers.specs.Phases.{PlaysAll}
 use Rattle.dk_workers.specs.Played.{IsSavedAt, IsSettled, IsStaged}
 use Rattle.dk_workers.specs.declared.play.fault.PlayFault.{PlayFault}
 use Rattle.dk_workers.specs.declared.play.fault.PlayFault.TheVariants as fault
@@ -101,18 +99,3 @@ module _ {V : Type 0} (asked : Bool) (o : Opened) (script : List (List Line)) (m
   settled log (Err fault.DiskFault) seen h = h
   settled log (Err (fault.JournalFull length_)) seen h = h
   settled log (Err fault.NoMemory) seen h = h
-
-  -- a play without a checkpoint, or with one
-  pub staged_fault : {T : Type 0} (items_of : T → List ℕ) (f : PlayFault) → PlaysAll o script items_of (Err f) workers main → IsStaged asked o script marks_of saved_of (Err f) workers main
-  staged_fault items_of fault.NoMemory h = h
-  staged_fault items_of fault.DiskFault h = h
-  staged_fault items_of (fault.Budget granted) h = h
-  staged_fault items_of (fault.JournalFull length_) h = h
-  staged_fault items_of (fault.Exhausted next) h = h
-
-  pub save_fault : (f : PlayFault) → IsWorkFault f → IsStaged asked o script marks_of saved_of (Err f) workers main
-  save_fault fault.NoMemory h = h
-  save_fault fault.DiskFault h = h
-  save_fault (fault.Budget granted) h = absurd h
-  save_fault (fault.JournalFull length_) h = h
-  save_fault (fault.Exhausted next) h = h

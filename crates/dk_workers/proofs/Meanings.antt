@@ -38,12 +38,6 @@ means_of-Removes es fs name h =
     get-means_of fs q ∙ h q ∙ ap (λ b. cond b None (lookup (is_at (bytes_cmp q)) es)) ((eq_by_cmp_equiv names_total).symm name q)
     ∙ ap (cond (eq_by_cmp bytes_cmp q name) None) (sym (get-means_of es q)) ∙ sym (get-remove names_total (means_of es) name q))
 
--- a name that means a connection has one in the table
-pub found_means : (es : List (List ℕ × ConnNo)) (name : List ℕ) → maps.contains_key (means_of es) name ≡ true → None ≡ lookup (is_at (bytes_cmp name)) es → ⊥
-found_means es name has none = absurd (no (ap is_some (none ∙ sym (get-means_of es name)) ∙ has)) where
-  no : false ≡ true → ⊥
-  no e = cc
-
 -- where one of the names is the new one, or meant something before
 either : (b : Bool) (conn : ConnNo) (o : Option ConnNo) (had : Bool) → (had ≡ true → is_some o ≡ true) → (b || had) ≡ true → is_some (cond b (Some conn) o) ≡ true
 either true conn o had h e = refl

@@ -1,6 +1,6 @@
 -- The order of a play is that of its events: each phase's part of the order is the claims and commits among the phase's events.
-use Rattle.std.proofs.Common.{◌≡◌, ℕ, Option, None, List, [], ◌∷◌, ◌++◌, map, refl, sym, ap, ◌∙◌, subst}
-use Rattle.std.specs.List.{AllByRecursion, cons_option, filter_map}
+use Rattle.std.proofs.Common.{◌≡◌, Option, None, List, [], ◌∷◌, ◌++◌, map, refl, sym, ap, ◌∙◌}
+use Rattle.std.specs.List.{cons_option, filter_map}
 use Rattle.std.proofs.lemmas.List.{append-nil}
 use Rattle.std.proofs.lemmas.List.Elements.{filter_map-append}
 use Rattle.dk_types.specs.declared.event.Event.{Event}
@@ -9,9 +9,8 @@ use Rattle.dk_model.specs.declared.script.Line.{Line}
 use Rattle.dk_model.specs.declared.script.Line.TheVariants as line
 use Rattle.dk_model.specs.Worlds.{World}
 use Rattle.dk_model.specs.Events.{Meaning}
-use Rattle.dk_model.specs.Orders.{OrderItem, AreInTurn, item_of, order_of}
-use Rattle.dk_model.specs.Transcripts.{Playing, PlaysLine, PlaysLines, Follows, Hands, PlaysPhase, Plays, IsPlayed, IsTranscript, playing, transcript_text}
-use Rattle.dk_script.proofs.OrderTold.{order_of-transcript_text}
+use Rattle.dk_model.specs.Orders.{OrderItem, item_of}
+use Rattle.dk_model.specs.Transcripts.{Playing, PlaysLine, PlaysLines, Follows, Hands, PlaysPhase, Plays}
 
 -- an event that tells no item adds none
 without_item : (e : Event) (events : List Event) → item_of e ≡ None → filter_map item_of events ≡ [] → filter_map item_of (e ∷ events) ≡ []
@@ -68,20 +67,3 @@ order_of-Plays rules p [] (items ∷ order) (events ∷ phases) after h = absurd
 order_of-Plays rules p (lines ∷ script) [] [] after h = absurd h
 order_of-Plays rules p (lines ∷ script) [] (events ∷ phases) after h = absurd h
 order_of-Plays rules p (lines ∷ script) (items ∷ order) [] after h = absurd h
-
--- the text of a whole play is its transcript in the order that the text tells
-pub IsTranscript-IsPlayed : (rules : Meaning) (opening : World) (script : List (List Line)) (phases : List (List Event)) (commits tasks : ℕ) (text : List ℕ) → IsPlayed rules opening script phases commits tasks → text ≡ transcript_text phases commits tasks → IsTranscript rules opening script (order_of text) text
-IsTranscript-IsPlayed rules opening script phases commits tasks text h is =
-    let told = order_of-Plays rules (playing opening) ([] ∷ script) h.order phases h.end h.plays ∙ sym (ap order_of is ∙ order_of-transcript_text phases commits tasks h.small) in
-    record {
-      phases = phases;
-      end = h.end;
-      plays = subst (λ (order : List (List OrderItem)). Plays rules (playing opening) ([] ∷ script) order phases h.end) told h.plays;
-      told = is ∙ ap (λ (n : ℕ). transcript_text phases n tasks) h.commits_are ∙ ap (λ (n : ℕ). transcript_text phases h.end.world.durable.commits n) h.tasks_are;
-    }
-
--- in which each claim is followed by its commit
-pub turns-IsPlayed : (rules : Meaning) (opening : World) (script : List (List Line)) (phases : List (List Event)) (commits tasks : ℕ) (text : List ℕ) → IsPlayed rules opening script phases commits tasks → text ≡ transcript_text phases commits tasks → AllByRecursion AreInTurn (order_of text)
-turns-IsPlayed rules opening script phases commits tasks text h is =
-    let told = order_of-Plays rules (playing opening) ([] ∷ script) h.order phases h.end h.plays ∙ sym (ap order_of is ∙ order_of-transcript_text phases commits tasks h.small) in
-    subst (AllByRecursion AreInTurn) told h.turns

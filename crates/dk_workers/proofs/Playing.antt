@@ -19,7 +19,6 @@ use Rattle.dk_play_laws.specs.Seen.{AreNumbered, AreBehind}
 use Rattle.dk_play_laws.proofs.Begun.{nothing_entered, phases_entered, begun_first}
 use Rattle.dk_play_laws.proofs.Phasing.{phases_follow, spent_phases, nothing_played}
 use Rattle.dk_workers.specs.Drains.{HasDrained, Drains}
-use Rattle.dk_workers.specs.Faults.{IsLineFault}
 use Rattle.dk_workers.specs.Lines.{PassEnters, EntersLines, HandsAll}
 use Rattle.dk_workers.specs.Logins.{AllMean, MayStandAll}
 use Rattle.dk_workers.specs.Phases.{HasPlayedOne, HasSpentAll, PlaysOne, PlaysAll}
@@ -81,14 +80,6 @@ module _ (o : Opened) (count : ℕ) (lines : List Line) (s t : Said) (marks mark
   drain_fault (fault.Budget granted) h = all_spent granted h
   drain_fault (fault.JournalFull length) h = h
   drain_fault (fault.Exhausted next) h = h
-
--- a line's fault
-pub line_fault : (o : Opened) (count : ℕ) (f : PlayFault) (lines : List Line) (s t : Said) (marks marked : List ℕ) (workers after : List (Known Event)) (old new : Known Event) → IsLineFault f → PlaysOne o count (Err f) lines s t marks marked workers after old new
-line_fault o count fault.NoMemory lines s t marks marked workers after old new h = h
-line_fault o count fault.DiskFault lines s t marks marked workers after old new h = absurd h
-line_fault o count (fault.Budget granted) lines s t marks marked workers after old new h = absurd h
-line_fault o count (fault.JournalFull length) lines s t marks marked workers after old new h = absurd h
-line_fault o count (fault.Exhausted next) lines s t marks marked workers after old new h = h
 
 -- phases that were played, and those that are left
 pub record IsPlayedTo (o : Opened) (size : ℕ) (done left : List (List Line)) (s : Said) (marks : List ℕ) (workers : List (Known Event)) (main : Known Event) : Type 0 where
