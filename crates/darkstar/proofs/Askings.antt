@@ -1,16 +1,15 @@
 -- What words ask for.
-use Rattle.std.proofs.Common.{◌≡◌, ◌∙◌, ◌≤◌, ℕ, List, Result, Err, sym, ap, subst}
+use Rattle.std.proofs.Common.{◌≡◌, ◌∙◌, ℕ, List, Result, Err, sym, ap, subst}
 use Rattle.dk_command.specs.declared.command.Command.{Command}
 use Rattle.dk_command.specs.declared.parse.CommandRefused.{CommandRefused}
 use Rattle.dk_command.specs.declared.parse.CommandRefused.TheVariants.{Usage, NoMemory}
 use Rattle.dk_command.specs.Commands.{IsCommandLine, IsCommandOf}
-use Rattle.dk_command.specs.Requests.{AreFew, Asks, Playing, Plays, Report, Reports, Request, Serves, Serving, Stresses, Stressing, request_of}
+use Rattle.dk_command.specs.Requests.{Asks, Playing, Plays, Report, Reports, Request, Serves, Serving, Stresses, Stressing, request_of}
 use Rattle.darkstar.specs.Reports.{ForReport}
 use Rattle.darkstar.specs.Runs.{ForPlay}
 use Rattle.darkstar.specs.Serves.{ForServe}
 use Rattle.darkstar.specs.StressText.{ForStress}
 use Rattle.dk_command.specs.declared.command.Command.TheVariants as command
-use Rattle.dk_types.specs.declared.limits.TheConstants.{TASKS_MOST_COUNT}
 
 -- words that ask for something are a command line
 pub asks_line : (words : List (List ℕ)) (request : Request) → Asks words request → IsCommandLine words
@@ -36,18 +35,6 @@ for_serve words mine command one is P has serve asks = let e : Serves mine ≡ S
 -- words ask for one thing: where it is this, they ask for no play that is another, and so on
 pub ask_once : (words : List (List ℕ)) (mine other : Request) (command : Command) → ((request : Request) → Asks words request → request_of command ≡ request) → request_of command ≡ mine → Asks words other → mine ≡ other
 ask_once words mine other command one is asks = sym is ∙ one other asks
-
--- a `stress` asks for few tasks
-pub few_of : (given : Command) (mine : Stressing) → AreFew given → request_of given ≡ Stresses mine → mine.tasks ≤ TASKS_MOST_COUNT
-few_of (command.Play dir game workers budget checkpoint) mine few is = absurd cc
-few_of (command.Serve dir port game workers clients sessions) mine few is = absurd cc
-few_of (command.Check dir game) mine few is = absurd cc
-few_of (command.Inspect dir game) mine few is = absurd cc
-few_of (command.Stress seed tasks workers) mine few is =
-    let own : Stressing = record { seed = seed; tasks = tasks; workers = workers } in
-    let e : Stresses own ≡ Stresses mine = is in
-    let same : own ≡ mine = cc in
-    subst (λ (s : Stressing). s.tasks ≤ TASKS_MOST_COUNT) same few
 
 -- words that are no command line ask for nothing
 pub no_request : (words : List (List ℕ)) → ¬ IsCommandLine words → (request : Request) → Asks words request → ⊥

@@ -4,6 +4,7 @@ pub mod Askings
 pub mod EndedTasks
 pub mod ReadEnds
 pub mod RunLaws
+pub mod OpenedOn
 pub mod PlayEnds
 pub mod OpenEnds
 pub mod PlayAfter

@@ -1,5 +1,5 @@
 -- What is left where no store was opened for a play, and how the program ends then.
-use Rattle.std.proofs.Common.{◌≡◌, ◌⊎◌, ⊎_elim, inl, inr, ℕ, Bool, true, false, IsTrue, List, Err, IsErrOf, refl, sym, subst}
+use Rattle.std.proofs.Common.{◌⊎◌, ⊎_elim, inl, inr, ℕ, Bool, true, false, IsTrue, List, Err, IsErrOf, refl, sym, subst}
 use Rattle.dk_types.specs.declared.side.Side.TheVariants.{Zero, One}
 use Rattle.dk_disk.specs.DiskHistories.{DiskHistory}
 use Rattle.dk_model.specs.declared.script.Line.{Line}
@@ -14,11 +14,10 @@ use Rattle.dk_host.specs.declared.fault.OpenFault.{OpenFault}
 use Rattle.dk_host.specs.declared.fault.OpenFault.TheVariants as fault
 use Rattle.dk_host.specs.declared.standing.Stood.{Stood}
 use Rattle.dk_status.specs.declared.status.Status.{Status}
-use Rattle.dk_status.specs.declared.status.Status.TheVariants as status
 use Rattle.darkstar.specs.Ends.{status_of_opening}
 use Rattle.darkstar.specs.Reports.{bytes_of}
 use Rattle.darkstar.specs.Runs.{IsPlayEnd, Keeps, KeepsScript, PlayTerms, opened_with, passage}
-use Rattle.darkstar.specs.Statuses.{IsOfOpened, IsOkOrLimit}
+use Rattle.darkstar.specs.Statuses.{IsOkOrLimit}
 use Rattle.darkstar.proofs.RunLaws.{none_of_script, runs_none}
 
 -- a world that files hold is valid
@@ -98,41 +97,3 @@ refused_limit d (fault.WrongGame found) is = absurd is
 refused_limit d (fault.Damaged side at) is = absurd is
 refused_limit d (fault.ImageTooLarge n) is = absurd is
 refused_limit d (fault.EpochEnd n) is = absurd is
-
--- the program does not end so as done, or by a fault of the sink, or before the folder is open
-pub refused_ok : (f : OpenFault) → status_of_opening f ≡ status.Ok → ⊥
-refused_ok fault.NoMemory is = cc
-refused_ok fault.DiskFault is = cc
-refused_ok (fault.NotAStore side at) is = cc
-refused_ok (fault.WrongGame found) is = cc
-refused_ok (fault.Damaged side at) is = cc
-refused_ok (fault.ImageTooLarge n) is = cc
-refused_ok (fault.EpochEnd n) is = cc
-
-pub refused_torn : (f : OpenFault) → status_of_opening f ≡ status.WriteFault → ⊥
-refused_torn fault.NoMemory is = cc
-refused_torn fault.DiskFault is = cc
-refused_torn (fault.NotAStore side at) is = cc
-refused_torn (fault.WrongGame found) is = cc
-refused_torn (fault.Damaged side at) is = cc
-refused_torn (fault.ImageTooLarge n) is = cc
-refused_torn (fault.EpochEnd n) is = cc
-
-pub refused_unread : (f : OpenFault) → IsOfOpened (status_of_opening f)
-refused_unread fault.NoMemory = tt
-refused_unread fault.DiskFault = tt
-refused_unread (fault.NotAStore side at) = tt
-refused_unread (fault.WrongGame found) = tt
-refused_unread (fault.Damaged side at) = tt
-refused_unread (fault.ImageTooLarge n) = tt
-refused_unread (fault.EpochEnd n) = tt
-
--- a disk fault is the store's
-pub refused_disk : (f : OpenFault) → status_of_opening f ≡ status.DiskFault → IsErrOf {T = Stood} (Err f) fault.DiskFault
-refused_disk fault.NoMemory is = absurd cc
-refused_disk fault.DiskFault is = refl
-refused_disk (fault.NotAStore side at) is = absurd cc
-refused_disk (fault.WrongGame found) is = absurd cc
-refused_disk (fault.Damaged side at) is = absurd cc
-refused_disk (fault.ImageTooLarge n) is = absurd cc
-refused_disk (fault.EpochEnd n) is = absurd cc

@@ -11,16 +11,13 @@ use Rattle.dk_disk.proofs.Images.{settled_image}
 use Rattle.dk_model.specs.declared.script.Line.{Line}
 use Rattle.dk_model.specs.DurableWorlds.{DurableWorld}
 use Rattle.dk_model.specs.Events.{Meaning}
-use Rattle.dk_model.specs.Lawful.{AreLawful}
 use Rattle.dk_model.specs.Legal.{Opened, world_after}
 use Rattle.dk_model.specs.Stores.{Standing, NoStore, StandsOn, NoneStands, standing}
-use Rattle.dk_model.specs.Validity.{IsValid}
 use Rattle.dk_journal.specs.Recoveries.{AllRecover, IsWorld}
 use Rattle.dk_journal.specs.Stores.{AreSettled}
 use Rattle.dk_recover.specs.Files.{OnlyReads}
-use Rattle.dk_recover.specs.Recovery.{IsOurs}
 use Rattle.dk_core.specs.Listings.{world_of}
-use Rattle.dk_host.specs.OpenedStores.{IsLeft, KeepsWorld}
+use Rattle.dk_host.specs.OpenedStores.{IsLeft}
 use Rattle.dk_host.specs.Stores.{StandsAs}
 use Rattle.dk_host.specs.declared.standing.Stood.{Stood}
 use Rattle.dk_play_laws.specs.BudgetLaw.{IsBudgetSpent}
@@ -33,7 +30,8 @@ use Rattle.dk_status.specs.declared.status.Status.TheVariants as status
 use Rattle.darkstar.specs.Ends.{status_of_playing, status_of_put}
 use Rattle.darkstar.specs.Reports.{Holds, bytes_of}
 use Rattle.darkstar.specs.Runs.{IsNextEpoch, IsOpenable, IsOpenedEpoch, IsPlayEnd, IsSpent, IsStanding, IsReportedRun, IsWrittenAnew, Keeps, KeepsScript, HoldsNone, Passage, PlayTerms, Run, RunOf, opened_with, passage}
-use Rattle.darkstar.specs.Statuses.{IsOfOpened, IsOkOrEnd, IsOkOrLimit}
+use Rattle.darkstar.specs.Statuses.{IsOkOrEnd, IsOkOrLimit}
+use Rattle.darkstar.proofs.OpenedOn.{OpenedOn}
 use Rattle.darkstar.proofs.RunLaws.{none_of_script, runs_history, runs_none, runs_on, runs_untailed}
 
 -- the epoch of a store that was opened
@@ -54,38 +52,36 @@ settled_read P past quiet all =
 pub is_standing : (past : DiskHistory) (d : DurableWorld) → AreSettled past → AllRecover (IsWorld d) past past.clock → IsStanding past d
 is_standing past d quiet all = let it = settled_read (IsWorld d) past quiet all in record { reads = subst (Holds past) it.2 it.1; images = all }
 
--- a play on the store that was opened on these files, with this world; the program ends so behind it
-module _ (terms : PlayTerms) (lawful : AreLawful terms.rules) (s : Status) (script : List (List Line)) (tells : Bool) (old mid new : DiskHistory) (durable : Durable) (stood : Stood) (before after : ℕ) (text : Result (List ℕ) PlayFault)
-    (held : IsTrue tells → Holds old (world_of durable)) (ours : IsTrue tells → IsOurs (bytes_of old Zero) (bytes_of old One) terms.game) (left : IsTrue tells → IsLeft (standing (bytes_of old Zero) (bytes_of old One)) stood)
-    (keeps : IsTrue tells → KeepsWorld (world_of durable) old mid)
-    (p : IsPlayOn (opened_with terms (world_of durable)) terms.workers terms.checkpoint script tells mid new stood.journal.epoch before after text)
+-- a play on a store that was opened on these files; the program ends so behind it
+module _ (terms : PlayTerms) (tells : Bool) (old mid : DiskHistory) (stood : Stood) (on : OpenedOn terms tells old mid stood) (s : Status) (script : List (List Line)) (new : DiskHistory) (before after : ℕ) (text : Result (List ℕ) PlayFault)
+    (p : IsPlayOn (opened_with terms (world_of stood.durable)) terms.workers terms.checkpoint script tells mid new stood.journal.epoch before after text)
     (ends : text ≡ Err fault.DiskFault → s ≡ status.DiskFault) where
   abbrev o : Opened
-  o = opened_with terms (world_of durable)
+  o = opened_with terms (world_of stood.durable)
 
   alone : terms.workers ≡ 1 → p.faults ≢ None → HasRisen before after → s ≡ status.DiskFault
   alone one some risen = ends (p.text_of.alone one some risen)
 
   -- its run
   pub run_of : Run terms (passage tells old new before after) s
-  run_of = record { world = world_of durable; held = held; on = runs_on o lawful terms.workers old s mid new before after p.history p.legal p.faults p.epoch p.counts alone tells keeps p.ended }
+  run_of = record { world = world_of stood.durable; held = on.held; on = runs_on o on.lawful terms.workers old s mid new before after p.history p.legal p.faults p.epoch p.counts alone tells on.keeps p.ended }
 
   same_history : p.history ≡ run_of.on.history
   unfolding run_of
-  same_history = sym (runs_history o lawful terms.workers old s mid new before after p.history p.legal p.faults p.epoch p.counts alone tells keeps p.ended)
+  same_history = sym (runs_history o on.lawful terms.workers old s mid new before after p.history p.legal p.faults p.epoch p.counts alone tells on.keeps p.ended)
 
   -- it is one of the script
   pub begun_of : RunOf terms (passage tells old new before after) s script
   begun_of = record { run = run_of; begun = subst (λ (es : List Event). IsFirstPart terms.workers ([] ∷ script) (scripted_of es)) same_history p.begun }
 
   pub openable : IsOpenable terms (passage tells old new before after)
-  openable told = (ours told, (world_of durable, held told))
+  openable told = (on.ours told, (world_of stood.durable, on.held told))
 
   -- a store that was written anew
   anew_of : (there : StandsAs new p.epoch) (d : DurableWorld) → IsTrue tells → IsSaved o p.history stood.journal.epoch p.epoch → (world_after o p.history).durable ≡ d → IsWrittenAnew old new d
   anew_of there d told saved is = record {
     first = stood.journal.epoch;
-    opened = opened_epoch (standing (bytes_of old Zero) (bytes_of old One)) stood (left told);
+    opened = opened_epoch (standing (bytes_of old Zero) (bytes_of old One)) stood (on.left told);
     side = there.side;
     header = there.header;
     stands = there.table;
@@ -105,7 +101,7 @@ module _ (terms : PlayTerms) (lawful : AreLawful terms.rules) (s : Status) (scri
         transcript = told.transcript;
         ended = told.ended ∙ ap (world_after o) same_history;
         turns = told.turns;
-        untailed = runs_untailed o lawful terms.workers old s mid new before after p.history p.legal p.faults p.epoch p.counts alone tells keeps p.ended running;
+        untailed = runs_untailed o on.lawful terms.workers old s mid new before after p.history p.legal p.faults p.epoch p.counts alone tells on.keeps p.ended running;
         stands = λ yes. subst (IsStanding new) world_is (is_standing new (world_after o p.history).durable ((p.ended yes).stands running).rests ((p.ended yes).now running));
         anew = λ yes asked. anew_of ((p.ended yes).stands running) (world_after o run_of.on.history).durable yes (saved asked) world_is;
       }
@@ -119,46 +115,10 @@ module _ (terms : PlayTerms) (lawful : AreLawful terms.rules) (s : Status) (scri
   end_of (fault.JournalFull length) so cause = (openable, cause)
   end_of (fault.Exhausted next) so cause = (openable, cause)
 
--- a disk fault of a play is counted
-pub risen_of : (o : Opened) (history : List Event) (before after : ℕ) (f : PlayFault) → IsPlayCause o history before after f → status_of_playing f ≡ status.DiskFault → HasRisen before after
-risen_of o history before after fault.NoMemory cause is = absurd cc
-risen_of o history before after fault.DiskFault cause is = cause
-risen_of o history before after (fault.Budget granted) cause is = absurd cc
-risen_of o history before after (fault.JournalFull length) cause is = absurd cc
-risen_of o history before after (fault.Exhausted next) cause is = absurd cc
-
--- no fault of a play ends the program as done, or as a fault of a stream
-pub never_ok : (f : PlayFault) → status_of_playing f ≡ status.Ok → ⊥
-never_ok fault.NoMemory is = cc
-never_ok fault.DiskFault is = cc
-never_ok (fault.Budget granted) is = cc
-never_ok (fault.JournalFull length) is = cc
-never_ok (fault.Exhausted next) is = cc
-
-pub never_torn : (f : PlayFault) → status_of_playing f ≡ status.WriteFault → ⊥
-never_torn fault.NoMemory is = cc
-never_torn fault.DiskFault is = cc
-never_torn (fault.Budget granted) is = cc
-never_torn (fault.JournalFull length) is = cc
-never_torn (fault.Exhausted next) is = cc
-
-pub never_unread : (f : PlayFault) → IsOfOpened (status_of_playing f)
-never_unread fault.NoMemory = tt
-never_unread fault.DiskFault = tt
-never_unread (fault.Budget granted) = tt
-never_unread (fault.JournalFull length) = tt
-never_unread (fault.Exhausted next) = tt
-
-pub within_limits : (f : PlayFault) → IsOkOrLimit (status_of_playing f)
-within_limits fault.NoMemory = tt
-within_limits fault.DiskFault = tt
-within_limits (fault.Budget granted) = tt
-within_limits (fault.JournalFull length) = tt
-within_limits (fault.Exhausted next) = tt
-
 -- a store that was opened and on which nothing came
-pub keeps_none : (terms : PlayTerms) (s : Status) (tells : Bool) (old new : DiskHistory) (before after : ℕ) (durable : Durable) → AreLawful terms.rules → IsValid (world_of durable) → (IsTrue tells → Holds old (world_of durable)) → (IsTrue tells → KeepsWorld (world_of durable) old new) → Keeps terms (passage tells old new before after) s
-keeps_none terms s tells old new before after durable lawful valid held keeps = inr (record { world = world_of durable; held = held; on = runs_none (opened_with terms (world_of durable)) lawful terms.workers old s new before after valid tells keeps })
+pub keeps_none : (terms : PlayTerms) (tells : Bool) (old new : DiskHistory) (stood : Stood) → OpenedOn terms tells old new stood → (s : Status) (before after : ℕ) → Keeps terms (passage tells old new before after) s
+keeps_none terms tells old new stood on s before after =
+    inr (record { world = world_of stood.durable; held = on.held; on = runs_none (opened_with terms (world_of stood.durable)) on.lawful terms.workers old s new before after on.valid tells on.keeps })
 
 -- the fault of a play that is this one
 same_fault : (f g : PlayFault) → ◌≡◌ {A = Result (List ℕ) PlayFault} (Err f) (Err g) → f ≡ g
@@ -171,75 +131,69 @@ not_faulty t f is = cc
 abbrev pub opened_by : Meaning → Durable → Option ℕ → Opened
 opened_by r d budget = record { rules = r; durable = world_of d; budget = budget }
 
--- a play whose text is told, and the store that it was played on
-module _ {H : Type 0} (past : H → DiskHistory) (counted : H → ℕ) (terms : PlayTerms) (lawful : AreLawful terms.rules) (s : Status) (script : List (List Line)) (tells : Bool) (old : DiskHistory) (store home : H) (durable : Durable) (stood : Stood) (before : ℕ)
-    (valid : IsValid (world_of durable)) (held : IsTrue tells → Holds old (world_of durable)) (ours : IsTrue tells → IsOurs (bytes_of old Zero) (bytes_of old One) terms.game) (left : IsTrue tells → IsLeft (standing (bytes_of old Zero) (bytes_of old One)) stood)
-    (keeps : IsTrue tells → KeepsWorld (world_of durable) old (past store)) where
-  -- what is said of the play that was made on it
-  abbrev pub HasPlayed : Result (List ℕ) PlayFault → Type 0
-  HasPlayed text = IsUnopened store home text ⊎ IsPlayOn (opened_with terms (world_of durable)) terms.workers terms.checkpoint script tells (past store) (past home) stood.journal.epoch before (counted home) text
+-- a play that was made on a store, as this home is left, and what it gave
+pub record Played {H : Type 0} (past : H → DiskHistory) (counted : H → ℕ) (terms : PlayTerms) (tells : Bool) (old : DiskHistory) (home : H) (script : List (List Line)) (before : ℕ) (text : Result (List ℕ) PlayFault) : Type 0 where
+  pub store : H
+  pub stood : Stood
+  pub on : OpenedOn terms tells old (past store) stood
+  pub play : IsUnopened store home text ⊎ IsPlayOn (opened_with terms (world_of stood.durable)) terms.workers terms.checkpoint script tells (past store) (past home) stood.journal.epoch before (counted home) text
 
+module _ {H : Type 0} {past : H → DiskHistory} {counted : H → ℕ} {terms : PlayTerms} {tells : Bool} {old : DiskHistory} {home : H} {script : List (List Line)} {before : ℕ} where
   -- by other names of its parts
-  pub played_as : (rules : Meaning) (workers : ℕ) (told text : Result (List ℕ) PlayFault) → rules ≡ terms.rules → workers ≡ terms.workers → told ≡ text
-      → IsUnopened store home told ⊎ IsPlayOn (opened_by rules durable terms.budget) workers terms.checkpoint script tells (past store) (past home) stood.journal.epoch before (counted home) told → HasPlayed text
-  played_as rules workers told text same count is played =
-      let by_rules = subst (λ (r : Meaning). IsUnopened store home told ⊎ IsPlayOn (opened_by r durable terms.budget) workers terms.checkpoint script tells (past store) (past home) stood.journal.epoch before (counted home) told) same played in
-      let by_workers = subst (λ (n : ℕ). IsUnopened store home told ⊎ IsPlayOn (opened_with terms (world_of durable)) n terms.checkpoint script tells (past store) (past home) stood.journal.epoch before (counted home) told) count by_rules in
-      subst HasPlayed is by_workers
+  pub played_as : (store : H) (stood : Stood) → OpenedOn terms tells old (past store) stood → (rules : Meaning) (workers : ℕ) (told text : Result (List ℕ) PlayFault) → rules ≡ terms.rules → workers ≡ terms.workers → told ≡ text
+      → IsUnopened store home told ⊎ IsPlayOn (opened_by rules stood.durable terms.budget) workers terms.checkpoint script tells (past store) (past home) stood.journal.epoch before (counted home) told → Played past counted terms tells old home script before text
+  played_as store stood on rules workers told text same count is played =
+      let by_rules = subst (λ (r : Meaning). IsUnopened store home told ⊎ IsPlayOn (opened_by r stood.durable terms.budget) workers terms.checkpoint script tells (past store) (past home) stood.journal.epoch before (counted home) told) same played in
+      let by_workers = subst (λ (n : ℕ). IsUnopened store home told ⊎ IsPlayOn (opened_with terms (world_of stood.durable)) n terms.checkpoint script tells (past store) (past home) stood.journal.epoch before (counted home) told) count by_rules in
+      subst (Played past counted terms tells old home script before) is (record { store = store; stood = stood; on = on; play = by_workers })
 
-  abbrev pub gone : Passage
+  abbrev gone : Passage
   gone = passage tells old (past home) before (counted home)
 
   -- with a text
-  module _ (t : List ℕ) (played : HasPlayed (Ok t)) where
-    the_play : IsPlayOn (opened_with terms (world_of durable)) terms.workers terms.checkpoint script tells (past store) (past home) stood.journal.epoch before (counted home) (Ok t)
-    the_play = ⊎_elim (λ (u : IsUnopened store home (Ok t)). absurd (not_faulty t fault.NoMemory u.1)) (λ p. p) played
+  module _ (s : Status) {t : List ℕ} (x : Played past counted terms tells old home script before (Ok t)) where
+    the_play : IsPlayOn (opened_with terms (world_of x.stood.durable)) terms.workers terms.checkpoint script tells (past x.store) (past home) x.stood.journal.epoch before (counted home) (Ok t)
+    the_play = ⊎_elim (λ (u : IsUnopened x.store home (Ok t)). absurd (not_faulty t fault.NoMemory u.1)) (λ p. p) x.play
+
+    no_fault : ◌≡◌ {A = Result (List ℕ) PlayFault} (Ok t) (Err fault.DiskFault) → s ≡ status.DiskFault
+    no_fault is = absurd (not_faulty t fault.DiskFault is)
 
     pub text_told : IsReportedRun terms gone s script t
-    text_told = reported_of terms lawful s script tells old (past store) (past home) durable stood before (counted home) (Ok t) held ours left keeps the_play (λ is. absurd (not_faulty t fault.DiskFault is)) t refl
+    text_told = reported_of terms tells old (past x.store) x.stood x.on s script (past home) before (counted home) (Ok t) the_play no_fault t refl
 
     pub text_keeps : Keeps terms gone s
-    text_keeps = inr (run_of terms lawful s script tells old (past store) (past home) durable stood before (counted home) (Ok t) held ours left keeps the_play (λ is. absurd (not_faulty t fault.DiskFault is)))
+    text_keeps = inr (run_of terms tells old (past x.store) x.stood x.on s script (past home) before (counted home) (Ok t) the_play no_fault)
 
     pub text_begun : KeepsScript terms gone s script
-    text_begun = inr (begun_of terms lawful s script tells old (past store) (past home) durable stood before (counted home) (Ok t) held ours left keeps the_play (λ is. absurd (not_faulty t fault.DiskFault is)))
+    text_begun = inr (begun_of terms tells old (past x.store) x.stood x.on s script (past home) before (counted home) (Ok t) the_play no_fault)
 
     pub text_openable : IsOpenable terms gone
-    text_openable told = (ours told, (world_of durable, held told))
+    text_openable told = (x.on.ours told, (world_of x.stood.durable, x.on.held told))
 
   -- with a fault
-  module _ (f : PlayFault) (e : s ≡ status_of_playing f) (played : HasPlayed (Err f)) where
+  module _ (s : Status) {f : PlayFault} (e : s ≡ status_of_playing f) (x : Played past counted terms tells old home script before (Err f)) where
     ends_so : ◌≡◌ {A = Result (List ℕ) PlayFault} (Err f) (Err fault.DiskFault) → s ≡ status.DiskFault
     ends_so is = e ∙ ap status_of_playing (same_fault f fault.DiskFault is)
 
     pub fault_keeps : Keeps terms gone s
     fault_keeps = ⊎_elim
-        (λ (u : IsUnopened store home (Err f)). subst (λ (h : H). Keeps terms (passage tells old (past h) before (counted h)) s) (sym u.0) (keeps_none terms s tells old (past store) before (counted store) durable lawful valid held keeps))
-        (λ p. inr (run_of terms lawful s script tells old (past store) (past home) durable stood before (counted home) (Err f) held ours left keeps p ends_so))
-        played
+        (λ (u : IsUnopened x.store home (Err f)). subst (λ (h : H). Keeps terms (passage tells old (past h) before (counted h)) s) (sym u.0) (keeps_none terms tells old (past x.store) x.stood x.on s before (counted x.store)))
+        (λ p. inr (run_of terms tells old (past x.store) x.stood x.on s script (past home) before (counted home) (Err f) p ends_so))
+        x.play
 
     pub fault_begun : KeepsScript terms gone s script
     fault_begun = ⊎_elim
-        (λ (u : IsUnopened store home (Err f)).
+        (λ (u : IsUnopened x.store home (Err f)).
         subst (λ (h : H). KeepsScript terms (passage tells old (past h) before (counted h)) s script) (sym u.0)
-        (inr (none_of_script terms lawful s script tells old (past store) before (counted store) (world_of durable) valid held keeps)))
-        (λ p. inr (begun_of terms lawful s script tells old (past store) (past home) durable stood before (counted home) (Err f) held ours left keeps p ends_so))
-        played
+        (inr (none_of_script terms x.on.lawful s script tells old (past x.store) before (counted x.store) (world_of x.stood.durable) x.on.valid x.on.held x.on.keeps)))
+        (λ p. inr (begun_of terms tells old (past x.store) x.stood x.on s script (past home) before (counted home) (Err f) p ends_so))
+        x.play
 
     pub fault_end : IsPlayEnd terms gone (status_of_playing f)
     fault_end = ⊎_elim
-        (λ (u : IsUnopened store home (Err f)). subst (λ (x : PlayFault). IsPlayEnd terms gone (status_of_playing x)) (sym (same_fault f fault.NoMemory u.1)) tt)
-        (λ p. end_of terms lawful s script tells old (past store) (past home) durable stood before (counted home) (Err f) held ours left keeps p ends_so f e p.text_of.cause)
-        played
-
-    pub fault_risen : status_of_playing f ≡ status.DiskFault → HasRisen before (counted home)
-    fault_risen is = ⊎_elim
-        (λ (u : IsUnopened store home (Err f)). absurd (no_fault (ap status_of_playing (sym (same_fault f fault.NoMemory u.1)) ∙ is)))
-        (λ p. risen_of (opened_with terms (world_of durable)) p.history before (counted home) f p.text_of.cause is)
-        played
-      where
-        no_fault : status.NoMemory ≡ status.DiskFault → ⊥
-        no_fault wrong = cc
+        (λ (u : IsUnopened x.store home (Err f)). subst (λ (g : PlayFault). IsPlayEnd terms gone (status_of_playing g)) (sym (same_fault f fault.NoMemory u.1)) tt)
+        (λ p. end_of terms tells old (past x.store) x.stood x.on s script (past home) before (counted home) (Err f) p ends_so f e p.text_of.cause)
+        x.play
 
 -- after the text was put into the sink
 pub put_ok : (A B : Type 0) (put : Result (Unit {0}) Failed) → MatchResult put (λ _. A) (λ _. B) → status_of_put put ≡ status.Ok → A
@@ -249,26 +203,6 @@ put_ok A B (Err failed) has is = absurd cc
 pub put_torn : (A B : Type 0) (put : Result (Unit {0}) Failed) → MatchResult put (λ _. A) (λ _. B) → status_of_put put ≡ status.WriteFault → B
 put_torn A B (Ok done) has is = absurd cc
 put_torn A B (Err failed) has is = has
-
-pub put_steady : (A B : Type 0) (put : Result (Unit {0}) Failed) → MatchResult put (λ _. A) (λ _. B) → (status_of_put put ≡ status.WriteFault → ⊥) → A
-put_steady A B (Ok done) has other = has
-put_steady A B (Err failed) has other = absurd (other refl)
-
-pub put_either : (put : Result (Unit {0}) Failed) → (status_of_put put ≡ status.Ok → ⊥) → (status_of_put put ≡ status.WriteFault → ⊥) → ⊥
-put_either (Ok done) ok torn = ok refl
-put_either (Err failed) ok torn = torn refl
-
-pub put_limit : (put : Result (Unit {0}) Failed) → IsOkOrLimit (status_of_put put)
-put_limit (Ok done) = tt
-put_limit (Err failed) = tt
-
-pub put_opened : (put : Result (Unit {0}) Failed) → IsOfOpened (status_of_put put)
-put_opened (Ok done) = tt
-put_opened (Err failed) = tt
-
-pub put_disk : (put : Result (Unit {0}) Failed) → status_of_put put ≡ status.DiskFault → ⊥
-put_disk (Ok done) is = cc
-put_disk (Err failed) is = cc
 
 pub put_end : (terms : PlayTerms) (home : Passage) (put : Result (Unit {0}) Failed) → IsOpenable terms home → IsPlayEnd terms home (status_of_put put)
 put_end terms home (Ok done) is = is

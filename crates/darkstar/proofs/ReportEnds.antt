@@ -1,19 +1,16 @@
 -- What the status after a report says of the report.
-use Rattle.std.proofs.Common.{◌≡◌, ◌∙◌, ap, sym, subst, Result, Ok, Err, OnOk, OnErr, IfErr, List, ℕ, Option}
+use Rattle.std.proofs.Common.{◌≡◌, ◌∙◌, sym, subst, Result, Ok, Err, OnOk, IfErr, List, ℕ, Option}
 use Rattle.std.specs.Result.{IsErrOf}
-use Rattle.dk_disk.specs.DiskHistories.{DiskHistory}
-use Rattle.dk_types.specs.declared.side.Side.TheVariants.{Zero, One}
-use Rattle.dk_command.specs.Games.{word_of}
-use Rattle.dk_command.specs.Requests.{Report, ReportKind}
+use Rattle.dk_command.specs.Requests.{ReportKind}
 use Rattle.dk_recover.specs.Recovery.{IsOurs}
 use Rattle.darkstar.specs.declared.report.Kind.{Kind}
 use Rattle.darkstar.specs.Asked.{kind_of}
-use Rattle.dk_reports.specs.Causes.{IsCause, IsOfDevice}
+use Rattle.dk_reports.specs.Causes.{IsOfDevice}
 use Rattle.dk_reports.specs.declared.fault.ReportFault.{ReportFault}
 use Rattle.dk_reports.specs.declared.fault.ReportFault.TheVariants as fault
 use Rattle.dk_status.specs.declared.status.Status.{Status}
 use Rattle.dk_status.specs.declared.status.Status.TheVariants as status
-use Rattle.darkstar.specs.Reports.{AppendsOne, AppendsPart, IsCauseOf, IsLineOf, bytes_of, status_of_report}
+use Rattle.darkstar.specs.Reports.{AppendsOne, AppendsPart, IsLineOf, status_of_report}
 use Rattle.darkstar.specs.Statuses.{IsOkOrOfDevice}
 
 module _ {T : Type 0} where
@@ -36,67 +33,6 @@ module _ {T : Type 0} where
   ended_write (Err (fault.NotAStore side at)) is = absurd cc
   ended_write (Err (fault.WrongGame found)) is = absurd cc
   ended_write (Err (fault.Damaged side at)) is = absurd cc
-
-  -- so with a fault of a disk
-  pub ended_disk : (r : Result T ReportFault) → status_of_report r ≡ status.DiskFault → IsErrOf r fault.DiskFault
-  ended_disk (Ok done) is = absurd cc
-  ended_disk (Err fault.NoMemory) is = absurd cc
-  ended_disk (Err fault.DiskFault) is = cc
-  ended_disk (Err fault.WriteFault) is = absurd cc
-  ended_disk (Err (fault.NotAStore side at)) is = absurd cc
-  ended_disk (Err (fault.WrongGame found)) is = absurd cc
-  ended_disk (Err (fault.Damaged side at)) is = absurd cc
-
-  -- and back
-  pub write_ended : (r : Result T ReportFault) → IsErrOf r fault.WriteFault → status_of_report r ≡ status.WriteFault
-  write_ended r is = ap status_of_report is
-
-  pub disk_ended : (r : Result T ReportFault) → IsErrOf r fault.DiskFault → status_of_report r ≡ status.DiskFault
-  disk_ended r is = ap status_of_report is
-
-  -- a report never ends as words that are no command, and never reads the source, nor has it to do with a listener
-  pub never_usage : (r : Result T ReportFault) → status_of_report r ≡ status.Usage → ⊥
-  never_usage (Ok done) is = cc
-  never_usage (Err fault.NoMemory) is = cc
-  never_usage (Err fault.DiskFault) is = cc
-  never_usage (Err fault.WriteFault) is = cc
-  never_usage (Err (fault.NotAStore side at)) is = cc
-  never_usage (Err (fault.WrongGame found)) is = cc
-  never_usage (Err (fault.Damaged side at)) is = cc
-
-  pub never_read : (r : Result T ReportFault) → status_of_report r ≡ status.ReadFault → ⊥
-  never_read (Ok done) is = cc
-  never_read (Err fault.NoMemory) is = cc
-  never_read (Err fault.DiskFault) is = cc
-  never_read (Err fault.WriteFault) is = cc
-  never_read (Err (fault.NotAStore side at)) is = cc
-  never_read (Err (fault.WrongGame found)) is = cc
-  never_read (Err (fault.Damaged side at)) is = cc
-
-  pub never_net : (r : Result T ReportFault) → status_of_report r ≡ status.NetFault → ⊥
-  never_net (Ok done) is = cc
-  never_net (Err fault.NoMemory) is = cc
-  never_net (Err fault.DiskFault) is = cc
-  never_net (Err fault.WriteFault) is = cc
-  never_net (Err (fault.NotAStore side at)) is = cc
-  never_net (Err (fault.WrongGame found)) is = cc
-  never_net (Err (fault.Damaged side at)) is = cc
-
-  -- nothing is written of a report that was not, but where the sink failed
-  pub ended_unwritten : (A : Type 0) (r : Result T ReportFault) → OnErr r ((IsErrOf r fault.WriteFault → ⊥) → A) → (status_of_report r ≡ status.Ok → ⊥) → (status_of_report r ≡ status.WriteFault → ⊥) → A
-  ended_unwritten A (Ok done) has bad torn = absurd (bad cc)
-  ended_unwritten A (Err f) has bad torn = has (λ is. torn (write_ended (Err f) is))
-
-  -- what the fault says of the files the status says
-  pub ended_cause : (report : Report) (past : DiskHistory) (r : Result T ReportFault)
-      → IfErr r (IsCause (bytes_of past Zero) (bytes_of past One) (word_of report.game)) → IsCauseOf report past (status_of_report r)
-  ended_cause report past (Ok done) has = tt
-  ended_cause report past (Err fault.NoMemory) has = tt
-  ended_cause report past (Err fault.DiskFault) has = tt
-  ended_cause report past (Err fault.WriteFault) has = tt
-  ended_cause report past (Err (fault.NotAStore side at)) has = has
-  ended_cause report past (Err (fault.WrongGame found)) has = has
-  ended_cause report past (Err (fault.Damaged side at)) has = has
 
   pub ended_device : (r : Result T ReportFault) → IfErr r IsOfDevice → IsOkOrOfDevice (status_of_report r)
   ended_device (Ok done) has = tt

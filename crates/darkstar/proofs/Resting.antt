@@ -152,7 +152,3 @@ module _ (o : Opened) (passes : ℕ) where
         let there : new.front ≡ mid.front = same ∙ sym here in
         both (world_after o new.front).durable (subst (λ (es : List Event). P (world_after o es).durable) (sym there) (a.tells here)) (b.tells there);
   }
-
-  -- less is said
-  pub reads_weaker : (P Q : DurableWorld → Type 0) (old new : Known Event) → ((d : DurableWorld) → P d → Q d) → ReadsAlone o passes P old new → ReadsAlone o passes Q old new
-  reads_weaker P Q old new h a = record { number = a.number; enters = a.enters; tells = λ same. h (world_after o new.front).durable (a.tells same) }

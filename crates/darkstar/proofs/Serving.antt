@@ -1,20 +1,16 @@
 -- How a server ends: what its members tell of that, and what it leaves.
 use Rattle.std.proofs.Common.{◌≡◌, ◌⊎◌, ⊎_elim, inr, ℕ, Bool, IsTrue, List, Option, None, Result, Ok, Err, IfErr, refl, sym, subst}
 use Rattle.dk_types.specs.Faults.{HasRisen}
-use Rattle.dk_types.specs.declared.durable.Durable.{Durable}
 use Rattle.dk_types.specs.declared.event.Event.{Event}
-use Rattle.dk_types.specs.declared.side.Side.TheVariants.{Zero, One}
 use Rattle.dk_disk.specs.DiskHistories.{DiskHistory, Elapses, Stays}
 use Rattle.dk_edge.specs.Listening.{Listening}
 use Rattle.dk_model.specs.DurableWorlds.{DurableWorld}
-use Rattle.dk_model.specs.Lawful.{AreLawful}
 use Rattle.dk_model.specs.Legal.{Opened, IsLegal}
-use Rattle.dk_model.specs.Validity.{IsValid}
 use Rattle.dk_core.specs.Listings.{world_of}
-use Rattle.dk_recover.specs.Recovery.{IsOurs}
-use Rattle.dk_host.specs.OpenedStores.{IsWorldOrDevice, KeepsWorld}
+use Rattle.dk_host.specs.OpenedStores.{IsWorldOrDevice}
 use Rattle.dk_host.specs.Stores.{CountsOn, EndsAs}
 use Rattle.dk_host.specs.declared.fault.OpenFault.{OpenFault}
+use Rattle.dk_host.specs.declared.standing.Stood.{Stood}
 use Rattle.dk_host.specs.declared.fault.OpenFault.TheVariants as opening
 use Rattle.dk_turn.specs.Fronts.{Known}
 use Rattle.dk_workers.specs.Drains.{Drains}
@@ -30,11 +26,11 @@ use Rattle.dk_status.specs.declared.status.Status.TheVariants as status
 use Rattle.darkstar.specs.declared.serve.verdict.ServeFault.{ServeFault}
 use Rattle.darkstar.specs.declared.serve.verdict.ServeFault.TheVariants as fault
 use Rattle.darkstar.specs.Ends.{status_of_opening}
-use Rattle.darkstar.specs.Reports.{Holds, bytes_of}
 use Rattle.darkstar.specs.Runs.{IsOpenable, IsPlayEnd, Keeps, Passage, PlayTerms, opened_with, passage}
 use Rattle.darkstar.specs.Served.{HasWorkCause, IsAllServed, IsBoundAt, IsOutcome, IsServedOn, IsSoundDrain, IsCauseOfFault, IsUnserved, links_of}
 use Rattle.darkstar.specs.Serves.{HasServedAll, IsServeEnd, IsServedOrEnd, IsServedOrLimit, status_of_serving}
 use Rattle.darkstar.proofs.PlayAfter.{end_before, openable_before}
+use Rattle.darkstar.proofs.OpenedOn.{OpenedOn}
 use Rattle.darkstar.proofs.PlayEnds.{keeps_none}
 use Rattle.darkstar.proofs.RunLaws.{runs_on}
 
@@ -84,50 +80,56 @@ disk_is_none is = cc
 net_is_none : fault.NetFault ≡ fault.NoMemory → ⊥
 net_is_none is = cc
 
--- a server on the store that was opened on these files, with this world; the program ends so behind it
-module _ {H : Type 0} (past : H → DiskHistory) (counted : H → ℕ) (terms : PlayTerms) (lawful : AreLawful terms.rules) (many : terms.workers ≡ 1 → ⊥) (tells : Bool) (old : DiskHistory) (store home : H) (durable : Durable) (before : ℕ)
-    (valid : IsValid (world_of durable)) (held : IsTrue tells → Holds old (world_of durable)) (ours : IsTrue tells → IsOurs (bytes_of old Zero) (bytes_of old One) terms.game)
-    (keeps : IsTrue tells → KeepsWorld (world_of durable) old (past store)) (net net' crews crews' port most : ℕ) (listening listening' : Listening) (served : ℕ) where
-  -- what is said of it
-  abbrev pub HasServed : Result (Unit {0}) ServeFault → Type 0
-  HasServed outcome = IsUnserved store home served outcome ⊎ IsServedOn (opened_with terms (world_of durable)) tells (past store) (past home) before (counted home) net net' crews crews' port most listening listening' served outcome
+-- a server that was run on a store, as this home is left, and how it ended
+pub record HasServed {H : Type 0} (past : H → DiskHistory) (counted : H → ℕ) (terms : PlayTerms) (tells : Bool) (old : DiskHistory) (home : H) (before net net' crews crews' port most : ℕ) (listening listening' : Listening) (served : ℕ) (outcome : Result (Unit {0}) ServeFault) : Type 0 where
+  pub store : H
+  pub stood : Stood
+  pub on : OpenedOn terms tells old (past store) stood
+  pub many : terms.workers ≡ 1 → ⊥
+  pub serves : IsUnserved store home served outcome
+      ⊎ IsServedOn (opened_with terms (world_of stood.durable)) tells (past store) (past home) before (counted home) net net' crews crews' port most listening listening' served outcome
 
-  abbrev pub left : Passage
+-- the program ends so behind it
+module _ {H : Type 0} {past : H → DiskHistory} {counted : H → ℕ} {terms : PlayTerms} {tells : Bool} {old : DiskHistory} {home : H} {before net net' crews crews' port most : ℕ} {listening listening' : Listening} {served : ℕ} where
+  abbrev Serves : Result (Unit {0}) ServeFault → Type 0
+  Serves outcome = HasServed past counted terms tells old home before net net' crews crews' port most listening listening' served outcome
+
+  abbrev left : Passage
   left = passage tells old (past home) before (counted home)
 
   -- the store is kept
-  pub served_keeps : (s : Status) (outcome : Result (Unit {0}) ServeFault) → HasServed outcome → Keeps terms left s
+  pub served_keeps : (s : Status) (outcome : Result (Unit {0}) ServeFault) → Serves outcome → Keeps terms left s
   served_keeps s outcome has = ⊎_elim
-      (λ (u : IsUnserved store home served outcome). subst (λ (h : H). Keeps terms (passage tells old (past h) before (counted h)) s) (sym u.home) (keeps_none terms s tells old (past store) before (counted store) durable lawful valid held keeps))
+      (λ (u : IsUnserved has.store home served outcome). subst (λ (h : H). Keeps terms (passage tells old (past h) before (counted h)) s) (sym u.home) (keeps_none terms tells old (past has.store) has.stood has.on s before (counted has.store)))
       (λ p. inr (record {
-        world = world_of durable;
-        held = held;
-        on = runs_on (opened_with terms (world_of durable)) lawful terms.workers old s (past store) (past home) before (counted home) p.history p.legal p.faults p.epoch p.counts (λ one some risen. absurd (many one)) tells keeps p.ended;
+        world = world_of has.stood.durable;
+        held = has.on.held;
+        on = runs_on (opened_with terms (world_of has.stood.durable)) has.on.lawful terms.workers old s (past has.store) (past home) before (counted home) p.history p.legal p.faults p.epoch p.counts (λ one some risen. absurd (has.many one)) tells has.on.keeps p.ended;
       }))
-      has
+      has.serves
 
-  openable : IsOpenable terms left
-  openable told = (ours told, (world_of durable, held told))
+  openable : (outcome : Result (Unit {0}) ServeFault) → Serves outcome → IsOpenable terms left
+  openable outcome has told = (has.on.ours told, (world_of has.stood.durable, has.on.held told))
 
   -- a fault other than want of memory is told of a server that was run
-  reported_of : (f : ServeFault) → (f ≡ fault.NoMemory → ⊥) → HasServed (Err f) → IsCauseOfFault before (counted home) net net' crews crews' f
-  reported_of f other has = ⊎_elim (λ (u : IsUnserved store home served (Err f)). absurd (other (never f u.want))) (λ p. p.cause) has
+  reported_of : (f : ServeFault) → (f ≡ fault.NoMemory → ⊥) → Serves (Err f) → IsCauseOfFault before (counted home) net net' crews crews' f
+  reported_of f other has = ⊎_elim (λ (u : IsUnserved has.store home served (Err f)). absurd (other (never f u.want))) (λ p. p.cause) has.serves
 
   -- why the program ends so
-  pub served_end : (outcome : Result (Unit {0}) ServeFault) → HasServed outcome → IsServeEnd terms left (status_of_serving outcome)
-  served_end (Ok done) has = openable
+  pub served_end : (outcome : Result (Unit {0}) ServeFault) → Serves outcome → IsServeEnd terms left (status_of_serving outcome)
+  served_end (Ok done) has = openable (Ok done) has
   served_end (Err fault.NoMemory) has = tt
   served_end (Err fault.DiskFault) has = tt
-  served_end (Err (fault.JournalFull n)) has = (openable, reported_of (fault.JournalFull n) (full_is_none n) has)
-  served_end (Err fault.NetFault) has = openable
-  served_end (Err (fault.Exhausted n)) has = (openable, reported_of (fault.Exhausted n) (end_is_none n) has)
+  served_end (Err (fault.JournalFull n)) has = (openable (Err (fault.JournalFull n)) has, reported_of (fault.JournalFull n) (full_is_none n) has)
+  served_end (Err fault.NetFault) has = openable (Err fault.NetFault) has
+  served_end (Err (fault.Exhausted n)) has = (openable (Err (fault.Exhausted n)) has, reported_of (fault.Exhausted n) (end_is_none n) has)
 
   -- where all is well, all links were served
-  pub served_done : (outcome : Result (Unit {0}) ServeFault) → HasServed outcome → status_of_serving outcome ≡ status.Ok → (sessions : Option ℕ) → most ≡ links_of sessions → HasServedAll port sessions served listening listening'
+  pub served_done : (outcome : Result (Unit {0}) ServeFault) → Serves outcome → status_of_serving outcome ≡ status.Ok → (sessions : Option ℕ) → most ≡ links_of sessions → HasServedAll port sessions served listening listening'
   served_done (Ok done) has is sessions same = ⊎_elim
-      (λ (u : IsUnserved store home served (Ok done)). absurd (never_ok done u.want))
+      (λ (u : IsUnserved has.store home served (Ok done)). absurd (never_ok done u.want))
       (λ p. (p.bound, subst (λ (n : ℕ). IsAllServed listening.given n served listening') same p.all))
-      has
+      has.serves
   served_done (Err fault.NoMemory) has is sessions same = absurd cc
   served_done (Err fault.DiskFault) has is sessions same = absurd cc
   served_done (Err (fault.JournalFull n)) has is sessions same = absurd cc
@@ -135,7 +137,7 @@ module _ {H : Type 0} (past : H → DiskHistory) (counted : H → ℕ) (terms : 
   served_done (Err (fault.Exhausted n)) has is sessions same = absurd cc
 
   -- a fault of the disk is counted
-  pub served_disk : (outcome : Result (Unit {0}) ServeFault) → HasServed outcome → status_of_serving outcome ≡ status.DiskFault → HasRisen before (counted home)
+  pub served_disk : (outcome : Result (Unit {0}) ServeFault) → Serves outcome → status_of_serving outcome ≡ status.DiskFault → HasRisen before (counted home)
   served_disk (Ok done) has is = absurd cc
   served_disk (Err fault.NoMemory) has is = absurd cc
   served_disk (Err fault.DiskFault) has is = reported_of fault.DiskFault disk_is_none has
@@ -144,7 +146,7 @@ module _ {H : Type 0} (past : H → DiskHistory) (counted : H → ℕ) (terms : 
   served_disk (Err (fault.Exhausted n)) has is = absurd cc
 
   -- and one of the listener or the spawner
-  pub served_net : (outcome : Result (Unit {0}) ServeFault) → HasServed outcome → status_of_serving outcome ≡ status.NetFault → HasRisen net net' ⊎ HasRisen crews crews'
+  pub served_net : (outcome : Result (Unit {0}) ServeFault) → Serves outcome → status_of_serving outcome ≡ status.NetFault → HasRisen net net' ⊎ HasRisen crews crews'
   served_net (Ok done) has is = absurd cc
   served_net (Err fault.NoMemory) has is = absurd cc
   served_net (Err fault.DiskFault) has is = absurd cc
@@ -180,16 +182,6 @@ unopened_limit d (opening.WrongGame found) is = absurd is
 unopened_limit d (opening.Damaged side at) is = absurd is
 unopened_limit d (opening.ImageTooLarge n) is = absurd is
 unopened_limit d (opening.EpochEnd n) is = absurd is
-
--- nor is it the network's fault
-pub unopened_net : (f : OpenFault) → status_of_opening f ≡ status.NetFault → ⊥
-unopened_net opening.NoMemory is = cc
-unopened_net opening.DiskFault is = cc
-unopened_net (opening.NotAStore side at) is = cc
-unopened_net (opening.WrongGame found) is = cc
-unopened_net (opening.Damaged side at) is = cc
-unopened_net (opening.ImageTooLarge n) is = cc
-unopened_net (opening.EpochEnd n) is = cc
 
 -- a server on files that were only looked at before ends so on those
 module _ (tells : Bool) (old mid new : DiskHistory) (time : IsTrue tells → Elapses old mid) (stays : IsTrue tells → Stays old mid) (begun before after : ℕ) (count : before ≡ begun) (terms : PlayTerms) where

@@ -1,5 +1,5 @@
 -- The counters that were read, and the totals.
-use Rattle.std.proofs.Common.{◌≡◌, ℕ, ◌+◌, ◌<◌, zero, suc, Some, None, Result, Ok, Err, IfOk, inl, inr, List, [], ◌∷◌, ◌++◌, length, get_or, refl, sym, ap, subst, ◌∙◌, arith}
+use Rattle.std.proofs.Common.{◌≡◌, ℕ, ◌+◌, ◌<◌, zero, suc, Some, Result, Ok, Err, IfOk, inl, inr, List, [], ◌∷◌, ◌++◌, length, get_or, refl, sym, ap, subst, ◌∙◌, arith}
 use Rattle.std.specs.FinMap.{get}
 use Rattle.std.proofs.lemmas.List.{length-append, get_or_append_left}
 use Rattle.std.proofs.Math.Seq.{get_or-append_seam}
@@ -41,20 +41,12 @@ IsObjectIn id found d = found ≡ answer d (ask.Object id)
 named_id : (d : DurableWorld) (number count : ℕ) (named : Answer) → IsNamedIn number named d → (h : HasCounter d number count) → id_in named ≡ Some h.id
 named_id d number count named is h = ap id_in (is ∙ ap name_answer h.bound)
 
--- a counter whose name names nothing is not there
-pub unnamed_count : (d : DurableWorld) (number : ℕ) (named : Answer) → id_in named ≡ None → IsNamedIn number named d → IsCountIn d number 0
-unnamed_count d number named none is count fits h = let no : None ≡ Some h.id = sym none ∙ named_id d number count named is h in absurd cc
-
 -- the count of the object that it names is its count
 pub named_count : (d : DurableWorld) (number read : ℕ) (id : ObjectId) (named found : Answer) → id_in named ≡ Some id → read ≡ count_in (object_in found) → IsNamedIn number named d → IsObjectIn id found d → IsCountIn d number read
 named_count d number read id named found some told is at count fits h =
     let same : h.id ≡ id = some_same h.id id (sym (named_id d number count named is h) ∙ some) in
     let there : get d.objects id ≡ Some _ = ap (get d.objects) (sym same) ∙ h.object in
     told ∙ ap (λ (a : Answer). count_in (object_in a)) (at ∙ ap object_answer there) ∙ ap count_of (counter_again count fits)
-
--- no counter is read yet
-pub no_counts : (d : DurableWorld) → AreCountsIn d 0 []
-no_counts d = (refl, λ number lt. absurd (omega (arith, lt)))
 
 -- one counter more
 pub counts_push : (d : DurableWorld) (n count : ℕ) (counts : List ℕ) → AreCountsIn d n counts → IsCountIn d n count → AreCountsIn d (n + 1) (counts ++ count ∷ [])

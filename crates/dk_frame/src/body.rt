@@ -67,12 +67,16 @@ impl Body {
         self.bytes.as_slice()
     }
 
-    /// The bytes as a `Blob`. Memory is taken for those alone that stand in the value itself.
+    /// The bytes as a `Blob`. Memory is taken for those alone that stand in the value itself and are too many to stand so in the
+    /// blob's.
     pub fn into_blob(self) -> Result<Blob, NoMemory>
         ensures { IfOk result (λ blob. blob ≡ self) }
     {
         let Body { bytes } = self;
-        Ok(Blob::from_vec(bytes.into_vec()?))
+        if bytes.spilled() {
+            return Ok(Blob::from_vec(bytes.into_vec()?));
+        }
+        Blob::copy_of(*bytes.allocator(), bytes.as_slice())
     }
 }
 

@@ -117,14 +117,10 @@ impl<'a, V: View> Txn<'a, V> {
         Ok(known)
     }
 
-    /// Bytes as an object or a task keeps them: who reads it shares them and does not copy them. Where there are none, nothing
-    /// is shared.
+    /// Bytes as an object or a task keeps them: who reads it takes no memory for them.
     pub(crate) fn kept(&self, bytes: Blob) -> Result<Blob, NoMemory>
         ensures { IfOk result (λ kept. kept ≡ bytes) }
     {
-        if bytes.as_slice().is_empty() {
-            return Ok(bytes);
-        }
         bytes.shared(self.set.allocator())
     }
 

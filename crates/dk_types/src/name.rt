@@ -6,6 +6,7 @@ ghost use Rattle.dk_types.specs.NameFaults.{IsNameFault};
 ghost use Rattle.std.specs.Cmp.Lexicographic.{pointwise, nat_list_eq_equiv, nat_list_cmp_total, texts_ties, texts_po};
 ghost use Rattle.std.specs.Cmp;
 
+use crate::blob::Blob;
 use crate::fault::NoMemory;
 use crate::limits::NAME_MOST_BYTES;
 use std::alloc::{AllocError, Global};
@@ -16,7 +17,7 @@ use thiserror::Error;
 /// A name: 1 to 255 bytes of UTF-8, ordered by its bytes.
 #[derive(Debug, Drop)]
 pub struct Name {
-    bytes: Vec<u8>,
+    bytes: Blob,
 }
 
 impl Model for Name {
@@ -25,9 +26,9 @@ impl Model for Name {
 
     ghost Value = { List ℕ };
 
-    ghost view = { λ n. n.bytes.items };
+    ghost view = { λ n. n.bytes };
 
-    ghost invariant = { λ n. IsName n.bytes.items };
+    ghost invariant = { λ n. IsName n.bytes };
 }
 
 /// Why bytes are no name. The first cause in this order is told.
@@ -84,7 +85,7 @@ impl Name {
         requires most { length text.now ≤ NAME_MOST_BYTES }
         ensures { IfOk result (λ name. (name ≡ text.now) × IsName text.now) }
     {
-        let bytes = Vec::from_slice(alloc, text.as_bytes())?;
+        let bytes = Blob::copy_of(alloc, text.as_bytes())?;
         Ok(Name { bytes })
     }
 
@@ -135,7 +136,7 @@ impl PartialEq for Name {
     ghost laws = { Cmp.partial_equiv_from_equiv nat_list_eq_equiv };
 
     fn eq(&self, other: &Name) -> bool {
-        self.bytes.as_slice() == other.bytes.as_slice()
+        self.bytes == other.bytes
     }
 }
 
@@ -164,6 +165,6 @@ impl Ord for Name {
 
     // Byte by byte: a name is short, and a comparison of slices begins with strides that are longer than most names.
     fn cmp(&self, other: &Name) -> Ordering {
-        self.bytes.iter().cmp(other.bytes.iter())
+        self.as_slice().iter().cmp(other.as_slice().iter())
     }
 }

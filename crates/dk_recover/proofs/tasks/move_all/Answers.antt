@@ -1,4 +1,4 @@
-use Rattle.std.proofs.Common.{◌≡◌, ℕ, ◌+◌, List, drop, get_or, ap, sym, ◌∙◌}
+use Rattle.std.proofs.Common.{◌≡◌, ℕ, ◌+◌, List, drop, get_or, ap, sym, ◌∙◌, rules}
 use Rattle.std.proofs.lemmas.List.{drop_more}
 use Rattle.dk_types.specs.declared.number.TaskKey.{TaskKey}
 use Rattle.dk_map.specs.AsMap.{map_of}
@@ -12,7 +12,7 @@ loop-key-preserved c =
     let i = c.loop-key.key-index in
     let moved = c.args.moved.now in
     let e : TaskKey × ℕ = get_or moved i (record { run = record { 0 = 0 }; k = 0 }, 0) in
-    let step = moved_one _ e.1 (λ x y a p. let met = p.met in let is : y ≡ record x { due = e.1 } = cc in is) c.loop-key.tasks.entries c.change.new.self.entries c.loop-key.invariant.1 e.0 c.change.result c.change.ensures.changed in
+    let step = moved_one _ e.1 (λ x y a p. search rules) c.loop-key.tasks.entries c.change.new.self.entries c.loop-key.invariant.1 e.0 c.change.result c.change.ensures.changed in
     let m = map_of key_cmp c.loop-key.tasks.entries in (
       ap (with_moved (drop (i + 1) moved)) step ∙ sym (ap (λ (l : List (TaskKey × ℕ)). with_moved l m) (drop_more moved i (record { run = record { 0 = 0 }; k = 0 }, 0) c.loop-key-test.true)) ∙ c.loop-key.invariant.0,
       c.change.ensures.ordered,

@@ -7,6 +7,6 @@ use Rattle.dk_types.proofs.name.NameOrd.cmp.Goals as goal
 
 pub returns : goal.returns
 returns c =
-    cmp_from_yields_List (λ x y. y ≡ x) _ nat_cmp _ c.cmp.ensures.ran (YieldsList-from_slice c.deref.result.now cc) (λ it e. YieldsList-from_slice c.deref-2.result.now cc) (λ x y. refl)
-    ∙ ap (λ (bytes : List ℕ). bytes_cmp bytes c.deref-2.result.now) (c.deref.ensures.value ∙ c.self.view_is)
-    ∙ ap (bytes_cmp c.args.self.now) (c.deref-2.ensures.value ∙ c.other.view_is)
+    cmp_from_yields_List (λ x y. y ≡ x) _ nat_cmp _ c.cmp.ensures.ran (YieldsList-from_slice c.as_slice.result.now cc) (λ it e. YieldsList-from_slice c.as_slice-2.result.now cc) (λ x y. refl)
+    ∙ ap (λ (bytes : List ℕ). bytes_cmp bytes c.as_slice-2.result.now) c.as_slice.ensures.value
+    ∙ ap (bytes_cmp c.args.self.now) c.as_slice-2.ensures.value
