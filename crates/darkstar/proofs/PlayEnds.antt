@@ -147,9 +147,6 @@ module _ {H : Type 0} {past : H → DiskHistory} {counted : H → ℕ} {terms : 
       let by_workers = subst (λ (n : ℕ). IsUnopened store home told ⊎ IsPlayOn (opened_with terms (world_of stood.durable)) n terms.checkpoint script tells (past store) (past home) stood.journal.epoch before (counted home) told) count by_rules in
       subst (Played past counted terms tells old home script before) is (record { store = store; stood = stood; on = on; play = by_workers })
 
-  abbrev gone : Passage
-  gone = passage tells old (past home) before (counted home)
-
   -- with a text
   module _ (s : Status) {t : List ℕ} (x : Played past counted terms tells old home script before (Ok t)) where
     the_play : IsPlayOn (opened_with terms (world_of x.stood.durable)) terms.workers terms.checkpoint script tells (past x.store) (past home) x.stood.journal.epoch before (counted home) (Ok t)
@@ -158,16 +155,16 @@ module _ {H : Type 0} {past : H → DiskHistory} {counted : H → ℕ} {terms : 
     no_fault : ◌≡◌ {A = Result (List ℕ) PlayFault} (Ok t) (Err fault.DiskFault) → s ≡ status.DiskFault
     no_fault is = absurd (not_faulty t fault.DiskFault is)
 
-    pub text_told : IsReportedRun terms gone s script t
+    pub text_told : IsReportedRun terms (passage tells old (past home) before (counted home)) s script t
     text_told = reported_of terms tells old (past x.store) x.stood x.on s script (past home) before (counted home) (Ok t) the_play no_fault t refl
 
-    pub text_keeps : Keeps terms gone s
+    pub text_keeps : Keeps terms (passage tells old (past home) before (counted home)) s
     text_keeps = inr (run_of terms tells old (past x.store) x.stood x.on s script (past home) before (counted home) (Ok t) the_play no_fault)
 
-    pub text_begun : KeepsScript terms gone s script
+    pub text_begun : KeepsScript terms (passage tells old (past home) before (counted home)) s script
     text_begun = inr (begun_of terms tells old (past x.store) x.stood x.on s script (past home) before (counted home) (Ok t) the_play no_fault)
 
-    pub text_openable : IsOpenable terms gone
+    pub text_openable : IsOpenable terms (passage tells old (past home) before (counted home))
     text_openable told = (x.on.ours told, (world_of x.stood.durable, x.on.held told))
 
   -- with a fault
@@ -175,13 +172,13 @@ module _ {H : Type 0} {past : H → DiskHistory} {counted : H → ℕ} {terms : 
     ends_so : ◌≡◌ {A = Result (List ℕ) PlayFault} (Err f) (Err fault.DiskFault) → s ≡ status.DiskFault
     ends_so is = e ∙ ap status_of_playing (same_fault f fault.DiskFault is)
 
-    pub fault_keeps : Keeps terms gone s
+    pub fault_keeps : Keeps terms (passage tells old (past home) before (counted home)) s
     fault_keeps = ⊎_elim
         (λ (u : IsUnopened x.store home (Err f)). subst (λ (h : H). Keeps terms (passage tells old (past h) before (counted h)) s) (sym u.0) (keeps_none terms tells old (past x.store) x.stood x.on s before (counted x.store)))
         (λ p. inr (run_of terms tells old (past x.store) x.stood x.on s script (past home) before (counted home) (Err f) p ends_so))
         x.play
 
-    pub fault_begun : KeepsScript terms gone s script
+    pub fault_begun : KeepsScript terms (passage tells old (past home) before (counted home)) s script
     fault_begun = ⊎_elim
         (λ (u : IsUnopened x.store home (Err f)).
         subst (λ (h : H). KeepsScript terms (passage tells old (past h) before (counted h)) s script) (sym u.0)
@@ -189,9 +186,9 @@ module _ {H : Type 0} {past : H → DiskHistory} {counted : H → ℕ} {terms : 
         (λ p. inr (begun_of terms tells old (past x.store) x.stood x.on s script (past home) before (counted home) (Err f) p ends_so))
         x.play
 
-    pub fault_end : IsPlayEnd terms gone (status_of_playing f)
+    pub fault_end : IsPlayEnd terms (passage tells old (past home) before (counted home)) (status_of_playing f)
     fault_end = ⊎_elim
-        (λ (u : IsUnopened x.store home (Err f)). subst (λ (g : PlayFault). IsPlayEnd terms gone (status_of_playing g)) (sym (same_fault f fault.NoMemory u.1)) tt)
+        (λ (u : IsUnopened x.store home (Err f)). subst (λ (g : PlayFault). IsPlayEnd terms (passage tells old (past home) before (counted home)) (status_of_playing g)) (sym (same_fault f fault.NoMemory u.1)) tt)
         (λ p. end_of terms tells old (past x.store) x.stood x.on s script (past home) before (counted home) (Err f) p ends_so f e p.text_of.cause)
         x.play
 

@@ -91,14 +91,8 @@ pub record HasServed {H : Type 0} (past : H → DiskHistory) (counted : H → �
 
 -- the program ends so behind it
 module _ {H : Type 0} {past : H → DiskHistory} {counted : H → ℕ} {terms : PlayTerms} {tells : Bool} {old : DiskHistory} {home : H} {before net net' crews crews' port most : ℕ} {listening listening' : Listening} {served : ℕ} where
-  abbrev Serves : Result (Unit {0}) ServeFault → Type 0
-  Serves outcome = HasServed past counted terms tells old home before net net' crews crews' port most listening listening' served outcome
-
-  abbrev left : Passage
-  left = passage tells old (past home) before (counted home)
-
   -- the store is kept
-  pub served_keeps : (s : Status) (outcome : Result (Unit {0}) ServeFault) → Serves outcome → Keeps terms left s
+  pub served_keeps : (s : Status) (outcome : Result (Unit {0}) ServeFault) → HasServed past counted terms tells old home before net net' crews crews' port most listening listening' served outcome → Keeps terms (passage tells old (past home) before (counted home)) s
   served_keeps s outcome has = ⊎_elim
       (λ (u : IsUnserved has.store home served outcome). subst (λ (h : H). Keeps terms (passage tells old (past h) before (counted h)) s) (sym u.home) (keeps_none terms tells old (past has.store) has.stood has.on s before (counted has.store)))
       (λ p. inr (record {
@@ -108,15 +102,15 @@ module _ {H : Type 0} {past : H → DiskHistory} {counted : H → ℕ} {terms : 
       }))
       has.serves
 
-  openable : (outcome : Result (Unit {0}) ServeFault) → Serves outcome → IsOpenable terms left
+  openable : (outcome : Result (Unit {0}) ServeFault) → HasServed past counted terms tells old home before net net' crews crews' port most listening listening' served outcome → IsOpenable terms (passage tells old (past home) before (counted home))
   openable outcome has told = (has.on.ours told, (world_of has.stood.durable, has.on.held told))
 
   -- a fault other than want of memory is told of a server that was run
-  reported_of : (f : ServeFault) → (f ≡ fault.NoMemory → ⊥) → Serves (Err f) → IsCauseOfFault before (counted home) net net' crews crews' f
+  reported_of : (f : ServeFault) → (f ≡ fault.NoMemory → ⊥) → HasServed past counted terms tells old home before net net' crews crews' port most listening listening' served (Err f) → IsCauseOfFault before (counted home) net net' crews crews' f
   reported_of f other has = ⊎_elim (λ (u : IsUnserved has.store home served (Err f)). absurd (other (never f u.want))) (λ p. p.cause) has.serves
 
   -- why the program ends so
-  pub served_end : (outcome : Result (Unit {0}) ServeFault) → Serves outcome → IsServeEnd terms left (status_of_serving outcome)
+  pub served_end : (outcome : Result (Unit {0}) ServeFault) → HasServed past counted terms tells old home before net net' crews crews' port most listening listening' served outcome → IsServeEnd terms (passage tells old (past home) before (counted home)) (status_of_serving outcome)
   served_end (Ok done) has = openable (Ok done) has
   served_end (Err fault.NoMemory) has = tt
   served_end (Err fault.DiskFault) has = tt
@@ -125,7 +119,7 @@ module _ {H : Type 0} {past : H → DiskHistory} {counted : H → ℕ} {terms : 
   served_end (Err (fault.Exhausted n)) has = (openable (Err (fault.Exhausted n)) has, reported_of (fault.Exhausted n) (end_is_none n) has)
 
   -- where all is well, all links were served
-  pub served_done : (outcome : Result (Unit {0}) ServeFault) → Serves outcome → status_of_serving outcome ≡ status.Ok → (sessions : Option ℕ) → most ≡ links_of sessions → HasServedAll port sessions served listening listening'
+  pub served_done : (outcome : Result (Unit {0}) ServeFault) → HasServed past counted terms tells old home before net net' crews crews' port most listening listening' served outcome → status_of_serving outcome ≡ status.Ok → (sessions : Option ℕ) → most ≡ links_of sessions → HasServedAll port sessions served listening listening'
   served_done (Ok done) has is sessions same = ⊎_elim
       (λ (u : IsUnserved has.store home served (Ok done)). absurd (never_ok done u.want))
       (λ p. (p.bound, subst (λ (n : ℕ). IsAllServed listening.given n served listening') same p.all))
@@ -137,7 +131,7 @@ module _ {H : Type 0} {past : H → DiskHistory} {counted : H → ℕ} {terms : 
   served_done (Err (fault.Exhausted n)) has is sessions same = absurd cc
 
   -- a fault of the disk is counted
-  pub served_disk : (outcome : Result (Unit {0}) ServeFault) → Serves outcome → status_of_serving outcome ≡ status.DiskFault → HasRisen before (counted home)
+  pub served_disk : (outcome : Result (Unit {0}) ServeFault) → HasServed past counted terms tells old home before net net' crews crews' port most listening listening' served outcome → status_of_serving outcome ≡ status.DiskFault → HasRisen before (counted home)
   served_disk (Ok done) has is = absurd cc
   served_disk (Err fault.NoMemory) has is = absurd cc
   served_disk (Err fault.DiskFault) has is = reported_of fault.DiskFault disk_is_none has
@@ -146,7 +140,7 @@ module _ {H : Type 0} {past : H → DiskHistory} {counted : H → ℕ} {terms : 
   served_disk (Err (fault.Exhausted n)) has is = absurd cc
 
   -- and one of the listener or the spawner
-  pub served_net : (outcome : Result (Unit {0}) ServeFault) → Serves outcome → status_of_serving outcome ≡ status.NetFault → HasRisen net net' ⊎ HasRisen crews crews'
+  pub served_net : (outcome : Result (Unit {0}) ServeFault) → HasServed past counted terms tells old home before net net' crews crews' port most listening listening' served outcome → status_of_serving outcome ≡ status.NetFault → HasRisen net net' ⊎ HasRisen crews crews'
   served_net (Ok done) has is = absurd cc
   served_net (Err fault.NoMemory) has is = absurd cc
   served_net (Err fault.DiskFault) has is = absurd cc
